@@ -1,13 +1,10 @@
 -- The times that a processor is held, step by step.
-use Rattle.std.proofs.Common.{◌≡◌, ℕ, zero, suc, ◌+◌, ◌≤◌, Bool, true, false, cond, List, [], ◌∷◌, ◌++◌, drop, get_or, refl, sym, ap, ◌∙◌, append-nil, append_assoc, arith}
+use Rattle.std.proofs.Common.{◌≡◌, ℕ, zero, suc, ◌+◌, ◌≤◌, Bool, true, false, ◌&&◌, cond, List, [], ◌∷◌, ◌++◌, drop, get_or, refl, sym, ap, ◌∙◌, append-nil, append_assoc, arith}
 use Rattle.std.specs.Prelude.{if◌then◌else◌}
 use Rattle.std.specs.List.{fold, prefix_len}
-use Rattle.std.specs.Cmp.{booleans_Decides}
-use Rattle.std.proofs.Math.Bool.{beq}
-use Rattle.std.proofs.lemmas.Bool.{and_from, and_parts}
 use Rattle.std.proofs.lemmas.List.{drop-drop, get_or-drop}
 use Rattle.pp_channel.specs.declared.flags.Flags.{Flags}
-use Rattle.pp_steps.specs.HeldRuns.{HeldSpells, current_spell, goes_on, is_held_with, last_of, no_spells, with_step}
+use Rattle.pp_steps.specs.HeldRuns.{HeldSpells, current_spell, goes_on, is_held_with, last_of, no_spells, same_flag, with_step}
 use Rattle.pp_steps.specs.StepsText.{line_kind}
 use Rattle.pp_steps.specs.Cursor.{line_at, no_cursor, past_step}
 use Rattle.pp_steps.specs.declared.cursor.Cursor.{Cursor}
@@ -16,23 +13,40 @@ use Rattle.pp_run.specs.declared.progress.Progress.TheVariants.{AtRest, Moved, H
 
 -- ---- flags
 
-same_sym : (a b : Bool) → beq a b ≡ beq b a
+same_sym : (a b : Bool) → same_flag a b ≡ same_flag b a
+same_sym true true = refl
 same_sym true false = refl
 same_sym false true = refl
-same_sym a b = refl
+same_sym false false = refl
+
+same_is : (a b : Bool) → same_flag a b ≡ true → a ≡ b
+same_is true true e = refl
+same_is true false e = absurd (cc)
+same_is false true e = absurd (cc)
+same_is false false e = refl
+
+both : (a b : Bool) → (a && b) ≡ true → (a ≡ true) × (b ≡ true)
+both true b e = (refl, e)
+both false b e = absurd (cc)
+
+same_twice : (a b : Bool) → (same_flag a a && same_flag b b) ≡ true
+same_twice true true = refl
+same_twice true false = refl
+same_twice false true = refl
+same_twice false false = refl
 
 -- a step is held with the flags that it is held with
 with_itself : (g : Flags) → is_held_with g (Held g) ≡ true
-with_itself g = and_from _ _ ((booleans_Decides g.active g.active).1 refl) ((booleans_Decides g.full g.full).1 refl)
+with_itself g = same_twice g.active g.full
 
 pub with_other : (f g : Flags) → is_held_with f (Held g) ≡ is_held_with g (Held f)
 with_other f g = rw (same_sym f.active g.active, same_sym f.full g.full) refl
 
 pub with_same : (f g : Flags) → is_held_with g (Held f) ≡ true → g ≡ f
 with_same f g e =
-    let (active, full) = and_parts _ _ e in
-    let first : record { active = g.active; full = g.full } ≡ record { active = f.active; full = g.full } = ap (λ (a : Bool). record { active = a; full = g.full }) ((booleans_Decides g.active f.active).0 active) in
-    first ∙ ap (λ (b : Bool). record { active = f.active; full = b }) ((booleans_Decides g.full f.full).0 full)
+    let (active, full) = both (same_flag g.active f.active) (same_flag g.full f.full) e in
+    let first : record { active = g.active; full = g.full } ≡ record { active = f.active; full = g.full } = ap (λ (a : Bool). record { active = a; full = g.full }) (same_is g.active f.active active) in
+    first ∙ ap (λ (b : Bool). record { active = f.active; full = b }) (same_is g.full f.full full)
 
 -- ---- one step more
 
@@ -62,15 +76,20 @@ over other next current steps ends = refl
 -- a step that is: it belongs to the last time
 longer : (last step : Progress) (current : ℕ) (steps : List Progress) → goes_on last step ≡ true
     → current_spell step (current + 1) steps ++ held_counts step steps ≡ current_spell last current (step ∷ steps) ++ held_counts last (step ∷ steps)
+longer AtRest AtRest current steps goes = absurd (cc)
+longer AtRest Moved current steps goes = absurd (cc)
+longer AtRest (Held g) current steps goes = absurd (cc)
+longer Moved AtRest current steps goes = absurd (cc)
+longer Moved Moved current steps goes = absurd (cc)
+longer Moved (Held g) current steps goes = absurd (cc)
+longer (Held f) AtRest current steps goes = absurd (cc)
+longer (Held f) Moved current steps goes = absurd (cc)
 longer (Held f) (Held g) current steps goes =
     let same : g ≡ f = with_same f g goes in
     let other : is_held_with f (Held g) ≡ true = with_other f g ∙ goes in
     let more : current + 1 + prefix_len (is_held_with g) steps ≡ current + (1 + prefix_len (is_held_with f) steps) =
     ap (λ (h : Flags). current + 1 + prefix_len (is_held_with h) steps) same ∙ omega arith in
     rw (goes, other) (ap (λ (k : ℕ). k ∷ held_counts (Held g) steps) more)
-longer AtRest (Held g) current steps goes = absurd (cc)
-longer Moved (Held g) current steps goes = absurd (cc)
-longer other next current steps goes = absurd (cc)
 
 one_step : (counts : List ℕ) (current : ℕ) (last step : Progress) (steps : List Progress) (b : Bool) → goes_on last step ≡ b
     → cond b counts (counts ++ current_spell last current []) ++ (current_spell step (cond b (current + 1) 1) steps ++ held_counts step steps)
