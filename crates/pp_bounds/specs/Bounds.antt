@@ -2,6 +2,6 @@
 use Rattle.std.specs.Prelude.{ℕ, ◌&&◌, Bool, nat_le}
 use Rattle.pp_bounds.specs.declared.bounds.Bounds.{Bounds}
 
--- some number between these two, both included, is within the bounds
+-- some number from one to another that is no less, both included, is within the bounds
 abbrev pub meets : Bounds → ℕ → ℕ → Bool
 meets bounds from to = nat_le bounds.first to && nat_le from bounds.last

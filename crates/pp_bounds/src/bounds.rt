@@ -20,7 +20,7 @@ impl Bounds {
         (first <= last && last < size).then_some(Bounds { first, last })
     }
 
-    /// Whether some number from `from` to `to` is within.
+    /// Whether some number from `from` to `to`, which is no less, is within.
     pub fn meets(&self, from: u32, to: u32) -> bool
         ensures { result ≡ meets self.now from to }
     {

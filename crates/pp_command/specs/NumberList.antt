@@ -18,9 +18,9 @@ naming names (Some n) = if names n then Some n else None
 
 -- the number in a text, if it names something
 unfoldable pub numbered : (ℕ → Bool) → List ℕ → Option ℕ
-numbered names field = naming names (numeral 8 2 field)
+numbered names text = naming names (numeral 8 2 text)
 
--- whether n is among some numbers
+-- whether n is among the numbers in some texts
 abbrev pub is_among : (ℕ → Bool) → ℕ → List (List ℕ) → Bool
 is_among names n numbers = list_any (λ m. m == n) (filter_map (numbered names) numbers)
 

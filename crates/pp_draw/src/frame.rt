@@ -1,4 +1,4 @@
-//! What stands round the lanes: the head of the picture, the legend, the scale of turns.
+//! What stands round the lanes: the head of the picture, its style sheet, the legend, the scale.
 
 ghost use Rattle.std.specs.Prelude.{◌≡◌, ◌≤◌};
 ghost use Rattle.pp_text.specs.TextWriter.{Prints};

@@ -1,6 +1,6 @@
 -- The words of a processor's memory, eight a line, in octal and in display code. A text is a list
 -- of ASCII codes, and every line ends with a line feed.
-use Rattle.std.specs.Prelude.{ℕ, ◌+◌, ◌-◌, ◌*◌, ◌==◌, ◌&&◌, Bool, not, List, [], ◌++◌, codes, length, nat_le, take, if◌then◌else◌}
+use Rattle.std.specs.Prelude.{ℕ, ◌+◌, ◌-◌, ◌*◌, ◌==◌, ◌&&◌, Bool, not, List, [], ◌++◌, codes, length, take, if◌then◌else◌}
 use Rattle.std.specs.Char.{is_ascii_whitespace}
 use Rattle.std.specs.List.{list_any, range_with_len, suffix_len}
 use Rattle.pp_machine.specs.Processor.{Processor, word_at}

@@ -37,7 +37,7 @@ pub(crate) fn counted_runs<A: Allocator + Copy>(
 }
 
 /// The processor whose turn it is.
-#[tactic(auto, using(pp_machine::specs::ProfilePlaces::rest_within, // how far places go
+#[tactic(auto, using(pp_machine::specs::ProfilePlaces::rest_within, // each place has a processor
 pp_machine::specs::ProfilePlaces::most_processors))]
 pub(crate) fn in_turn<A: Allocator>(machine: &Machine<A>, turn: u32) -> PpNo
     ensures is { result ≡ processor_in_turn machine.now.profile turn }

@@ -13,6 +13,7 @@ pub at_position : (p : ℕ → Bool) (xs : List ℕ) (b : Bool) (i : ℕ)
 at_position p xs true i e = cc
 at_position p xs false i e = absurd (cc)
 
+-- where none passes, the test holds nowhere
 pub no_position : (p : ℕ → Bool) (xs : List ℕ) (b : Bool)
     → nat_lt (position_or_len p xs) (length xs) ≡ b
     → cond b (Some (position_or_len p xs)) None ≡ None → length xs ≤ position_or_len p xs
@@ -30,7 +31,7 @@ split_first p xs rest i e h =
     ∙ ap (λ (k : ℕ). take k xs ∷ slice_split p (drop (k + 1) xs)) (sym here)
     ∙ ap (λ (l : List ℕ). take i xs ∷ slice_split p l) (sym h)
 
--- where none passes, all is the last
+-- a list in which none passes is one piece
 pub split_last : (p : ℕ → Bool) (xs : List ℕ) → None ≡ position p xs
     → slice_split p xs ≡ xs ∷ []
 split_last p xs e =

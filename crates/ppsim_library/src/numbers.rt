@@ -3,9 +3,9 @@
 ghost use Rattle.std.specs.Prelude.{◌≡◌, Bool, List, MatchOption};
 ghost use Rattle.ppsim_library.specs.Numbers.{AreChannels, only_of, profile_of, window_of};
 
+use pp_bounds::{MOST_TURNS, Window};
 use pp_channel::CHANNELS;
 use pp_command::listed_channels;
-use pp_bounds::{MOST_TURNS, Window};
 use pp_machine::{PROCESSORS, Profile};
 
 /// The last turn of a run (decimal).
