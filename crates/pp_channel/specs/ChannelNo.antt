@@ -2,7 +2,8 @@
 -- number and its place are two things: proofs know of them what ChannelPlaces says.
 -- (Manual 60100000, data channels: twelve, numbered 0 to 13 (octal). A machine of twenty peripheral
 -- processors has twelve more, numbered 20 to 33.)
-use Rattle.std.specs.Prelude.{ℕ, ◌+◌, ◌-◌, ◌&&◌, ◌||◌, Bool, List, nat_lt, if◌then◌else◌}
+use Rattle.std.specs.Prelude.{ℕ, Bool, List}
+use Rattle.pp_word.specs.GappedNumbers.{is_number, index_of, number_of}
 use Rattle.pp_word.specs.Tables.{tabulate}
 
 -- the number of channels
@@ -11,16 +12,15 @@ channel_count = 0o30
 
 -- whether a number is that of a channel
 unfoldable pub names_channel : ℕ → Bool
-names_channel number = nat_lt number 0o14 || (nat_lt 0o17 number && nat_lt number 0o34)
+names_channel = is_number 0o14 4
 
 -- the place of the channel with this number in a list of all; past its end if it names none
 unfoldable pub channel_index : ℕ → ℕ
-channel_index number =
-    if nat_lt number 0o14 then number else if nat_lt number 0o20 then channel_count else number - 4
+channel_index = index_of 0o14 4
 
 -- the number of the channel at a place of that list
 unfoldable pub channel_number : ℕ → ℕ
-channel_number place = if nat_lt place 0o14 then place else place + 4
+channel_number = number_of 0o14 4
 
 -- the numbers of all channels, in order
 unfoldable pub all_channels : List ℕ

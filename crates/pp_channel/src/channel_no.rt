@@ -19,7 +19,7 @@ impl Model for ChannelNo {
     ghost use Rattle.std.specs.Prelude.{ℕ, IsTrue};
     ghost use Rattle.std.proofs.Common.{ap};
     ghost use Rattle.pp_channel.specs.ChannelNo.{names_channel, channel_index, channel_number};
-    ghost use Rattle.pp_channel.specs.ChannelPlaces.{place_again};
+    ghost use Rattle.pp_channel.specs.ChannelPlaces.{channel_places};
 
     ghost Value = { ℕ };
 
@@ -29,13 +29,13 @@ impl Model for ChannelNo {
 
     ghost inverse = { λ n. record { place = channel_index n } };
 
-    ghost inverse_ok = { λ c names. ap (λ k. record { place = k }) (place_again c.place names) };
+    ghost inverse_ok = { λ c names. ap (λ k. record { place = k }) (channel_places.place_again c.place names) };
 }
 
 impl ChannelNo {
     /// The channel of this number, or nothing from 14 to 17 (octal) and from 34 on.
     #[tactic(auto, unfolding(crate::specs::ChannelNo::names_channel, // which numbers there are
-    crate::specs::ChannelNo::channel_number))]
+    crate::specs::ChannelNo::channel_number, pp_word::specs::GappedNumbers::is_number, pp_word::specs::GappedNumbers::number_of))]
     pub fn new(number: u8) -> Option<Self>
         ensures exists { IsSome result ↔ IsTrue (names_channel number) }
         ensures value { IfSome result (λ c. c ≡ number) }
@@ -50,7 +50,7 @@ impl ChannelNo {
 
     /// Its number.
     #[tactic(auto, unfolding(crate::specs::ChannelNo::names_channel, // which numbers there are
-    crate::specs::ChannelNo::channel_number))]
+    crate::specs::ChannelNo::channel_number, pp_word::specs::GappedNumbers::is_number, pp_word::specs::GappedNumbers::number_of))]
     pub fn get(self) -> u8
         ensures value { result ≡ self }
         ensures names { IsTrue (names_channel result) }
@@ -63,7 +63,7 @@ impl ChannelNo {
     }
 
     /// Its place in a list of all channels in order of number.
-    #[tactic(auto, using(crate::specs::ChannelPlaces::places_of_numbers))]
+    #[tactic(auto, using(crate::specs::ChannelPlaces::channel_places))]
     pub fn index(self) -> usize
         ensures place { result ≡ channel_index self }
         ensures below { result < channel_count }
@@ -74,7 +74,7 @@ impl ChannelNo {
     }
 
     /// The channel at a place of that list.
-    #[tactic(auto, using(crate::specs::ChannelPlaces::numbers_of_places))]
+    #[tactic(auto, using(crate::specs::ChannelPlaces::channel_places))]
     pub fn at(place: usize) -> Self
         requires { place < channel_count }
         ensures number { result ≡ channel_number place }

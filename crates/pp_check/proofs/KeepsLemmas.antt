@@ -5,7 +5,7 @@ use Rattle.std.specs.List.{cons_option, filter_map}
 use Rattle.std.proofs.lemmas.Bool.{cases_eq, eq-eqb, eqb-true, ne_eqb}
 use Rattle.std.proofs.lemmas.List.{get_or-set_other, get_or-set_same, get_or_read, length-append, length-set, length_push}
 use Rattle.std.proofs.lemmas.List.Sums.{sum_by-cons, sum_by_push}
-use Rattle.pp_channel.specs.ChannelPlaces.{one_place, place_below}
+use Rattle.pp_channel.specs.ChannelPlaces.{channel_places}
 use Rattle.pp_channel.specs.Answer.{channel_state}
 use Rattle.pp_channel.specs.ChannelNo.{channel_count, channel_index, names_channel}
 use Rattle.pp_channel.specs.History.{IsLawful}
@@ -112,13 +112,13 @@ module _ (opened : List Bool) (lines : List TraceLine) (standings : List Standin
   standings_more state same kept d named = elim (cases_eq d c) [
     | inl at ↦
         ap (λ (k : ℕ). standing_of (slice_set standings (channel_index c) (standing_after (standing_of standings c) state)) k) at
-        ∙ get_or-set_same standings (channel_index c) (standing_after (standing_of standings c) state) new_standing (omega (arith, all, place_below c names))
+        ∙ get_or-set_same standings (channel_index c) (standing_after (standing_of standings c) state) new_standing (omega (arith, all, channel_places.place_below c names))
         ∙ ap (λ (s : Standing). standing_after s state) (kept c names)
         ∙ ap (λ (t : ChannelState). standing_after (standing opened lines c) t) same
         ∙ sym (standing_more opened lines line c e is)
         ∙ ap (λ (k : ℕ). standing opened (lines ++ line ∷ []) k) (sym at)
     | inr other ↦
-        get_or-set_other standings (channel_index c) (channel_index d) (standing_after (standing_of standings c) state) new_standing (λ same_place. other (one_place c d names same_place))
+        get_or-set_other standings (channel_index c) (channel_index d) (standing_after (standing_of standings c) state) new_standing (λ same_place. other (channel_places.one_place c d names same_place))
         ∙ kept d named
         ∙ sym (standing_same opened lines line d ((event_line c e line is).elsewhere d other))
   ]

@@ -4,7 +4,7 @@ use Rattle.std.specs.Prelude.{◌&&◌, IsTrue, nat_lt, if◌then◌else◌}
 use Rattle.std.proofs.lemmas.Bool.{le-ltb, lt-ltb}
 use Rattle.std.proofs.lemmas.List.{append-nil, get_or-replicate}
 use Rattle.pp_channel.proofs.AnswerLemmas.{lawful_with_event}
-use Rattle.pp_channel.specs.ChannelPlaces.{place_below}
+use Rattle.pp_channel.specs.ChannelPlaces.{channel_places}
 use Rattle.pp_channel.proofs.HistoryLemmas.{lawful_empty}
 use Rattle.pp_channel.specs.Answer.{channel_state}
 use Rattle.pp_channel.specs.ChannelNo.{channel_count, channel_index, names_channel}
@@ -38,8 +38,8 @@ none_opened opened k below =
 -- all places
 pub all_opened : (n : ℕ) (opened : List Bool) (standings : List Standing) → channel_count ≤ n → AreOpenedTo n opened standings → (c : ℕ) → IsTrue (names_channel c) → standing_of standings c ≡ standing_by (is_opened opened c)
 all_opened n opened standings past are c names =
-    are (channel_index c) (place_below c names)
-    ∙ ap (λ (b : Bool). standing_by (b && is_opened opened c)) (lt-ltb (channel_index c) n (omega (arith, past, place_below c names)))
+    are (channel_index c) (channel_places.place_below c names)
+    ∙ ap (λ (b : Bool). standing_by (b && is_opened opened c)) (lt-ltb (channel_index c) n (omega (arith, past, channel_places.place_below c names)))
 
 -- ---- before the first line
 

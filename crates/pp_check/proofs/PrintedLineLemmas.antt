@@ -5,7 +5,7 @@ use Rattle.std.specs.List.{list_all}
 use Rattle.std.specs.Str.{bytes_eq}
 use Rattle.std.proofs.lemmas.Bool.{leb-true, le-leb, ltb-true, ne_eqb}
 use Rattle.std.proofs.lemmas.List.Folds.{list_all-append}
-use Rattle.pp_channel.specs.ChannelPlaces as channel_places
+use Rattle.pp_channel.specs.ChannelPlaces.{channel_fits}
 use Rattle.pp_channel.specs.ChannelNo.{names_channel}
 use Rattle.pp_channel.specs.History.{HasTwelveBitWord, active, waiting}
 use Rattle.pp_channel.specs.declared.channel_state.ChannelState.{ChannelState}
@@ -13,7 +13,7 @@ use Rattle.pp_channel.specs.declared.event.Event.{Event}
 use Rattle.pp_channel.specs.declared.event.Event.TheVariants.{Activate, Disconnect, Put, Take, Function}
 use Rattle.pp_deck.proofs.FieldTextLemmas.{IsField, IsTail, and_both, and_left, and_right, fields_of_plain, is_ink, is_plain, tail_blank, tail_field, tail_last, decimal_is_field, octal_ink, octal_is_field}
 use Rattle.pp_deck.specs.DeckText.{fields_of}
-use Rattle.pp_machine.specs.ProcessorPlaces as processor_places
+use Rattle.pp_machine.specs.ProcessorPlaces.{processor_fits}
 use Rattle.pp_machine.specs.PpNo.{names_processor}
 use Rattle.pp_machine.specs.Processor.{Processor}
 use Rattle.pp_machine.specs.declared.pp_state.PpState.{PpState}
@@ -42,11 +42,11 @@ is_channel_field c = record { some = omega arith; ink = octal_ink 2 c }
 
 pub processor_read : (n : ℕ) → IsTrue (names_processor n) → is_processor (processor_field n) ≡ true
 unfolding is_processor number_after
-processor_read n names = rw (octal_read 2 2 n (omega arith) (omega arith) (omega (arith, processor_places.number_fits n names)), names) refl
+processor_read n names = rw (octal_read 2 2 n (omega arith) (omega arith) (omega (arith, processor_fits n names)), names) refl
 
 pub channel_read : (c : ℕ) → IsTrue (names_channel c) → channel_in (channel_field c) ≡ Some c
 unfolding channel_in number_after
-channel_read c names = rw (octal_read 2 2 c (omega arith) (omega arith) (omega (arith, channel_places.number_fits c names)), names) refl
+channel_read c names = rw (octal_read 2 2 c (omega arith) (omega arith) (omega (arith, channel_fits c names)), names) refl
 
 pub channel_no_processor : (c : ℕ) → is_processor (channel_field c) ≡ false
 unfolding is_processor number_after

@@ -5,7 +5,7 @@ use Rattle.std.specs.List.{range_with_len}
 use Rattle.std.proofs.lemmas.List.{length-take}
 use Rattle.std.proofs.lemmas.List.FromFn.{fill_by_all}
 use Rattle.std.proofs.lemmas.List.Sums.{count_by-le-length, sum_by-cons}
-use Rattle.pp_channel.specs.ChannelPlaces.{number_named, place_of_number}
+use Rattle.pp_channel.specs.ChannelPlaces.{channel_places}
 use Rattle.pp_channel.specs.ChannelNo.{all_channels, channel_count, channel_number}
 use Rattle.pp_word.specs.Tables.{tabulate}
 use Rattle.pp_check.specs.Judge.{KeepsEvents, new_standing, standing}
@@ -23,7 +23,7 @@ was_open s = nat_lt 0 s.events && s.is_opened
 
 by_place : (opened : List Bool) (lines : List TraceLine) (standings : List Standing) (events sessions : ℕ) → KeepsEvents opened lines standings events sessions → (k : ℕ) → k < channel_count → get_or standings k new_standing ≡ standing opened lines (channel_number k)
 by_place opened lines standings events sessions kept k below =
-    ap (λ (i : ℕ). get_or standings i new_standing) (sym (place_of_number k below)) ∙ kept.channels (channel_number k) (number_named k below)
+    ap (λ (i : ℕ). get_or standings i new_standing) (sym (channel_places.place_of_number k below)) ∙ kept.channels (channel_number k) (channel_places.number_named k below)
 
 -- what is kept of the channels, as a list
 pub all_standings : (opened : List Bool) (lines : List TraceLine) (standings : List Standing) (events sessions : ℕ) → KeepsEvents opened lines standings events sessions → standings ≡ map (λ k. standing opened lines (channel_number k)) (range_with_len 0 channel_count)

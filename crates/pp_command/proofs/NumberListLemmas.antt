@@ -11,10 +11,10 @@ use Rattle.std.proofs.lemmas.List.Sums.{fails_before_first}
 use mathlib.Core.Logic.{dite}
 use native.Mathlib.Decide.{dec_lt}
 use Rattle.pp_channel.specs.ChannelNo.{channel_count, channel_index, names_channel}
-use Rattle.pp_channel.specs.ChannelPlaces as channel_places
+use Rattle.pp_channel.specs.ChannelPlaces.{channel_places}
 use Rattle.pp_word.specs.Pieces.{split_first, split_last}
 use Rattle.pp_machine.specs.PpNo.{is_named, names_processor, processor_count, processor_index}
-use Rattle.pp_machine.specs.ProcessorPlaces as processor_places
+use Rattle.pp_machine.specs.ProcessorPlaces.{processor_places}
 use Rattle.pp_command.specs.ChannelList.{is_flagged_channel}
 use Rattle.pp_command.specs.NumberList.{AreFlagged, is_among, is_comma, numbered, numbers_of}
 

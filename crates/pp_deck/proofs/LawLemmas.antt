@@ -12,7 +12,7 @@ use Rattle.pp_word.specs.LastElements.{last_or_at}
 use Rattle.pp_machine.specs.MachineState.{processor_of}
 use Rattle.pp_machine.specs.Processor.{no_processor, word_at}
 use Rattle.pp_machine.specs.PpNo.{processor_count, names_processor, processor_number, processor_index}
-use Rattle.pp_machine.specs.ProcessorPlaces.{place_below, number_of_place}
+use Rattle.pp_machine.specs.ProcessorPlaces.{processor_places}
 use Rattle.pp_machine.specs.declared.pp_state.PpState.TheVariants.{Running}
 use Rattle.pp_deck.specs.DeckLaw.{IsFor, StandsAt, SetsWord, SetsCentralWord, Starts, Registers, registers_of, at_rest, HoldsLast, line_of}
 use Rattle.pp_deck.specs.DeckLine.{Line, nothing, central_words, section, start, words}
@@ -273,8 +273,8 @@ module _ (profile : Profile) where
 
   pub processor_here : (size : ℕ) (lines : List Line) (n : ℕ) → IsTrue (names_processor n) → processor_of n (set_by profile size lines).machine ≡ processor_loaded profile lines n
   processor_here size lines n names =
-      get_or-tabulate processor_count (λ place. processor_loaded profile lines (processor_number place)) (processor_index n) no_processor (place_below n names)
-      ∙ ap (processor_loaded profile lines) (number_of_place n names)
+      get_or-tabulate processor_count (λ place. processor_loaded profile lines (processor_number place)) (processor_index n) no_processor (processor_places.place_below n names)
+      ∙ ap (processor_loaded profile lines) (processor_places.number_of_place n names)
 
   pub place_here : (lines : List Line) (n place : ℕ) → place < place_count → word_at (processor_loaded profile lines n) place ≡ unwrap_or (last_of (filter_map (word_for place) (lines_for n lines))) 0
   unfolding processor_loaded memory_of
@@ -294,5 +294,5 @@ module _ (profile : Profile) where
 
   pub named_here : (size : ℕ) (lines : List Line) (n : ℕ) → IsTrue (names_processor n) → get_or (set_by profile size lines).named (processor_index n) false ≡ list_any (names n) lines
   named_here size lines n named =
-      get_or-tabulate processor_count (λ place. is_named lines (processor_number place)) (processor_index n) false (place_below n named)
-      ∙ ap (is_named lines) (number_of_place n named)
+      get_or-tabulate processor_count (λ place. is_named lines (processor_number place)) (processor_index n) false (processor_places.place_below n named)
+      ∙ ap (is_named lines) (processor_places.number_of_place n named)

@@ -8,7 +8,7 @@ use Rattle.std.proofs.lemmas.List.Elements.{filter_map-append}
 use Rattle.std.proofs.lemmas.List.Folds.{list_any_more}
 use Rattle.std.proofs.lemmas.List.Sums.{fold-append}
 use Rattle.pp_channel.specs.ChannelNo.{channel_count, channel_index}
-use Rattle.pp_channel.specs.ChannelPlaces.{place_below}
+use Rattle.pp_channel.specs.ChannelPlaces.{channel_places}
 use Rattle.pp_machine.specs.DeadStart.{IsBeforeFirstTurn}
 use Rattle.pp_machine.specs.MachineState.{history_of}
 use Rattle.pp_deck.specs.Flaw.{code_of}
@@ -176,5 +176,5 @@ module _ (profile : Profile) where
       let is : progress ≡ progress_of profile (size_of lines) said = h.progress_is ∙ after_lines_is profile (size_of lines) said in
       record {
         turns = ap (λ (p : Progress). p.machine.turns) is;
-        histories = λ c named. ap (λ (p : Progress). history_of c p.machine) is ∙ get_or-replicate channel_count (channel_index c) [] [] (place_below c named);
+        histories = λ c named. ap (λ (p : Progress). history_of c p.machine) is ∙ get_or-replicate channel_count (channel_index c) [] [] (channel_places.place_below c named);
       }

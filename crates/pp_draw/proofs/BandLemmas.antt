@@ -4,11 +4,12 @@ use Rattle.std.specs.Prelude.{◌↔◌, IsFalse, IsTrue}
 use Rattle.std.specs.Int.{from_bool}
 use Rattle.std.proofs.lemmas.Bool.{cases_lt, lt-ltb, ltb-true}
 use Rattle.std.proofs.lemmas.List.{append-nil}
+use Rattle.pp_word.specs.GappedNumbers.{is_number, index_of}
 use Rattle.pp_channel.specs.ChannelNo.{channel_count, channel_index, channel_number, names_channel}
-use Rattle.pp_channel.specs.ChannelPlaces as channel_places
+use Rattle.pp_channel.specs.ChannelPlaces.{channel_places}
 use Rattle.pp_machine.specs.MachineState.{MachineState}
 use Rattle.pp_machine.specs.PpNo.{names_processor, processor_count, processor_index, processor_number}
-use Rattle.pp_machine.specs.ProcessorPlaces as processor_places
+use Rattle.pp_machine.specs.ProcessorPlaces.{processor_places}
 use Rattle.pp_machine.specs.MachineStep.{counted}
 use Rattle.pp_text.specs.PrintedText.{each_below}
 use Rattle.pp_draw.specs.Condition.{is_sent}
@@ -150,11 +151,11 @@ lower_row test a (suc k) has less =
     (cases_lt a k)
 
 later_channel : (c d : ℕ) → IsTrue (names_channel c) → IsTrue (names_channel d) → c < d → channel_index c < channel_index d
-unfolding names_channel channel_index
+unfolding names_channel channel_index is_number index_of
 later_channel c d first second less = grind (arith)
 
 later_processor : (n k : ℕ) → IsTrue (names_processor n) → IsTrue (names_processor k) → n < k → processor_index n < processor_index k
-unfolding names_processor processor_index
+unfolding names_processor processor_index is_number index_of
 later_processor n k first second less = grind (arith)
 
 pub lower_channel : (m : MachineState) (c d : ℕ) → IsTrue (names_channel c) → IsTrue (names_channel d) → IsTrue (is_used m c) → c < d → used_among (channel_index c) m < used_among (channel_index d) m

@@ -5,7 +5,7 @@ use Rattle.std.proofs.lemmas.Bool.{cases_eq, cases_lt}
 use Rattle.std.proofs.lemmas.List.{length-set}
 use Rattle.pp_machine.specs.MachineState.{MachineState}
 use Rattle.pp_machine.specs.PpNo.{names_processor, processor_count, processor_index}
-use Rattle.pp_machine.specs.ProcessorPlaces.{one_place, place_below}
+use Rattle.pp_machine.specs.ProcessorPlaces.{processor_places}
 use Rattle.pp_machine.specs.Profile.{processor_in_turn}
 use Rattle.pp_run.specs.Determinacy.{Waits}
 use Rattle.pp_ends.specs.Endings.{TellsMove, after_turns}
@@ -94,9 +94,9 @@ loops_more loops from to n p m true places on own names at tells told = λ k nam
           (moves_more (loop_of loops n) n from to m moving (told n names)) in
           subst (λ (q : ℕ). TellsLoop (loop_of (noted loops n p true) q) q from (to + 1) m) (sym same)
           (subst (λ (found : Option Loop). TellsLoop found n from (to + 1) m)
-          (sym (get_or-set_same loops (processor_index n) (Some (widened (loop_of loops n) p)) None (let low = place_below n names in omega (arith, places, low)))) wide)
+          (sym (get_or-set_same loops (processor_index n) (Some (widened (loop_of loops n) p)) None (let low = processor_places.place_below n names in omega (arith, places, low)))) wide)
       | inr apart ↦
-          let other : processor_index k ≢ processor_index n = λ same. apart (one_place n k names same) in
+          let other : processor_index k ≢ processor_index n = λ same. apart (processor_places.one_place n k names same) in
           subst (λ (found : Option Loop). TellsLoop found k from (to + 1) m)
           (sym (get_or-set_other loops (processor_index n) (processor_index k) (Some (widened (loop_of loops n) p)) None other))
           (stays_more (loop_of loops k) k from to m (λ i. apart (sym i.own ∙ sym own)) (told k named))

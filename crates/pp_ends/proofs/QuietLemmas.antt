@@ -9,7 +9,7 @@ use Rattle.pp_machine.specs.NeedAndEffect.{need, processor_after}
 use Rattle.pp_machine.specs.PpMemory.{IsMemory}
 use Rattle.pp_machine.specs.PpNo.{processor_count, processor_index, processor_number}
 use Rattle.pp_machine.specs.Processor.{IsAtRest, Processor, no_processor}
-use Rattle.pp_machine.specs.ProcessorPlaces.{named_below, number_of_place}
+use Rattle.pp_machine.specs.ProcessorPlaces.{processor_places}
 use Rattle.pp_machine.proofs.StepLemmas.{rest_changes_nothing}
 use Rattle.pp_run.specs.Determinacy.{Waits}
 use Rattle.pp_run.proofs.StepFacts.{own_step}
@@ -51,7 +51,7 @@ pub quiet_by_places : (m : MachineState) → length m.processors ≡ processor_c
 quiet_by_places m all waits = record {
   quiet = λ _. record {
     waits = λ n. elim (cases_lt (processor_index n) processor_count) [
-      | inl below ↦ subst (λ (k : ℕ). Waits k m) (number_of_place n (named_below n below)) (waits (processor_index n) below)
+      | inl below ↦ subst (λ (k : ℕ). Waits k m) (processor_places.number_of_place n (processor_places.named_below n below)) (waits (processor_index n) below)
       | inr past ↦ waits_unnamed n m (omega (arith, all, past))
     ];
   };
@@ -71,7 +71,7 @@ pub at_rest_by_places : (m : MachineState) → length m.processors ≡ processor
 at_rest_by_places m all rest = record {
   running = λ bad. absurd (cc);
   at_rest = λ n. elim (cases_lt (processor_index n) processor_count) [
-    | inl below ↦ subst (λ (k : ℕ). IsAtRest (processor_of k m)) (number_of_place n (named_below n below)) (rest (processor_index n) below)
+    | inl below ↦ subst (λ (k : ℕ). IsAtRest (processor_of k m)) (processor_places.number_of_place n (processor_places.named_below n below)) (rest (processor_index n) below)
     | inr past ↦
         let absent : processor_of n m ≡ no_processor = get_or_past m.processors (processor_index n) no_processor (omega (arith, all, past)) in
         subst (λ (pp : Processor). IsAtRest pp) (sym absent) (λ bad. cc)

@@ -6,7 +6,7 @@ use Rattle.std.proofs.lemmas.Bool.{cases_eq, cases_lt}
 use Rattle.std.proofs.lemmas.List.{get_or_past, ext_get_or}
 use Rattle.pp_channel.specs.Answer.{channel_state, event_by, event_of, history_after, state_reply}
 use Rattle.pp_channel.specs.ChannelNo.{channel_count, channel_index}
-use Rattle.pp_channel.specs.ChannelPlaces as channel_places
+use Rattle.pp_channel.specs.ChannelPlaces.{channel_places}
 use Rattle.pp_channel.specs.History.{IsLawful}
 use Rattle.pp_channel.specs.declared.chan_op.ChanOp.{ChanOp}
 use Rattle.pp_channel.specs.declared.channel_state.ChannelState.{ChannelState}
@@ -29,7 +29,7 @@ use Rattle.pp_machine.proofs.RunLawLemmas.{run_keeps}
 use Rattle.pp_run.proofs.StepFacts.{central_by, histories_by, history_elsewhere, history_here, length_histories, processors_by}
 use Rattle.pp_run.proofs.Moments.{run_histories}
 use Rattle.pp_ends.specs.Endings.{Repeats, StandAlike, after_turns}
-use Rattle.pp_machine.specs.ProcessorPlaces.{place_of_number}
+use Rattle.pp_machine.specs.ProcessorPlaces.{processor_places}
 
 -- ---- channels
 
@@ -212,7 +212,7 @@ pub alike_by_places : (m k : MachineState) → length m.histories ≡ channel_co
 alike_by_places m k hm hk pm pk channels processors central = record {
   processors = ext_get_or no_processor k.processors m.processors (pk ∙ sym pm) (λ j low.
       let below : j < processor_count = omega (arith, low, pk) in
-      let place : processor_index (processor_number j) ≡ j = place_of_number j below in
+      let place : processor_index (processor_number j) ≡ j = processor_places.place_of_number j below in
       ap (λ (i : ℕ). get_or k.processors i no_processor) (sym place)
       ∙ sym (processors j below) ∙ ap (λ (i : ℕ). get_or m.processors i no_processor) place);
   central = sym central;

@@ -23,7 +23,7 @@ use Rattle.pp_line.proofs.OrderLemmas.{extended_twice}
 use Rattle.pp_line.specs.Merge.{Merges, no_opening, IsRecordedBy}
 use Rattle.pp_line.specs.SharedWords.{IsFound}
 use Rattle.pp_channel.specs.AnswerLaws.{shown_makes_none, shows_flags}
-use Rattle.pp_channel.specs.ChannelPlaces.{place_below}
+use Rattle.pp_channel.specs.ChannelPlaces.{channel_places}
 use Rattle.pp_line.proofs.ChannelWordLemmas.{Stays, MakesNext, worn_by_table, shown_by_table, next_by_table, ready_at_word, answer_made, answer_shown, number_of_word}
 use Rattle.pp_channel.proofs.FrontLemmas.{lawful_take, twelve_bits_take}
 use Rattle.pp_line.proofs.MergeLemmas.{with_more, more_is, more_here, put_before}
@@ -71,7 +71,7 @@ found_last v w c word load =
 
 pub seen_last : (v w : LineView) (c word : ℕ) → length v.seen ≡ channel_count → IsLoad c v word w → seen_on c w.seen ≡ number_in word
 seen_last v w c word each load =
-    let low = place_below c load.tells.named in
+    let low = channel_places.place_below c load.tells.named in
     ap (λ x. seen_on c x.seen) load.after_is ∙ get_or-set_same v.seen (channel_index c) (number_in word) 0 (omega arith)
 
 -- the line has this log and this view now, and stands at the same table
@@ -196,7 +196,7 @@ module _ (line : LineState) {now : LineView} {c word : ℕ} (load : IsLoad c lin
       old_bits = bits_on made_on c won.tells.known.sound.twelve_bits
 
       longer_is : longer ≡ old ++ e ∷ []
-      longer_is = more_here made_on c c (e ∷ []) (let n = place_below c won.tells.named in let l = won.tells.known.sound.each_channel in omega arith) refl
+      longer_is = more_here made_on c c (e ∷ []) (let n = channel_places.place_below c won.tells.named in let l = won.tells.known.sound.each_channel in omega arith) refl
 
       front : take (number_in word) longer ≡ old
       front = ap (take (number_in word)) longer_is ∙ take_at old (e ∷ []) (number_in word) (sym (number_told won.tells))

@@ -14,7 +14,7 @@ use Rattle.pp_line.specs.LineSteps.{IsBackedAt, IsBacked, IsLogOf, IsLoad, IsWon
 use Rattle.pp_line.specs.LineView.{greater_of_each, joined_view, finds, makes, look_by, reads, writes}
 use Rattle.pp_line.specs.Order.{IsDrawnFrom, entries_among, extended}
 use Rattle.pp_line.specs.Merge.{times_logged}
-use Rattle.pp_channel.specs.ChannelPlaces.{place_below}
+use Rattle.pp_channel.specs.ChannelPlaces.{channel_places}
 use Rattle.pp_line.proofs.LineKnowledge.{not_older_told, told_looked, all_looked, looked_either, last_replaced}
 use Rattle.pp_line.proofs.OrderLemmas.{length-extended, drawn_extended, stands_with_last, stands_joined}
 use Rattle.pp_word.specs.Subsequences.{stands_front}
@@ -81,7 +81,7 @@ pub log_of_look : {v w : LineView} (log : LogState) (c word : ℕ) → IsLogOf v
 log_of_look {v} {w} log c word before load =
     let look : Entry = look_by c word in
     let is = log_of_load load before in
-    let low : channel_index c < channel_count = place_below c load.tells.named in
+    let low : channel_index c < channel_count = channel_places.place_below c load.tells.named in
     let each = before.each_channel in
     let found : Contains w.found (record { channel = c; word = word }) = subst (λ (x : LineView). Contains x.found (record { channel = c; word = word })) (sym load.after_is) (Contains-push v.found (record { channel = c; word = word })) in
     let there : seen_on c w.seen ≡ number_in word = ap (λ x. seen_on c x.seen) load.after_is ∙ get_or-set_same v.seen (channel_index c) (number_in word) 0 (omega arith) in
@@ -105,7 +105,7 @@ log_of_event {v} {w} {c} {word} {e} {log} won is =
     let number : ℕ = number_in word in
     let deed = event_entry c number e in
     let i : ℕ = channel_index c in
-    let low : i < channel_count = place_below c won.tells.named in
+    let low : i < channel_count = channel_places.place_below c won.tells.named in
     let each = is.each_channel in
     let later = not_older_told won.tells in
     let P : LineView → Type 0 = λ x. IsLogOf x (log ++ deed ∷ []) in

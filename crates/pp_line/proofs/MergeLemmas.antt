@@ -16,7 +16,7 @@ use Rattle.pp_channel.specs.Law.{IsPrefix}
 use Rattle.pp_line.specs.LineLog.{event_entry, is_event, known_after, seen_on, IsWithin}
 use Rattle.pp_line.specs.Merge.{IsTrueAt, IsTrueOf, logs_event, times_logged, Merges, no_opening}
 use Rattle.pp_channel.specs.History.{history_on}
-use Rattle.pp_channel.specs.ChannelPlaces.{one_place}
+use Rattle.pp_channel.specs.ChannelPlaces.{channel_places}
 
 -- 1 for a number below the end, else 0
 abbrev pub once_below : ℕ → ℕ → ℕ
@@ -135,7 +135,7 @@ more_here histories c d more l is = ap (λ x. history_on x (set histories (chann
 
 pub same_elsewhere : (histories : List (List Event)) (c d : ℕ) (more : List Event) → IsTrue (names_channel c) → d ≢ c → history_on d (with_more histories c more) ≡ history_on d histories
 unfolding with_more
-same_elsewhere histories c d more names other = get_or-set_other histories (channel_index c) (channel_index d) (history_on c histories ++ more) [] (λ same. other (one_place c d names same))
+same_elsewhere histories c d more names other = get_or-set_other histories (channel_index c) (channel_index d) (history_on c histories ++ more) [] (λ same. other (channel_places.one_place c d names same))
 
 pub more_grow : (histories : List (List Event)) (c : ℕ) (more : List Event) → IsTrue (names_channel c) → channel_index c < length histories → Grow histories (with_more histories c more)
 more_grow histories c more names l d = dite (ℕ_discrete d c)

@@ -13,7 +13,7 @@ use Rattle.pp_line.specs.Types.{Did, Entry, Event, Saw, Seen}
 use Rattle.pp_channel.specs.ChannelNo.{channel_count, channel_index, channel_number}
 use Rattle.pp_line.specs.Merge.{IsTrueAt, IsTrueOf, times_logged, Merges, no_opening, IsRecordedBy, with_recorded, with_entry}
 use Rattle.pp_channel.specs.History.{history_on}
-use Rattle.pp_channel.specs.ChannelPlaces.{place_of_number}
+use Rattle.pp_channel.specs.ChannelPlaces.{channel_places}
 use Rattle.pp_line.proofs.MergeLemmas.{told_by, told_not}
 
 -- one event is written over: no history grows
@@ -100,7 +100,7 @@ module _ (histories : List (List Event)) (c : ℕ) where
 room_for : (histories hs : List (List Event)) (seen : List ℕ) (log : List Entry) → IsRecordedBy log seen histories → length hs ≡ channel_count → ((p : ℕ) → p < channel_count → length (get_or hs p []) ≡ get_or seen p 0)
     → (p : ℕ) → length (get_or hs p []) ≡ length (get_or histories p [])
 room_for histories hs seen log told each room p = dite (dec_lt p channel_count)
-    (λ below. room p below ∙ (let is : channel_index (channel_number p) ≡ p = place_of_number p below in
+    (λ below. room p below ∙ (let is : channel_index (channel_number p) ≡ p = channel_places.place_of_number p below in
     ap (λ i. get_or seen i 0) (sym is) ∙ (told.counted (channel_number p) ∙ ap (λ i. length (get_or histories i [])) is)))
     (λ no. ap length (get_or_past hs p [] (omega (arith, each, no)) ∙ sym (get_or_past histories p [] (omega (arith, told.sound.each_channel, no)))))
 
@@ -109,7 +109,7 @@ pub histories_filled : (histories hs : List (List Event)) (seen : List ℕ) (log
 histories_filled histories hs seen log told each room =
     ext_get_or [] (fold with_entry hs log) histories (count-filled log hs ∙ (each ∙ sym told.sound.each_channel)) (λ p inside.
     let many = count-filled log hs in
-    let is : channel_index (channel_number p) ≡ p = place_of_number p (omega (arith, inside, many, each)) in
+    let is : channel_index (channel_number p) ≡ p = channel_places.place_of_number p (omega (arith, inside, many, each)) in
     ap (λ i. get_or (fold with_entry hs log) i []) (sym is) ∙ (history_filled histories (channel_number p) log hs told.merged (room_for histories hs seen log told each room)
     ∙ ap (λ i. get_or histories i []) is))
 

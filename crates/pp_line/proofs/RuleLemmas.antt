@@ -18,7 +18,7 @@ use Rattle.pp_line.specs.LineView.{finds, look_by, reads, with_unrecorded_load, 
 use Rattle.pp_line.specs.Order.{IsTotalOrderOf, FindsWords, AreMade, entries_among, left_by, times, writes_among}
 use Rattle.pp_line.specs.Merge.{IsRecordedBy, IsTrueOf, Merges, no_opening, logs_event, times_logged}
 use Rattle.pp_line.specs.SharedWords.{word_place, central_place, IsViewOf, KeepsRule}
-use Rattle.pp_channel.specs.ChannelPlaces.{place_below}
+use Rattle.pp_channel.specs.ChannelPlaces.{channel_places}
 use Rattle.pp_line.proofs.ListFacts.{All-read, All-part, flat_map-set_same, count_by-parts, sum_by-write, sum_by-sole}
 use Rattle.pp_line.proofs.ChannelWordLemmas.{number_at_word, flags_of_word}
 use Rattle.pp_line.proofs.OrderLemmas.{order_beside, order_more, extends_more, extends_push}
@@ -53,10 +53,10 @@ times-write c number views id v w at =
 
 module _ (whole : ℕ) (opening words : List ℕ) (views : List LineView) (histories : List (List Event)) (order : List Access) (k : KeepsRule whole opening words views histories order) where
   pub lawful_on : (c : ℕ) → IsTrue (names_channel c) → IsLawful (history_on c histories)
-  lawful_on c names = let n = k.sound.each_channel in let l = place_below c names in k.sound.lawful (channel_index c) [] (omega arith)
+  lawful_on c names = let n = k.sound.each_channel in let l = channel_places.place_below c names in k.sound.lawful (channel_index c) [] (omega arith)
 
   pub low_on : (c : ℕ) → IsTrue (names_channel c) → HasTwelveBitWords (history_on c histories)
-  low_on c names = let n = k.sound.each_channel in let l = place_below c names in k.sound.twelve_bits (channel_index c) [] (omega arith)
+  low_on c names = let n = k.sound.each_channel in let l = channel_places.place_below c names in k.sound.twelve_bits (channel_index c) [] (omega arith)
 
   pub view_at : (id : ℕ) (v : LineView) → get_elem? views id ≡ some v → IsViewOf histories whole opening order v
   view_at id v at = All-read (IsViewOf histories whole opening order) views id v k.views_are at
@@ -192,7 +192,7 @@ module _ (whole : ℕ) (opening words : List ℕ) (views : List LineView) (histo
       (view_beside histories whole opening order (order ++ access ∷ []) v v.unrecorded_loads w.written w.program_orders (extends_push order access v.program_orders f.program_orders) (λ z. absurd (omega arith)) f)
       (order_beside histories order access refl k.total) (tt, tt) (made_push views order address word id v w at refl k.made)
       (set words (central_place address) word) (length-set words (central_place address) word)
-      (λ c names. let low = place_below c names in get_or-set_other words (central_place address) (word_place c) word 0 (λ same. absurd (omega (arith, same, low))))
+      (λ c names. let low = channel_places.place_below c names in get_or-set_other words (central_place address) (word_place c) word 0 (λ same. absurd (omega (arith, same, low))))
       (λ a below. dite (ℕ_discrete a address)
       (λ (is : a ≡ address).
       subst (λ (b : ℕ). get_or (set words (central_place address) word) (central_place b) 0 ≡ get_or (set left address word) b 0) (sym is)

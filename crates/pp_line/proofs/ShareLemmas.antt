@@ -17,7 +17,7 @@ use Rattle.pp_line.specs.LineView.{blank_view, first_view, parent_view, child_vi
 use Rattle.pp_line.specs.Merge.{IsTrueOf, Merges, no_opening}
 use Rattle.pp_line.specs.LineLog.{seen_on}
 use Rattle.pp_line.specs.SharedWords.{word_place, place_count, central_in, IsFound, IsViewOf, Rule}
-use Rattle.pp_channel.specs.ChannelPlaces.{place_below}
+use Rattle.pp_channel.specs.ChannelPlaces.{channel_places}
 use Rattle.pp_channel.proofs.HistoryLemmas.{lawful_empty}
 use Rattle.pp_line.proofs.ListFacts.{All-parts_set, flat_map-set_same, same_everywhere, sum_by-write}
 use Rattle.pp_line.proofs.MergeLemmas.{once_past, TellsOnce, tells_once, merges_by, times_told-append}
@@ -66,7 +66,7 @@ first_kept whole central small =
         merged = merges_by first_histories [] (λ c number. let none : length (history_on c first_histories) ≡ 0 = ap length (no_event c) in sym (once_past number (length (history_on c first_histories)) (omega arith)))
             (All-nil (IsTrueOf first_histories));
         places = all;
-        words_are = λ c names. let low = place_below c names in get_or_append_left zeros central z (word_place c) (omega (arith, many, low)) ∙ (same_everywhere place_count (word_place c) z ∙ ap history_word (sym (no_event c)));
+        words_are = λ c names. let low = channel_places.place_below c names in get_or_append_left zeros central z (word_place c) (omega (arith, many, low)) ∙ (same_everywhere place_count (word_place c) z ∙ ap history_word (sym (no_event c)));
         central_are = λ a low. ap (λ n. get_or (zeros ++ central) (n + a) 0) (sym many) ∙ get_or-append-add zeros central a 0;
         small = small;
         shares = omega arith;

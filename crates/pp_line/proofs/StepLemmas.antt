@@ -21,7 +21,7 @@ use Rattle.pp_line.specs.Merge.{IsTrueOf}
 use Rattle.pp_line.specs.Order.{made_on, writes_among}
 use Rattle.pp_line.specs.LineLog.{seen_on, event_entry}
 use Rattle.pp_line.specs.SharedWords.{word_place, central_place, IsFound, IsViewOf, KeepsRule, Rule}
-use Rattle.pp_channel.specs.ChannelPlaces.{place_below, one_place}
+use Rattle.pp_channel.specs.ChannelPlaces.{channel_places}
 use Rattle.pp_line.proofs.ListFacts.{read_written, All-parts_set, sum_by-write, read-le-sum_by}
 use Rattle.pp_line.proofs.MergeLemmas.{once_below, TellsOnce, tells_once, merges_by, times_told_push, told_elsewhere, told_next, Grow, slice_get_last, true_later, with_more, more_is, more_here, same_elsewhere, more_grow, length-with_more, All-with_more}
 use Rattle.pp_line.proofs.ViewLemmas.{view_later, view_makes, later_found}
@@ -34,7 +34,7 @@ M = Me Event LineView
 
 -- a step on the word of one channel is on that of no other
 one_channel : (c d : ℕ) → IsTrue (names_channel c) → word_place c ≡ word_place d → c ≡ d
-one_channel c d names e = sym (one_place c d names (omega arith))
+one_channel c d names e = sym (channel_places.one_place c d names (omega arith))
 
 one_address : (a b : ℕ) → central_place a ≡ central_place b → a ≡ b
 one_address a b e = omega arith
@@ -94,7 +94,7 @@ module _ (whole : ℕ) (opening words : List ℕ) (views : List LineView) (histo
   after = with_more histories c (e ∷ [])
 
   within : channel_index c < length histories
-  within = let n = k.sound.each_channel in let l = place_below c names in omega arith
+  within = let n = k.sound.each_channel in let l = channel_places.place_below c names in omega arith
 
   grown : Grow histories after
   unfolding after
@@ -126,7 +126,7 @@ module _ (whole : ℕ) (opening words : List ℕ) (views : List LineView) (histo
 
   word_after : (d : ℕ) → IsTrue (names_channel d) → get_or (set words (word_place c) new) (word_place d) 0 ≡ history_word (history_on d after)
   word_after d named = dite (ℕ_discrete d c)
-      (λ (is : d ≡ c). ap (λ t. get_or (set words (word_place c) new) (word_place t) 0) is ∙ (get_or-set_same words (word_place c) new 0 (let n = k.places in let l = place_below c names in omega arith) ∙ (sym next.2 ∙ ap history_word (sym (here d is)))))
+      (λ (is : d ≡ c). ap (λ t. get_or (set words (word_place c) new) (word_place t) 0) is ∙ (get_or-set_same words (word_place c) new 0 (let n = k.places in let l = channel_places.place_below c names in omega arith) ∙ (sym next.2 ∙ ap history_word (sym (here d is)))))
       (λ (other : d ≢ c). get_or-set_other words (word_place c) (word_place d) new 0 (λ same. other (one_channel d c named same)) ∙ (k.words_are d named ∙ ap history_word (sym (elsewhere d other))))
 
   once_after : (id : ℕ) (v : LineView) → get_elem? views id ≡ some v → TellsOnce after (all_events (set views id (makes v c (length (history_on c histories)) e)))
@@ -160,7 +160,7 @@ module _ (whole : ℕ) (opening words : List ℕ) (views : List LineView) (histo
             (All-push (IsTrueOf after) v.events (event_entry c n e) (All-weaker (IsTrueOf histories) (IsTrueOf after) (true_later histories after grown) v.events (events_at whole opening words views histories order k id v at)) made_true));
         places = length-set words (word_place c) new ∙ k.places;
         words_are = word_after;
-        central_are = λ a low. let below = place_below c names in get_or-set_other words (word_place c) (central_place a) new 0 (λ same. absurd (omega (arith, same, below)))
+        central_are = λ a low. let below = channel_places.place_below c names in get_or-set_other words (word_place c) (central_place a) new 0 (λ same. absurd (omega (arith, same, below)))
             ∙ (k.central_are a low ∙ ap (λ (ws : List ℕ). get_or ws a 0) (sym (left_more opening order more)));
         small = λ a. subst (λ (ws : List ℕ). get_or ws a 0 < 2 ^ 60) (sym (left_more opening order more)) (k.small a);
         shares = let t = sum_by-write shares_in views id v w at in let o = k.shares in omega arith;
@@ -194,7 +194,7 @@ lost : (whole : ℕ) (opening words : List ℕ) (views : List LineView) (histori
     → IsLostExchange c before v (get_or words (word_place c) 0) (finds v c (get_or words (word_place c) 0))
 lost whole opening words views histories order k id v was c before names at live from other =
     let n : ℕ = get_or words (word_place c) 0 in
-    let low : channel_index c < channel_count = place_below c names in
+    let low : channel_index c < channel_count = channel_places.place_below c names in
     let f = view_at whole opening words views histories order k id v at in
     let number : number_in n ≡ length (history_on c histories) = word_on whole opening words views histories order k c names in
     let later : number_in before < number_in n =

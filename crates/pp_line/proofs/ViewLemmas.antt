@@ -16,7 +16,7 @@ use Rattle.pp_line.specs.Order.{ExtendsEach}
 use Rattle.pp_word.specs.Subsequence.{IsSubsequence}
 use Rattle.pp_line.proofs.OrderLemmas.{extends_more, extends_push}
 use Rattle.pp_line.specs.SharedWords.{IsFound, IsViewOf}
-use Rattle.pp_channel.specs.ChannelPlaces.{place_below}
+use Rattle.pp_channel.specs.ChannelPlaces.{channel_places}
 use Rattle.pp_channel.proofs.FrontLemmas.{twelve_bits_take}
 use Rattle.pp_line.proofs.ChannelWordLemmas.{number_at_word}
 use Rattle.pp_line.proofs.MergeLemmas.{Grow}
@@ -97,7 +97,7 @@ view_makes before after whole opening order v c n e grow names now next live f =
     let below = f.seen_happened c in
     let wide = f.each_channel live in
     let i : ℕ = channel_index c in
-    let low : i < channel_count = place_below c names in
+    let low : i < channel_count = channel_places.place_below c names in
     let here : seen_on c (set v.seen i (n + 1)) ≡ n + 1 = get_or-set_same v.seen i (n + 1) 0 (omega arith) in
     let Q : Entry → Type 0 = λ entry. known_after entry.what entry.number ≤ seen_on entry.channel (set v.seen i (n + 1)) in
     record {

@@ -5,7 +5,7 @@ use Rattle.std.specs.List.{list_any, flat_map, range_with_len}
 use Rattle.std.proofs.lemmas.List.{get_or-replicate, length-map, append-nil}
 use Rattle.std.proofs.Math.ListN.{get_or-map}
 use Rattle.pp_channel.specs.ChannelNo.{all_channels, channel_count, channel_index, names_channel}
-use Rattle.pp_channel.specs.ChannelPlaces as channel_places
+use Rattle.pp_channel.specs.ChannelPlaces.{channel_places}
 use Rattle.pp_machine.specs.MachineState.{MachineState, processor_of, is_opened}
 use Rattle.pp_machine.specs.Processor.{Processor, IsProcessor, new_processor, no_processor, word_at}
 use Rattle.pp_machine.specs.PpNo.{all_processors, names_processor, processor_count, processor_index, processor_number, is_named}
@@ -14,7 +14,7 @@ use Rattle.pp_machine.specs.declared.block.Block.{Block}
 use Rattle.pp_machine.specs.declared.pp_state.PpState.{PpState}
 use Rattle.pp_machine.specs.declared.pp_state.PpState.TheVariants.{Running, Stopped, Fault}
 use Rattle.pp_machine.specs.declared.profile.Profile.{Profile}
-use Rattle.pp_machine.specs.ProcessorPlaces.{number_of_place, place_below}
+use Rattle.pp_machine.specs.ProcessorPlaces.{processor_places}
 use Rattle.pp_deck.specs.DeckLoad.{processor_with}
 use Rattle.pp_deck.specs.DeckMeaning.{LoadedDeck, deck_meaning, with_dead_start}
 use Rattle.pp_word.specs.Tables.{length-tabulate, get_or-tabulate}
@@ -35,8 +35,8 @@ left_there deck n = get_or-map (λ (pp : Processor). left_of pp.state pp) deck.m
 
 pub used_there : (deck : LoadedDeck) (n : ℕ) → IsTrue (names_processor n) → get_or (deck_to_go_on deck).named (processor_index n) false ≡ is_in_use deck n
 used_there deck n named =
-    get_or-tabulate processor_count (λ place. is_in_use deck (processor_number place)) (processor_index n) false (place_below n named)
-    ∙ ap (is_in_use deck) (number_of_place n named)
+    get_or-tabulate processor_count (λ place. is_in_use deck (processor_number place)) (processor_index n) false (processor_places.place_below n named)
+    ∙ ap (is_in_use deck) (processor_places.number_of_place n named)
 
 named_there : (deck : LoadedDeck) (n : ℕ) → IsTrue (names_processor n) → names_of (deck_to_go_on deck) n ≡ is_in_use deck n
 unfolding names_of
@@ -53,8 +53,8 @@ unfolding all_busy all_processors
 no_block m n named e =
     let pp = processor_of n m in
     in_no_block n pp.block pp.state
-    (subst (λ (k : ℕ). busy_processor m k ≡ None) (number_of_place n named)
-    (none_given (busy_processor m) processor_number (processor_index n) processor_count (filter_map (busy_channel m) all_channels) (place_below n named) e))
+    (subst (λ (k : ℕ). busy_processor m k ≡ None) (processor_places.number_of_place n named)
+    (none_given (busy_processor m) processor_number (processor_index n) processor_count (filter_map (busy_channel m) all_channels) (processor_places.place_below n named) e))
 
 -- ---- a processor that is left
 

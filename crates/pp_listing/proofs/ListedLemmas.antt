@@ -20,7 +20,7 @@ use Rattle.pp_listing.specs.Listing.{instruction_lines, start_line}
 use Rattle.pp_listing.proofs.InstructionLemmas.{among_at, among_before, instructions_all, instructions_hold, start_all}
 use Rattle.pp_channel.specs.ChannelNo.{all_channels, channel_count, channel_number}
 use Rattle.pp_machine.specs.PpNo.{all_processors, names_processor}
-use Rattle.pp_machine.specs.ProcessorPlaces as processor_places
+use Rattle.pp_machine.specs.ProcessorPlaces.{processor_fits, numbers_of_processors}
 
 -- how many numbers of two octal digits there are
 pub number_count : ℕ
@@ -28,13 +28,13 @@ number_count = 0o100
 
 pub processor_counts : (n : ℕ) → IsTrue (names_processor n) → n < number_count
 unfolding number_count
-processor_counts n names = omega (arith, processor_places.number_fits n names)
+processor_counts n names = omega (arith, processor_fits n names)
 
 -- the sections of all processors are those of all numbers, where only processors are named
 pub sections_by_number : (named : ℕ → Bool) (body : ℕ → List Line) → ((n : ℕ) → (IsTrue (names_processor n) → ⊥) → named n ≡ false) → flat_map (section_if named body) all_processors ≡ flat_map (section_if named body) (range_with_len 0 number_count)
 unfolding number_count
 sections_by_number named body none =
-    processor_places.numbers_of_processors (section_if named body) (λ n out. ap (λ (b : Bool). cond b (section n ∷ body n) []) (none n out))
+    numbers_of_processors (section_if named body) (λ n out. ap (λ (b : Bool). cond b (section n ∷ body n) []) (none n out))
 
 -- a test of each place is one of each channel
 pub any_by_place : (test : ℕ → Bool) → list_any (λ place. test (channel_number place)) (range_with_len 0 channel_count) ≡ list_any test all_channels

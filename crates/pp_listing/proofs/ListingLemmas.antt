@@ -8,13 +8,13 @@ use Rattle.std.proofs.lemmas.List.Elements.{All-cons, All-nil}
 use Rattle.std.proofs.lemmas.List.Folds.{list_any_at, list_any_none}
 use Rattle.pp_word.specs.Tables.{tabulate, length-tabulate, get_or-tabulate, tabulate_const, tabulate_is}
 use Rattle.pp_channel.specs.ChannelNo.{all_channels, channel_count, channel_index, channel_number, names_channel}
-use Rattle.pp_channel.specs.ChannelPlaces as channel_places
+use Rattle.pp_channel.specs.ChannelPlaces.{channel_places}
 use Rattle.pp_machine.specs.MachineState.{MachineState, new_machine, processor_of, is_opened}
 use Rattle.pp_machine.specs.DeadStart.{waiting_on}
 use Rattle.pp_machine.specs.Central.{IsCentral}
 use Rattle.pp_machine.specs.PpMemory.{empty_memory}
 use Rattle.pp_machine.specs.Processor.{Processor, IsProcessor, new_processor, no_processor, word_at}
-use Rattle.pp_machine.specs.ProcessorPlaces.{number_named, place_of_number}
+use Rattle.pp_machine.specs.ProcessorPlaces.{processor_places}
 use Rattle.pp_word.specs.Address.{place_count}
 use Rattle.pp_word.specs.GrowingLists.{last_of}
 use Rattle.std.proofs.lemmas.Grind.{get_or_default_zero}
@@ -216,16 +216,16 @@ module _ (profile : Profile) (deck set : LoadedDeck) (h : IsSet profile deck set
   processors_again : each_processor (processor_loaded profile parts) ≡ set.machine.processors
   processors_again =
       sym (tabulate_is no_processor set.machine.processors processor_count (λ place. processor_loaded profile parts (processor_number place)) h.each_processor
-      (λ place lt. let n = processor_number place in sym (processor_again n (number_named place lt) (names_of deck n) refl ∙ ap (λ (i : ℕ). get_or set.machine.processors i no_processor) (place_of_number place lt))))
+      (λ place lt. let n = processor_number place in sym (processor_again n (processor_places.number_named place lt) (names_of deck n) refl ∙ ap (λ (i : ℕ). get_or set.machine.processors i no_processor) (processor_places.place_of_number place lt))))
 
   names_again : each_processor (load.is_named parts) ≡ deck.named
   unfolding parts names_of
   names_again =
       sym (tabulate_is false deck.named processor_count (λ place. load.is_named parts (processor_number place)) h.each_name
       (λ place lt. sym
-      (named_held deck.machine.central (dead_of deck) (names_of deck) (processors_of deck) (processor_number place) (processor_counts (processor_number place) (number_named place lt))
-      ∙ ap (λ (b : Bool). b && get_or deck.named (processor_index (processor_number place)) false) (number_named place lt)
-      ∙ ap (λ (i : ℕ). get_or deck.named i false) (place_of_number place lt))))
+      (named_held deck.machine.central (dead_of deck) (names_of deck) (processors_of deck) (processor_number place) (processor_counts (processor_number place) (processor_places.number_named place lt))
+      ∙ ap (λ (b : Bool). b && get_or deck.named (processor_index (processor_number place)) false) (processor_places.number_named place lt)
+      ∙ ap (λ (i : ℕ). get_or deck.named i false) (processor_places.place_of_number place lt))))
 
   central_again : central_loaded (length deck.machine.central) parts ≡ deck.machine.central
   unfolding parts

@@ -25,7 +25,7 @@ use Rattle.pp_word.specs.Address.{place_count}
 use Rattle.pp_machine.specs.Profile.{has_processor}
 use Rattle.pp_machine.specs.ProfilePlaces.{processor_named}
 use Rattle.pp_word.specs.Numeral.{octal, short_octal}
-use Rattle.pp_machine.specs.ProcessorPlaces.{number_fits}
+use Rattle.pp_machine.specs.ProcessorPlaces.{processor_fits}
 
 -- ---- numbers
 
@@ -67,7 +67,7 @@ central_words_read profile size a ws b s below small le =
 pub section_read : (profile : Profile) (size n : ℕ) (b s : Bool) → IsTrue (has_processor profile n) → line_after profile size b s (fields_said (section n)) ≡ Ok (section n)
 unfolding line_after keyword_of section_line
 section_read profile size n b s has =
-    let it = short_field 2 n (omega arith) (number_fits n (processor_named profile n has)) in
+    let it = short_field 2 n (omega arith) (processor_fits n (processor_named profile n has)) in
     let yes : has_processor profile n ≡ true = has in
     rw (it, yes) refl
 

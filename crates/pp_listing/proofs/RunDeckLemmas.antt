@@ -30,7 +30,7 @@ use Rattle.pp_machine.specs.NeedAndEffect.{need, next_step, processor_after, if_
 use Rattle.pp_machine.specs.PpMemory.{empty_memory}
 use Rattle.pp_machine.specs.PpNo.{names_processor, processor_count, processor_index, processor_number}
 use Rattle.pp_machine.specs.Processor.{Processor, IsAtRest, new_processor, no_processor}
-use Rattle.pp_machine.specs.ProcessorPlaces.{channel_of_processor, place_below, place_of_number}
+use Rattle.pp_machine.specs.ProcessorPlaces.{processor_places, channel_of_processor}
 use Rattle.pp_machine.specs.Profile.{has_processor}
 use Rattle.pp_machine.specs.Step.{Step, need_of, does, writes}
 use Rattle.pp_machine.specs.declared.need.Need.{Need}
@@ -70,7 +70,7 @@ pub record IsDeckFor (profile : Profile) (deck : LoadedDeck) : Type 0 where
   pub unused : (n : ℕ) → IsTrue (names_processor n) → is_in_use deck n ≡ false → processor_of n deck.machine ≡ new_processor profile
 
 pub processor_here : {profile : Profile} (deck : LoadedDeck) → IsDeckFor profile deck → (n : ℕ) → IsTrue (names_processor n) → IsOf profile (processor_of n deck.machine)
-processor_here deck h n named = h.processors (processor_index n) no_processor (omega (arith, place_below n named, h.each_processor))
+processor_here deck h n named = h.processors (processor_index n) no_processor (omega (arith, processor_places.place_below n named, h.each_processor))
 
 -- ---- what a step needs and is answered
 
@@ -220,7 +220,7 @@ module _ (profile : Profile) where
   started_processors true deck long all =
       let waiting = waits (unnamed_in deck.machine.profile deck.named) in
       all_tabulate (IsOf profile) processor_count (λ place. processor_started waiting deck.machine (processor_number place))
-      (λ place below. let n = processor_number place in waits_with (waiting n) n (processor_of n deck.machine) (all (processor_index n) no_processor (omega (arith, below, place_of_number place below, long))))
+      (λ place below. let n = processor_number place in waits_with (waiting n) n (processor_of n deck.machine) (all (processor_index n) no_processor (omega (arith, below, processor_places.place_of_number place below, long))))
   started_processors false deck long all = all
 
   opened_words : (b : Bool) (h : List Event) → HasTwelveBitWords h → HasTwelveBitWords (cond b (events.Activate ∷ []) h)

@@ -7,7 +7,7 @@ use Rattle.std.specs.List.{range_with_len}
 use Rattle.std.proofs.lemmas.Bool.{cases_Bool, cases_lt}
 use Rattle.std.proofs.lemmas.List.{append-nil, length-append, nil_from_length, get_or-take, get_or_past, length-set, length-take}
 use Rattle.std.proofs.lemmas.List.FromFn.{length-map-range_with_len, get_or-map-range_with_len, fill_by_all}
-use Rattle.pp_channel.specs.ChannelPlaces as channel_places
+use Rattle.pp_channel.specs.ChannelPlaces.{channel_places}
 use Rattle.pp_channel.specs.ChannelNo.{channel_count, channel_index, channel_number, names_channel}
 use Rattle.pp_channel.specs.History.{IsLawful}
 use Rattle.pp_channel.specs.Law.{KeepsLaw}
@@ -17,7 +17,7 @@ use Rattle.pp_machine.specs.DeadStart.{IsBeforeFirstTurn, waiting_on, waits, pro
 use Rattle.pp_machine.specs.Headline.{HoldsOnChannel, HoldsOnEachChannel, events_on, opening_history, IsMachine}
 use Rattle.pp_machine.specs.MachineState.{MachineState, processor_of, history_of, is_opened}
 use Rattle.pp_machine.specs.Processor.{Processor, no_processor}
-use Rattle.pp_machine.specs.ProcessorPlaces as processor_places
+use Rattle.pp_machine.specs.ProcessorPlaces.{processor_places, channel_of_processor}
 use Rattle.pp_machine.specs.PpNo.{names_processor, processor_count, processor_index, processor_number}
 
 -- a front of a list, at any place but the next
@@ -101,7 +101,7 @@ unfolding processors_started histories_started opened_where
 started_more p q m n named not_yet now same =
     let i = processor_index n in
     let j = channel_index n in
-    let channel = processor_places.channel_of_processor n named in
+    let channel = channel_of_processor n named in
     let f : ℕ → Processor = λ place. processor_started p m (processor_number place) in
     let f' : ℕ → Processor = λ place. processor_started q m (processor_number place) in
     let old : processor_of n (started p m) ≡ processor_of n m =
@@ -138,7 +138,7 @@ pub still_unused : (place : ℕ) (bs : List Bool) (m : MachineState) → place <
 unfolding processors_started histories_started opened_where
 still_unused place bs m below before =
     let n = processor_number place in
-    let channel = processor_places.channel_of_processor n (processor_places.number_named place below) in
+    let channel = channel_of_processor n (processor_places.number_named place below) in
     let g : ℕ → List Event = λ k. history_started (waits (take place bs)) m (channel_number k) in
     get_or-map-range_with_len g 0 channel_count (channel_index n) (channel_index n) [] (channel_places.place_below n channel) (omega arith)
     ∙ (ap (history_started (waits (take place bs)) m) (channel_places.number_of_place n channel)
@@ -154,7 +154,7 @@ none_behind xs ys none =
 pub headline_after_opening : (m : MachineState) (n : ℕ) (own : List Event) → IsTrue (names_processor n) → history_of n m ≡ [] → own ≡ Activate ∷ [] → IsLawful own → KeepsLaw own → IsMachine m → HoldsOnEachChannel (with_waiting n m)
 headline_after_opening m n own named unused is lawful law machine c names =
     let j = channel_index n in
-    let channel = processor_places.channel_of_processor n named in
+    let channel = channel_of_processor n named in
     let within : j < length m.histories = omega (arith, channel_places.place_below n channel, machine.channels) in
     let within_opened : j < length m.opened = omega (arith, channel_places.place_below n channel, machine.opened) in
     let after = with_waiting n m in

@@ -2,12 +2,12 @@
 use Rattle.std.proofs.Common.{◌≡◌, ℕ, suc, ◌+◌, ◌*◌, ◌/◌, ◌%◌, ◌<◌, ◌≤◌, ap, ◌∙◌, arith}
 use Rattle.std.specs.Prelude.{◌↔◌, IsTrue}
 use Rattle.pp_channel.specs.ChannelNo.{channel_count, names_channel}
-use Rattle.pp_channel.specs.ChannelPlaces as channels
+use Rattle.pp_channel.specs.ChannelPlaces.{channel_places}
 use Rattle.pp_machine.specs.PpNo.{processor_index, processor_number}
 use Rattle.pp_machine.specs.Profile.{processors_in, channels_in, has_channel, processor_in_turn}
 use Rattle.pp_machine.specs.declared.profile.Profile.{Profile}
 use Rattle.pp_machine.specs.declared.profile.Profile.TheVariants.{Ten, Twenty}
-use Rattle.pp_machine.specs.ProcessorPlaces.{place_of_number}
+use Rattle.pp_machine.specs.ProcessorPlaces.{processor_places}
 use Rattle.pp_machine.specs.ProfilePlaces.{most_processors}
 
 pub most_channels : (p : Profile) → channels_in p ≤ channel_count
@@ -16,13 +16,13 @@ most_channels Twenty = omega arith
 
 pub channel_named : (p : Profile) (c : ℕ) → IsTrue (has_channel p c) → IsTrue (names_channel c)
 unfolding has_channel
-channel_named p c has = let most = most_channels p in channels.named_below c (grind (arith))
+channel_named p c has = let most = most_channels p in channel_places.named_below c (grind (arith))
 
 -- the channels of each profile by number
 pub channels_of_ten : (c : ℕ) → IsTrue (has_channel Ten c) ↔ (c < 0o14)
 unfolding has_channel
 channels_of_ten c =
-    (λ has. channels.low_number c (grind (arith, has)), λ below. let place = channels.low_place c below in grind (arith))
+    (λ has. channel_places.low_number c (grind (arith, has)), λ below. let place = channel_places.low_place c below in grind (arith))
 
 -- numbers that are small enough name one
 pub small_channels : (c : ℕ) → c < 0o14 → IsTrue (names_channel c)
@@ -30,7 +30,7 @@ small_channels c below = channel_named Ten c ((channels_of_ten c).1 below)
 
 pub channels_of_twenty : (c : ℕ) → IsTrue (has_channel Twenty c) ↔ IsTrue (names_channel c)
 unfolding has_channel
-channels_of_twenty c = (λ has. channel_named Twenty c has, λ names. let below = channels.place_below c names in grind (arith))
+channels_of_twenty c = (λ has. channel_named Twenty c has, λ names. let below = channel_places.place_below c names in grind (arith))
 
 -- turns within the first round come in the order of places
 pub place_in_turn : (p : Profile) (turn : ℕ) → turn < processors_in p → turn % processors_in p ≡ turn
@@ -43,7 +43,7 @@ in_turn_at p place within = ap processor_number (place_in_turn p place within)
 pub index_in_turn : (p : Profile) (place : ℕ) → place < processors_in p → processor_index (processor_in_turn p place) ≡ place
 index_in_turn p place within =
     let most = most_processors p in
-    ap processor_index (in_turn_at p place within) ∙ place_of_number place (omega arith)
+    ap processor_index (in_turn_at p place within) ∙ processor_places.place_of_number place (omega arith)
 
 -- after whole rounds the barrel begins anew
 pub place_in_round : (p : Profile) (rounds turn : ℕ) → (rounds * processors_in p + turn) % processors_in p ≡ turn % processors_in p

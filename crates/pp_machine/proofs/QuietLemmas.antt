@@ -27,7 +27,7 @@ use Rattle.pp_machine.specs.declared.need.Need.{Need}
 use Rattle.pp_machine.specs.declared.need.Need.TheVariants.{Nothing, Local, Channel, Read, Write}
 use Rattle.pp_machine.specs.declared.answer.Answer.TheVariants as answers
 use Rattle.pp_machine.specs.declared.profile.Profile.{Profile}
-use Rattle.pp_machine.specs.ProcessorPlaces.{place_of_number}
+use Rattle.pp_machine.specs.ProcessorPlaces.{processor_places}
 use Rattle.pp_machine.specs.ProfilePlaces.{most_processors}
 use Rattle.pp_machine.proofs.ProfileLemmas.{in_turn_at, no_rounds, next_round}
 use Rattle.pp_machine.proofs.StepLemmas.{nothing_at_rest, rest_changes_nothing}
@@ -114,7 +114,7 @@ round_to p (suc place) m ps t within bound quiet =
     let n = processor_number place in
     let most = most_processors p in
     let turn : processor_in_turn p place ≡ n = in_turn_at p place (omega arith) in
-    let here : processor_index n ≡ place = place_of_number place (omega arith) in
+    let here : processor_index n ≡ place = processor_places.place_of_number place (omega arith) in
     let u = min (t + place) (2 ^ 64 - 1) in
     let count : counted u ≡ min (t + suc place) (2 ^ 64 - 1) = omega arith in
     let pp = get_or ps place no_processor in

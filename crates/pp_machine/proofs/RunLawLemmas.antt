@@ -11,7 +11,7 @@ use Rattle.pp_channel.specs.History.{IsLawful}
 use Rattle.pp_channel.specs.declared.chan_op.ChanOp.{ChanOp}
 use Rattle.pp_channel.specs.declared.event.Event.{Event}
 use Rattle.pp_channel.proofs.AnswerLemmas.{lawful_with_event}
-use Rattle.pp_channel.specs.ChannelPlaces.{place_below, one_place, place_past}
+use Rattle.pp_channel.specs.ChannelPlaces.{channel_places}
 use Rattle.pp_channel.proofs.LawLemmas.{law_of_lawful}
 use Rattle.pp_machine.specs.Headline.{HoldsOnChannel, HoldsOnEachChannel, events_on, opening_history}
 use Rattle.pp_machine.specs.MachineState.{MachineState, processor_of, history_of}
@@ -47,7 +47,7 @@ elsewhere d trace entry apart =
 -- a number that names no channel
 unnamed : (n c : ℕ) (m : MachineState) (e : Event) → length m.histories ≡ channel_count → (IsTrue (names_channel c) → ⊥) → HoldsOnEachChannel m → Leaves n c m (Some e)
 unnamed n c m e each none h d names =
-    let past : channel_count ≤ channel_index c = place_past c none in
+    let past : channel_count ≤ channel_index c = channel_places.place_past c none in
     let apart : c ≢ d = λ is. none (subst (λ (x : ℕ). IsTrue (names_channel x)) (sym is) names) in
     let same : slice_set m.histories (channel_index c) (history_of c m ++ e ∷ []) ≡ m.histories = set_past m.histories (channel_index c) (history_of c m ++ e ∷ []) (omega (arith, each, past)) in
     subst (λ (hs : List (List Event)). HoldsOnChannel (opening_history d m) (events_on d (m.trace ++ entry_of n c m e ∷ [])) (get_or hs (channel_index d) [])) (sym same)
@@ -55,12 +55,12 @@ unnamed n c m e each none h d names =
 
 on_channel : (n c : ℕ) (op : ChanOp) (m : MachineState) (e : Event) → length m.histories ≡ channel_count → (b : Bool) → names_channel c ≡ b → event_of op (history_of c m) ≡ Some e → HoldsOnEachChannel m → Leaves n c m (Some e)
 on_channel n c op m e each true is made h =
-    let within : channel_index c < length m.histories = omega (arith, each, place_below c is) in
+    let within : channel_index c < length m.histories = omega (arith, each, channel_places.place_below c is) in
     let lawful : IsLawful (history_of c m ++ e ∷ []) = lawful_with_event (history_of c m) op e (h c is).lawful made in
     let after = slice_set m.histories (channel_index c) (history_of c m ++ e ∷ []) in
     let here : get_or after (channel_index c) [] ≡ history_of c m ++ e ∷ [] = get_or-set_same m.histories (channel_index c) (history_of c m ++ e ∷ []) [] within in
     let lawful_here : IsLawful (get_or after (channel_index c) []) = subst IsLawful (sym here) lawful in
-    headline_after_event (λ d. opening_history d m) m.histories after m.trace (entry_of n c m e) refl within is (λ d names same. one_place c d is same) h
+    headline_after_event (λ d. opening_history d m) m.histories after m.trace (entry_of n c m e) refl within is (λ d names same. channel_places.one_place c d is same) h
     lawful_here (law_of_lawful (get_or after (channel_index c) []) lawful_here)
 on_channel n c op m e each false is made h = unnamed n c m e each (λ named. let never : true ≡ false = sym named ∙ is in absurd (cc)) h
 

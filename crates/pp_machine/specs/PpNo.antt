@@ -2,7 +2,8 @@
 -- its place are two things: proofs know of them what ProcessorPlaces says. (Manual 60100000,
 -- peripheral processors: ten, numbered 0 to 11 (octal), which take turns in a barrel. A machine of
 -- twenty has ten more, numbered 20 to 31, which follow them in the barrel.)
-use Rattle.std.specs.Prelude.{ℕ, ◌+◌, ◌-◌, ◌&&◌, ◌||◌, Bool, false, List, nat_lt, slice_index_or, if◌then◌else◌}
+use Rattle.std.specs.Prelude.{ℕ, ◌&&◌, Bool, false, List, slice_index_or}
+use Rattle.pp_word.specs.GappedNumbers.{is_number, index_of, number_of}
 use Rattle.pp_word.specs.Tables.{tabulate}
 
 -- the number of processors
@@ -11,17 +12,15 @@ processor_count = 0o24
 
 -- whether a number is that of a processor
 unfoldable pub names_processor : ℕ → Bool
-names_processor number = nat_lt number 0o12 || (nat_lt 0o17 number && nat_lt number 0o32)
+names_processor = is_number 0o12 6
 
 -- the place of the processor with this number in a list of all; past its end if it names none
 unfoldable pub processor_index : ℕ → ℕ
-processor_index number =
-    if nat_lt number 0o12 then number else if nat_lt number 0o20 then processor_count
-    else number - 6
+processor_index = index_of 0o12 6
 
 -- the number of the processor at a place
 unfoldable pub processor_number : ℕ → ℕ
-processor_number place = if nat_lt place 0o12 then place else place + 6
+processor_number = number_of 0o12 6
 
 -- something for each processor, in the order of the barrel
 abbrev pub each_processor : {A : Type 0} → (ℕ → A) → List A

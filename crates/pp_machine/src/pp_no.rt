@@ -19,7 +19,7 @@ impl Model for PpNo {
     ghost use Rattle.std.specs.Prelude.{ℕ, IsTrue};
     ghost use Rattle.std.proofs.Common.{ap};
     ghost use Rattle.pp_machine.specs.PpNo.{names_processor, processor_index, processor_number};
-    ghost use Rattle.pp_machine.specs.ProcessorPlaces.{place_again};
+    ghost use Rattle.pp_machine.specs.ProcessorPlaces.{processor_places};
 
     ghost Value = { ℕ };
 
@@ -29,13 +29,13 @@ impl Model for PpNo {
 
     ghost inverse = { λ n. record { place = processor_index n } };
 
-    ghost inverse_ok = { λ n names. ap (λ k. record { place = k }) (place_again n.place names) };
+    ghost inverse_ok = { λ n names. ap (λ k. record { place = k }) (processor_places.place_again n.place names) };
 }
 
 impl PpNo {
     /// The processor of this number, or nothing from 12 to 17 (octal) and from 32 on.
     #[tactic(auto, unfolding(crate::specs::PpNo::names_processor, // which numbers there are
-    crate::specs::PpNo::processor_number))]
+    crate::specs::PpNo::processor_number, pp_word::specs::GappedNumbers::is_number, pp_word::specs::GappedNumbers::number_of))]
     pub fn new(number: u8) -> Option<Self>
         ensures exists { IsSome result ↔ IsTrue (names_processor number) }
         ensures value { IfSome result (λ n. n ≡ number) }
@@ -50,7 +50,7 @@ impl PpNo {
 
     /// Its number.
     #[tactic(auto, unfolding(crate::specs::PpNo::names_processor, // which numbers there are
-    crate::specs::PpNo::processor_number))]
+    crate::specs::PpNo::processor_number, pp_word::specs::GappedNumbers::is_number, pp_word::specs::GappedNumbers::number_of))]
     pub fn get(self) -> u8
         ensures value { result ≡ self }
         ensures names { IsTrue (names_processor result) }
@@ -63,7 +63,7 @@ impl PpNo {
     }
 
     /// Its place in a list of all processors in the barrel's order.
-    #[tactic(auto, using(crate::specs::ProcessorPlaces::places_of_numbers))]
+    #[tactic(auto, using(crate::specs::ProcessorPlaces::processor_places))]
     pub fn index(self) -> usize
         ensures place { result ≡ processor_index self }
         ensures below { result < processor_count }
@@ -74,7 +74,7 @@ impl PpNo {
     }
 
     /// The processor at a place in the barrel's order.
-    #[tactic(auto, using(crate::specs::ProcessorPlaces::numbers_of_places))]
+    #[tactic(auto, using(crate::specs::ProcessorPlaces::processor_places))]
     pub fn at(place: usize) -> Self
         requires { place < processor_count }
         ensures number { result ≡ processor_number place }
@@ -84,7 +84,7 @@ impl PpNo {
     }
 
     /// The processor at the next place of twenty; after the last comes the first.
-    #[tactic(auto, using(crate::specs::ProcessorPlaces::place_below))]
+    #[tactic(auto, using(crate::specs::ProcessorPlaces::processor_places))]
     pub fn next(self) -> Self
         ensures { result ≡ processor_number ((processor_index self + 1) % processor_count) }
     {

@@ -7,8 +7,9 @@ use Rattle.std.proofs.lemmas.List.Elements.{All-cons, All-nil, All-replicate}
 use Rattle.std.proofs.lemmas.List.Kept.{AllPairs-cons}
 use Rattle.pp_word.specs.Subsequence.{IsSubsequence}
 use Rattle.pp_word.specs.Subsequences.{stands_after, stands_through, stands_whole}
+use Rattle.pp_word.specs.GappedNumbers.{index_of, is_number}
 use Rattle.pp_channel.specs.ChannelNo.{channel_index, names_channel}
-use Rattle.pp_channel.specs.ChannelPlaces.{one_place}
+use Rattle.pp_channel.specs.ChannelPlaces.{channel_places}
 use Rattle.pp_channel.specs.History.{AreHistories, HasTwelveBitWord, HasTwelveBitWords, IsLawful, history_on}
 use Rattle.pp_line.specs.LineLog.{IsFollowedBy, IsMonotone, event_entry}
 use Rattle.pp_line.specs.Merge.{IsTrueOf, Merges, no_opening, times_logged}
@@ -91,11 +92,11 @@ never_elsewhere c number first second = rw (ne_eqb 1 c (λ is. first (sym is)), 
 
 -- the history of each channel
 on_first : history_on 1 histories_of_circle ≡ first_history
-unfolding channel_index
+unfolding channel_index index_of
 on_first = refl
 
 on_second : history_on 2 histories_of_circle ≡ second_history
-unfolding channel_index
+unfolding channel_index index_of
 on_second = refl
 
 at_place : (place : ℕ) → place ≢ 1 → place ≢ 2 → get_or histories_of_circle place [] ≡ []
@@ -105,12 +106,12 @@ at_place (suc (suc zero)) first second = absurd (second refl)
 at_place (suc (suc (suc k))) first second = same_everywhere 21 k []
 
 first_place : (c : ℕ) → channel_index c ≡ 1 → c ≡ 1
-unfolding channel_index names_channel
-first_place c is = one_place 1 c refl is
+unfolding channel_index names_channel index_of is_number
+first_place c is = channel_places.one_place 1 c refl is
 
 second_place : (c : ℕ) → channel_index c ≡ 2 → c ≡ 2
-unfolding channel_index names_channel
-second_place c is = one_place 2 c refl is
+unfolding channel_index names_channel index_of is_number
+second_place c is = channel_places.one_place 2 c refl is
 
 on_others : (c : ℕ) → c ≢ 1 → c ≢ 2 → history_on c histories_of_circle ≡ []
 on_others c first second = at_place (channel_index c) (λ is. first (first_place c is)) (λ is. second (second_place c is))
@@ -135,7 +136,7 @@ entries_true x y z more first second third rest =
     All-cons P x (y ∷ z ∷ more) first (All-cons P y (z ∷ more) second (All-cons P z more third rest))
 
 all_true : All (IsTrueOf histories_of_circle) both_logs
-unfolding channel_index
+unfolding channel_index index_of
 all_true =
     entries_true (event_entry 1 0 Event.Activate) (event_entry 1 2 (Event.Take 5)) (event_entry 2 1 (Event.Put 7)) other_log refl refl refl
     (entries_true (event_entry 2 0 Event.Activate) (event_entry 2 2 (Event.Take 7)) (event_entry 1 1 (Event.Put 5)) [] refl refl refl (All-nil (IsTrueOf histories_of_circle)))

@@ -6,7 +6,7 @@ use Rattle.std.proofs.lemmas.List.{get_or_default, get_or_past}
 use Rattle.pp_machine.specs.MachineState.{MachineState, processor_of}
 use Rattle.pp_machine.specs.PpNo.{processor_count, processor_index}
 use Rattle.pp_machine.specs.Processor.{Processor, IsAtRest, no_processor}
-use Rattle.pp_machine.specs.ProcessorPlaces.{named_below}
+use Rattle.pp_machine.specs.ProcessorPlaces.{processor_places}
 use Rattle.pp_machine.specs.Profile.{has_processor, processors_in}
 use Rattle.pp_machine.specs.declared.pp_state.PpState.TheVariants.{Running, Stopped}
 use Rattle.pp_machine.specs.declared.profile.Profile.{Profile}
@@ -42,7 +42,7 @@ lacked_rests lines deck holds names n past =
     let lacks : IsTrue (has_processor p n) → ⊥ = λ has. let within = inside p n has in omega (arith, within, past) in
     ⊎_elim
     (λ (below : processor_index n < processor_count).
-    let named = named_below n below in
+    let named = processor_places.named_below n below in
     let never : (k : ℕ) (x : Registers) → k < length lines → IsFor lines k n × Starts (line_of lines k) x → ⊥ = λ k x within sets.
     let heading = sets.0 in
     let at : slice_index_or lines heading.heading (section n) ≡ section n =

@@ -10,7 +10,7 @@ use Rattle.std.proofs.lemmas.List.Elements.{All-append, All-cons, All-nil}
 use Rattle.std.proofs.lemmas.List.Sums.{fold-append}
 use Rattle.pp_channel.specs.Answer.{event_of, reply_to}
 use Rattle.pp_channel.specs.ChannelNo.{channel_count, channel_index, names_channel}
-use Rattle.pp_channel.specs.ChannelPlaces.{place_below, one_place}
+use Rattle.pp_channel.specs.ChannelPlaces.{channel_places}
 use Rattle.pp_channel.specs.History.{history_on}
 use Rattle.pp_report.specs.Types.{Answer, ChanOp, Event, Moved, Need, Profile, Reply}
 use Rattle.pp_machine.specs.MachineState.{MachineState, processor_of, history_of}
@@ -18,7 +18,7 @@ use Rattle.pp_machine.specs.MachineStep.{stepped, step_outcome, answer_to, histo
 use Rattle.pp_machine.specs.NeedAndEffect.{need, outcome, processor_after}
 use Rattle.pp_machine.specs.PpNo.{processor_index, processor_number}
 use Rattle.pp_machine.specs.Processor.{Processor, no_processor}
-use Rattle.pp_machine.specs.ProcessorPlaces.{number_at, place_of_number}
+use Rattle.pp_machine.specs.ProcessorPlaces.{processor_places, number_at}
 use Rattle.pp_machine.specs.Profile.{has_processor, processors_in}
 use Rattle.pp_machine.specs.ProfilePlaces.{has_at, most_processors}
 use Rattle.pp_machine.specs.Run.{run}
@@ -116,7 +116,7 @@ leads_step size p one two place x past later inside moved serves next given fewe
     let pps = one.pps in
     let most = most_processors p in
     let n = processor_number place in
-    let at : processor_index n ≡ place = place_of_number place (omega (arith, inside, most)) in
+    let at : processor_index n ≡ place = processor_places.place_of_number place (omega (arith, inside, most)) in
     let pp : processor_of n m ≡ get_or pps place no_processor = λ j. get_or (stands.processors j) (at j) no_processor in
     let answer : answer_to (need (processor_of n m)) m ≡ x = ap (λ q. answer_to (need q) m) pp ∙ serves.answers_so m pps stands in (
       n ∷ [],
@@ -171,11 +171,11 @@ serves_event size c op reply e past later names replied made here elsewhere word
       channels = λ m pps stands. ap length (after m pps stands) ∙ (length-set m.histories (channel_index c) (past.happened c ++ e ∷ []) ∙ stands.channels);
       histories = λ m pps stands d. ap (history_on d) (after m pps stands) ∙ elim (cases_eq c d) [
         | inl same ↦
-            let below = place_below c names in
+            let below = channel_places.place_below c names in
             let written : history_on c (set m.histories (channel_index c) (past.happened c ++ e ∷ [])) ≡ past.happened c ++ e ∷ [] = get_or-set_same m.histories (channel_index c) (past.happened c ++ e ∷ []) [] (omega (arith, below, stands.channels)) in
             subst (λ (k : ℕ). history_on k (set m.histories (channel_index c) (past.happened c ++ e ∷ [])) ≡ later.happened k) same (written ∙ sym here)
         | inr other ↦
-            get_or-set_other m.histories (channel_index c) (channel_index d) (past.happened c ++ e ∷ []) [] (λ is. other (sym (one_place c d names is)))
+            get_or-set_other m.histories (channel_index c) (channel_index d) (past.happened c ++ e ∷ []) [] (λ is. other (sym (channel_places.one_place c d names is)))
             ∙ (stands.histories d ∙ sym (elsewhere d other))
       ];
       central = λ m pps stands. stands.central ∙ words;

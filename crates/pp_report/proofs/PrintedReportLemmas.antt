@@ -5,7 +5,7 @@ use Rattle.std.specs.List.{AllByRecursion, cons_option, enumerate_from, filter_m
 use Rattle.std.proofs.lemmas.Bool.{cases_eq}
 use Rattle.std.proofs.lemmas.List.{append-nil, length_push}
 use Rattle.std.proofs.lemmas.List.Elements.{All-head, All-tail}
-use Rattle.pp_channel.specs.ChannelPlaces as channel_places
+use Rattle.pp_channel.specs.ChannelPlaces.{channel_fits}
 use Rattle.pp_channel.proofs.FrontLemmas.{lawful_front}
 use Rattle.pp_channel.proofs.EachHistory.{lawful_on}
 use Rattle.pp_channel.specs.ChannelNo.{all_channels, names_channel}
@@ -266,7 +266,7 @@ module _ {Z : Type 0} (named : List Bool) (report : Report Z) (opened : List Boo
 
       by_name : (events : List TraceLine) (c : ℕ) → (c < 0o100 → IsTrue (names_channel c) → history opened events c ≡ history_on c report.channels) → (b : Bool) → names_channel c ≡ b → AllByRecursion (Shows opened events) (if b then state_lines c (history_on c report.channels) else [])
       by_name events c told false unnamed = tt
-      by_name events c told true names = history_shows opened events c (history_on c report.channels) (told (channel_places.number_fits c names) names) (is.lawful c names)
+      by_name events c told true names = history_shows opened events c (history_on c report.channels) (told (channel_fits c names) names) (is.lawful c names)
 
   pub report_lawful : AreLawful opened (lines_of (printed_report named report))
   unfolding all_events
@@ -280,7 +280,7 @@ module _ {Z : Type 0} (named : List Bool) (report : Report Z) (opened : List Boo
   report_histories c names =
       ap (λ (lines : List TraceLine). history opened lines c) text_says
       ∙ ap (λ (more : List Event). opening opened c ++ more) (events_both c all_events shown_lines ∙ ap (λ (more : List Event). events_on c all_events ++ more) (none_shown opened all_events shown_lines c all_shown) ∙ append-nil (events_on c all_events))
-      ∙ (tell_below 0o100).told c (channel_places.number_fits c names) names
+      ∙ (tell_below 0o100).told c (channel_fits c names) names
 
 -- ---- a report of a run
 

@@ -7,7 +7,7 @@ use Rattle.std.proofs.lemmas.List.{append-nil}
 use Rattle.std.proofs.lemmas.List.Elements.{All-append, All-cons, All-head, All-nil, All-tail, filter-append, filter_map-append}
 use Rattle.std.proofs.Math.Seq.{drop-append_seam, drop-nil}
 use Rattle.pp_channel.specs.ChannelNo.{names_channel}
-use Rattle.pp_channel.specs.ChannelPlaces as channel_places
+use Rattle.pp_channel.specs.ChannelPlaces.{channel_fits}
 use Rattle.pp_channel.specs.History.{IsLawful, active, waiting, history_on}
 use Rattle.pp_line.specs.Merge.{Merges}
 use Rattle.pp_report.specs.Types.{End, Event, Report, Worker}
@@ -15,7 +15,7 @@ use Rattle.pp_channel.proofs.EachHistory.{lawful_on}
 use Rattle.pp_machine.specs.Headline.{opening_history}
 use Rattle.pp_machine.specs.MachineState.{MachineState, is_opened}
 use Rattle.pp_machine.specs.PpNo.{names_processor, processor_index, processor_number, is_named}
-use Rattle.pp_machine.specs.ProcessorPlaces as processor_places
+use Rattle.pp_machine.specs.ProcessorPlaces.{processor_fits}
 use Rattle.pp_runner.specs.End.{HasEndNumber}
 use Rattle.pp_runner.specs.declared.end.End.TheVariants.{Stopped, Fault, Steps, Patience, Memory, Worn}
 use Rattle.pp_runner.specs.WorkerReport.{logs_of}
@@ -42,7 +42,7 @@ told_body c t = codes "CH" ++ (octal 2 c ++ (codes " " ++ (decimal t.number ++ (
 same_told_tail : (t u : PrintedEvent) → FitsItsLine t → FitsItsLine u → told_tail t ≡ told_tail u → (t.author ≡ u.author) × (t.event ≡ u.event)
 unfolding told_tail
 same_told_tail t u fits also e = (
-  octal_tells 2 t.author u.author (processor_places.number_fits t.author fits.author) (processor_places.number_fits u.author also.author) (ap (λ l. take 2 (drop 2 l)) e),
+  octal_tells 2 t.author u.author (processor_fits t.author fits.author) (processor_fits u.author also.author) (ap (λ l. take 2 (drop 2 l)) e),
   same_event t.event u.event fits.word also.word (ap (drop 5) e),
 )
 
@@ -394,7 +394,7 @@ tells_events : {Y Z : Type 0} (named others : List Bool) (one : Report Y) (other
     → printed_report named one ≡ printed_report others other → printed_on c one ≡ printed_on c other
 unfolding events_lines
 tells_events {Y} {Z} named others one other c is fits also e =
-    let within = channel_places.number_fits c is in
+    let within = channel_fits c is in
     let lines = sym (among_events named one c within) ∙ ap (filter (has_key (1067432 + c))) (same_lines named others one other e) ∙ among_events others other c within in
     same_tellings c (printed_on c one) (printed_on c other) fits also (where_named (names_channel c) (map (told_body c) (printed_on c one)) (map (told_body c) (printed_on c other)) is lines)
 
@@ -417,7 +417,7 @@ tells_state : {Y Z : Type 0} (named others : List Bool) (one : Report Y) (other 
     → printed_report named one ≡ printed_report others other → ShowSameChannel (history_on c one.channels) (history_on c other.channels)
 unfolding channels
 tells_state {Y} {Z} named others one other c is small also e =
-    let within = channel_places.number_fits c is in
+    let within = channel_fits c is in
     used_alike (names_channel c) c (history_on c one.channels) (history_on c other.channels) is
     (sym (among_states named one c within) ∙ ap (filter (has_key (67432 + c))) (same_lines named others one other e) ∙ among_states others other c within) small also
 

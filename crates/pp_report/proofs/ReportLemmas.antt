@@ -10,7 +10,7 @@ use Rattle.std.proofs.lemmas.List.Sums.{sum_by-append, sum_by-cons}
 use Rattle.pp_word.specs.Subsequence.{IsSubsequence}
 use Rattle.pp_channel.specs.Answer.{event_answered}
 use Rattle.pp_channel.specs.ChannelNo.{channel_count, channel_index, channel_number, names_channel}
-use Rattle.pp_channel.specs.ChannelPlaces.{named_below, place_of_number}
+use Rattle.pp_channel.specs.ChannelPlaces.{channel_places}
 use Rattle.pp_channel.specs.History.{IsLawful, history_on}
 use Rattle.pp_line.specs.LineLog.{is_event}
 use Rattle.pp_channel.specs.Law.{IsPrefix}
@@ -208,7 +208,7 @@ no_front (x ∷ xs) ys is = absurd cc
 started : (c : ℕ) (m : MachineState) (channels : List (List Event)) → HasNotRun m → length channels ≡ channel_count → IsPrefix (opening_history c m) (history_on c channels) → history_of c m ≡ opening_history c m
 started c m channels new each begins =
     ⊎_elim
-    (λ (below : channel_index c < channel_count). new.histories c (named_below c below))
+    (λ (below : channel_index c < channel_count). new.histories c (channel_places.named_below c below))
     (λ (past : channel_count ≤ channel_index c).
     let none = get_or_past channels (channel_index c) [] (omega (arith, past, each)) in
     get_or_past m.histories (channel_index c) [] (omega (arith, past, new.channels)) ∙ sym (no_front (opening_history c m) begins.0 (begins.1 ∙ none)))
@@ -237,7 +237,7 @@ none_left others (w ∷ ws) none = omega (arith, left_cons others w ws, ap lengt
 
 same_histories : (hs gs : List (List Event)) → length hs ≡ channel_count → length gs ≡ channel_count → ((c : ℕ) → history_on c hs ≡ history_on c gs) → hs ≡ gs
 same_histories hs gs many each same = ext_get_or [] hs gs (many ∙ sym each) (λ k inside.
-    let at : channel_index (channel_number k) ≡ k = place_of_number k (omega (arith, inside, many)) in
+    let at : channel_index (channel_number k) ≡ k = channel_places.place_of_number k (omega (arith, inside, many)) in
     subst (λ (i : ℕ). get_or hs i [] ≡ get_or gs i []) at (same (channel_number k)))
 
 pub report_leaves : {A : Type 0} (limits : RunLimits) (m : MachineState) (report : Report A) → HasNotRun m → (said : IsReportOf limits m report) → (ns : List ℕ) × IsSerialRunOf ns m report said.order
@@ -252,7 +252,7 @@ report_leaves {A} limits m report new said =
     let begun : Past = record { happened = opening; words = m.central } in
     let named : (c : ℕ) → 0 < length (history c) → IsTrue (names_channel c) = λ c some.
     ⊎_elim
-    (λ (below : channel_index c < channel_count). named_below c below)
+    (λ (below : channel_index c < channel_count). channel_places.named_below c below)
     (λ (past : channel_count ≤ channel_index c). let empty = ap length (get_or_past report.channels (channel_index c) [] (omega (arith, past, said.each_channel))) in absurd (omega (arith, empty, some)))
     (cases_lt (channel_index c) channel_count) in
     let lawful : (c : ℕ) → IsLawful (history c) = λ c. lawful_on report.channels c said.lawful in

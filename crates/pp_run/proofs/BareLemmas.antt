@@ -7,7 +7,7 @@ use Rattle.pp_channel.specs.Answer.{channel_state, history_after}
 use Rattle.pp_channel.specs.ChannelNo.{channel_count, channel_index, names_channel}
 use Rattle.pp_channel.specs.declared.channel_state.ChannelState.{ChannelState}
 use Rattle.pp_channel.specs.declared.event.Event.{Event}
-use Rattle.pp_channel.specs.ChannelPlaces.{one_place, place_below}
+use Rattle.pp_channel.specs.ChannelPlaces.{channel_places}
 use Rattle.pp_machine.specs.MachineState.{MachineState, history_of, processor_of}
 use Rattle.pp_machine.specs.MachineStep.{histories_after}
 use Rattle.pp_machine.specs.Processor.{Processor, no_processor}
@@ -22,10 +22,10 @@ pub states_set : (states : List ChannelState) (histories : List (List Event)) (c
 states_set states histories c h are names as_many all = λ d named. by_number d named (cases_eq d c)
   where
     within : channel_index c < length states
-    within = omega (arith, as_many, place_below c names)
+    within = omega (arith, as_many, channel_places.place_below c names)
 
     inside : channel_index c < length histories
-    inside = omega (arith, all, place_below c names)
+    inside = omega (arith, all, channel_places.place_below c names)
 
     by_number : (d : ℕ) → IsTrue (names_channel d) → (d ≡ c) ⊎ (d ≢ c)
         → get_or (slice_set states (channel_index c) (channel_state h)) (channel_index d) (channel_state []) ≡ channel_state (get_or (slice_set histories (channel_index c) h) (channel_index d) [])
@@ -34,9 +34,9 @@ states_set states histories c h are names as_many all = λ d named. by_number d 
         ∙ get_or-set_same states (channel_index c) (channel_state h) (channel_state []) within
         ∙ ap channel_state (sym (get_or-set_same histories (channel_index c) h [] inside) ∙ ap (λ (k : ℕ). get_or (slice_set histories (channel_index c) h) (channel_index k) []) (sym same))
     by_number d named (inr other) =
-        get_or-set_other states (channel_index c) (channel_index d) (channel_state h) (channel_state []) (λ e. other (one_place c d names e))
+        get_or-set_other states (channel_index c) (channel_index d) (channel_state h) (channel_state []) (λ e. other (channel_places.one_place c d names e))
         ∙ are d named
-        ∙ ap channel_state (sym (get_or-set_other histories (channel_index c) (channel_index d) h [] (λ e. other (one_place c d names e))))
+        ∙ ap channel_state (sym (get_or-set_other histories (channel_index c) (channel_index d) h [] (λ e. other (channel_places.one_place c d names e))))
 
 -- a processor that was read at its place
 pub own_processor : {items : List Processor} {i : ℕ} {pp : Processor} (n : ℕ) (m : MachineState) → items ≡ m.processors → i ≡ processor_index n → i < processor_count → length m.processors ≡ processor_count → pp ≡ get_or items i pp → pp ≡ processor_of n m

@@ -16,7 +16,7 @@ use Rattle.pp_machine.specs.Headline.{opening_history}
 use Rattle.pp_machine.specs.MachineState.{MachineState, processor_of}
 use Rattle.pp_machine.specs.Processor.{Processor, no_processor}
 use Rattle.pp_machine.specs.PpNo.{processor_count, processor_index, processor_number}
-use Rattle.pp_machine.specs.ProcessorPlaces.{place_of_number}
+use Rattle.pp_machine.specs.ProcessorPlaces.{processor_places}
 use Rattle.pp_machine.specs.Replay.{looks_and_events}
 use Rattle.pp_runner.proofs.LabourLemmas.{work_begun}
 use Rattle.pp_runner.proofs.LogLemmas.{stands_done}
@@ -83,7 +83,7 @@ not_given_up patience line finish ended other was = λ is. absurd (other (sym wa
 
 -- the processor of the place behind so many
 place_behind : (n place : ℕ) → n ≡ processor_number place → place < processor_count → processor_index n ≡ place
-place_behind n place is below = ap processor_index is ∙ place_of_number place below
+place_behind n place is below = ap processor_index is ∙ processor_places.place_of_number place below
 
 -- the first processors, with the one that comes next
 processors_push : (m : MachineState) (n place : ℕ) → processor_index n ≡ place → place < length m.processors → take (place + 1) m.processors ≡ take place m.processors ++ processor_of n m ∷ []

@@ -5,7 +5,7 @@ use native.Mathlib.Decide.{ℕ_discrete}
 use Rattle.std.specs.Prelude.{if◌then◌else◌, nat_lt}
 use Rattle.std.proofs.lemmas.Bool.{cases_lt, lt-ltb, le-ltb}
 use Rattle.std.proofs.lemmas.List.{get_or_past}
-use Rattle.pp_channel.specs.ChannelPlaces.{one_place, place_of_number, number_named}
+use Rattle.pp_channel.specs.ChannelPlaces.{channel_places}
 use Rattle.pp_channel.specs.ChannelNo.{channel_count, channel_index, channel_number}
 use Rattle.pp_line.specs.LineState.{LineState}
 use Rattle.pp_line.specs.Merge.{IsOpeningLog, times_logged}
@@ -24,7 +24,7 @@ opened_before place m c = if nat_lt (channel_index c) place then opening_history
 
 -- No other number has the place of a channel.
 own_place : (c place : ℕ) → place < channel_count → channel_index c ≡ place → c ≡ channel_number place
-own_place c place below is = one_place (channel_number place) c (number_named place below) (is ∙ sym (place_of_number place below))
+own_place c place below is = channel_places.one_place (channel_number place) c (channel_places.number_named place below) (is ∙ sym (channel_places.place_of_number place below))
 
 before_it : (place : ℕ) (m : MachineState) (c : ℕ) → channel_index c < place → opened_before place m c ≡ opening_history c m
 before_it place m c l = ap (λ b. if b then opening_history c m else []) (lt-ltb (channel_index c) place l)
@@ -43,14 +43,14 @@ same_before place m c below other =
 -- the channel at a place has not been told of before
 pub untold : (place : ℕ) (m : MachineState) (log : List Entry) → place < channel_count → IsOpeningLog (opened_before place m) log → times_logged (channel_number place) 0 log ≡ 0
 untold place m log below is =
-    let here = place_of_number place below in
+    let here = channel_places.place_of_number place below in
     let none : length (opened_before place m (channel_number place)) ≡ 0 = ap length (not_before_it place m (channel_number place) (omega (arith, here))) in
     is.no_other (channel_number place) 0 (omega (arith, none))
 
 -- one that dead start opened
 pub one_opened : (place : ℕ) (m : MachineState) (log : List Entry) → place < channel_count → is_opened (channel_number place) m ≡ true → IsOpeningLog (opened_before place m) log → IsOpeningLog (opened_before (place + 1) m) (log ++ event_entry (channel_number place) 0 Activate ∷ [])
 one_opened place m log below opened is =
-    let here = place_of_number place below in
+    let here = channel_places.place_of_number place below in
     opening_more (opened_before place m) (opened_before (place + 1) m) (channel_number place) log
     (not_before_it place m (channel_number place) (omega (arith, here)))
     (before_it (place + 1) m (channel_number place) (omega (arith, here)) ∙ ap (λ b. if b then Activate ∷ [] else []) opened)
@@ -59,7 +59,7 @@ one_opened place m log below opened is =
 -- one that it did not open
 pub one_not_opened : (place : ℕ) (m : MachineState) (log : List Entry) → place < channel_count → is_opened (channel_number place) m ≡ false → IsOpeningLog (opened_before place m) log → IsOpeningLog (opened_before (place + 1) m) log
 one_not_opened place m log below not_opened is =
-    let here = place_of_number place below in
+    let here = channel_places.place_of_number place below in
     let n = channel_number place in
     let now : opened_before place m n ≡ opened_before (place + 1) m n =
     not_before_it place m n (omega (arith, here))

@@ -9,7 +9,7 @@ use Rattle.pp_channel.specs.declared.chan_op.ChanOp.{ChanOp}
 use Rattle.pp_channel.specs.declared.event.Event.{Event}
 use Rattle.pp_channel.specs.AnswerLaws.{looks_or_acts}
 use Rattle.pp_channel.proofs.AnswerLemmas.{none_without_ready, table_of_ready}
-use Rattle.pp_channel.specs.ChannelPlaces.{place_past}
+use Rattle.pp_channel.specs.ChannelPlaces.{channel_places}
 use Rattle.pp_channel.proofs.HistoryLemmas.{lawful_empty}
 use Rattle.pp_machine.specs.Headline.{HoldsOnEachChannel}
 use Rattle.pp_machine.specs.MachineState.{MachineState, history_of, processor_of}
@@ -31,7 +31,7 @@ lawful : (c : ℕ) (m : MachineState) → length m.histories ≡ channel_count �
 lawful c m all holds = elim (cases_Bool (names_channel c)) [
   | inl named ↦ (holds c named).lawful
   | inr none ↦
-      let past : channel_count ≤ channel_index c = place_past c (both_ways (names_channel c) none) in
+      let past : channel_count ≤ channel_index c = channel_places.place_past c (both_ways (names_channel c) none) in
       subst IsLawful (sym (get_or_past m.histories (channel_index c) [] (omega (arith, all, past)))) lawful_empty
 ]
 

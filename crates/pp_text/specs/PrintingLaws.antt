@@ -6,11 +6,12 @@ use Rattle.std.proofs.lemmas.List.{append-nil}
 use Rattle.std.proofs.lemmas.List.Concat.{flat_map-append}
 use Rattle.pp_word.specs.GrowingLists.{range_more, tabulate_more}
 use Rattle.pp_word.specs.Tables.{tabulate}
+use Rattle.pp_word.specs.GappedNumbers.{is_number, number_of}
 use Rattle.pp_channel.specs.ChannelNo.{all_channels, channel_number, names_channel}
-use Rattle.pp_channel.specs.ChannelPlaces as channel_places
+use Rattle.pp_channel.specs.ChannelPlaces.{numbers_of_channels}
 use Rattle.pp_channel.specs.declared.event.Event.{Event}
 use Rattle.pp_machine.specs.PpNo.{all_processors, names_processor}
-use Rattle.pp_machine.specs.ProcessorPlaces as processor_places
+use Rattle.pp_machine.specs.ProcessorPlaces.{numbers_of_processors}
 use Rattle.pp_text.specs.PrintedText.{each_below, used_channel_line}
 use Rattle.pp_text.specs.TextWriter.{Prints}
 use Rattle.pp_text.specs.declared.text_writer.TextWriter.{TextWriter}
@@ -116,7 +117,7 @@ numbered_channel_line histories c =
 
 where_named : (f : ℕ → List ℕ)
     → flat_map f all_channels ≡ flat_map (λ c. if names_channel c then f c else []) all_channels
-unfolding all_channels tabulate channel_number names_channel
+unfolding all_channels tabulate channel_number names_channel is_number number_of
 where_named f = refl
 
 not_named : (b : Bool) (xs : List ℕ) → (IsTrue b → ⊥) → (if b then xs else []) ≡ []
@@ -127,7 +128,7 @@ pub channels_by_number : (f : ℕ → List ℕ)
     → flat_map f all_channels ≡ each_below 0o100 (λ c. if names_channel c then f c else [])
 channels_by_number f =
     where_named f
-    ∙ channel_places.numbers_of_channels (λ c. if names_channel c then f c else [])
+    ∙ numbers_of_channels (λ c. if names_channel c then f c else [])
     (λ c none. not_named (names_channel c) (f c) none)
     ∙ sym (each_is_flat 0o100 (λ c. if names_channel c then f c else []))
 
@@ -135,4 +136,4 @@ pub processors_by_number : (f : ℕ → List ℕ)
     → ((n : ℕ) → (IsTrue (names_processor n) → ⊥) → f n ≡ [])
     → flat_map f all_processors ≡ each_below 0o100 f
 processors_by_number f none =
-    processor_places.numbers_of_processors f none ∙ sym (each_is_flat 0o100 f)
+    numbers_of_processors f none ∙ sym (each_is_flat 0o100 f)

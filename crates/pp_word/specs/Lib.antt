@@ -11,6 +11,7 @@ pub mod Tables
 pub mod GrowingLists
 pub mod Pieces
 pub mod WrittenNumbers
+pub mod GappedNumbers
 pub mod Subsequence
 pub mod Subsequences
 -- laws of the definitions, which proofs of other crates cite; nobody has to read these

@@ -1,11 +1,11 @@
 use Rattle.std.proofs.Common.{arith, ◌∙◌}
-use Rattle.pp_machine.specs.ProcessorPlaces.{number_fits}
+use Rattle.pp_machine.specs.ProcessorPlaces.{processor_fits}
 use Rattle.pp_text.specs.PrintingLaws.{prints_on, prints_then}
 use Rattle.pp_listing.proofs.TextLemmas.{section_line_pieces}
 use Rattle.pp_listing.proofs.deck_lines.print_section_line.Goals as goal
 
 pub print_short_octal-requires-clause-fits : goal.print_short_octal-requires-clause-fits
-print_short_octal-requires-clause-fits g c = omega (arith, c.from.ensures, number_fits c.get.result c.get.ensures.names)
+print_short_octal-requires-clause-fits g c = omega (arith, c.from.ensures, processor_fits c.get.result c.get.ensures.names)
 
 pub returns : goal.returns
 returns g c =

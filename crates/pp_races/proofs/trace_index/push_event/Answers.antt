@@ -1,6 +1,6 @@
 use Rattle.std.proofs.Common.{◌/◌, ◌<◌, length, subst, sym, ap, ◌∙◌, refl, arith}
 use Rattle.std.specs.Prelude.{List, vec_len}
-use Rattle.pp_channel.specs.ChannelPlaces.{named_below}
+use Rattle.pp_channel.specs.ChannelPlaces.{channel_places}
 use Rattle.pp_races.specs.declared.span.Span.{Span}
 use Rattle.pp_races.proofs.RowLemmas.{HaveRoom, event_pushed, in_row, room_left, room_made}
 use Rattle.pp_races.proofs.trace_index.push_event.Goals as goal
@@ -26,6 +26,6 @@ index_mut-requires g c = inside g (goal.at.index_mut-requires g c).After-index-p
 pub returns : goal.returns
 returns g c =
     event_pushed c.args.size c.args.trace.now c.if-trace-size-eq0.rows.items c.args.made.now _ c.index-place.result c.index.result.now c.index_mut.result.now c.with-span.result c.flags_after.result
-    c.requires.size (named_below c.args.made.now.channel (omega (arith, c.index-place.ensures.place, c.index-place.ensures.below))) refl c.index-place.ensures.place c.index.ensures c.index_mut.ensures.value c.with-span.ensures.last c.flags_after.ensures
+    c.requires.size (channel_places.named_below c.args.made.now.channel (omega (arith, c.index-place.ensures.place, c.index-place.ensures.below))) refl c.index-place.ensures.place c.index.ensures c.index_mut.ensures.value c.with-span.ensures.last c.flags_after.ensures
     c.with-span.ensures.kept c.with-span.ensures.found
     (room g (goal.at.returns g c).After-index-place)

@@ -1,7 +1,7 @@
 use Rattle.std.proofs.Common.{◌≡◌, ℕ, IsTrue, subst, arith}
 use Rattle.pp_channel.specs.ChannelNo.{names_channel}
 use Rattle.pp_machine.specs.PpNo.{processor_count, processor_number}
-use Rattle.pp_machine.specs.ProcessorPlaces.{place_below}
+use Rattle.pp_machine.specs.ProcessorPlaces.{processor_places}
 use Rattle.pp_races.specs.Tables.{closing_findings}
 use Rattle.pp_races.proofs.CloseLemmas.{closed_more, closed_none, found_more}
 use Rattle.pp_races.proofs.EndLemmas.{each_none}
@@ -23,7 +23,7 @@ loop-place-preserved g c = record {
 
 pub returns-clause-looks : goal.returns-clause-looks
 returns-clause-looks g c = record {
-  here = λ q named. c.loop-place.invariant.closed.below q named (omega (arith, place_below q named));
+  here = λ q named. c.loop-place.invariant.closed.below q named (omega (arith, processor_places.place_below q named));
   elsewhere = c.loop-place.invariant.closed.elsewhere;
 }
 

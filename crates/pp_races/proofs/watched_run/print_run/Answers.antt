@@ -3,7 +3,7 @@ use Rattle.std.specs.Vec.{with_items}
 use Rattle.std.proofs.lemmas.List.{with_items_is}
 use Rattle.pp_machine.specs.PpNo.{names_processor, processor_count, processor_number}
 use Rattle.pp_machine.specs.Profile.{processor_in_turn, processors_in}
-use Rattle.pp_machine.specs.ProcessorPlaces.{number_named}
+use Rattle.pp_machine.specs.ProcessorPlaces.{processor_places}
 use Rattle.pp_machine.specs.ProfilePlaces.{most_processors, rest_within}
 use Rattle.pp_machine.specs.MachineState.{MachineState}
 use Rattle.pp_machine.specs.MachineStep.{stepped}
@@ -33,7 +33,7 @@ loop-turn-preserved g c =
     let round : c.processors-round.result ≡ processors_in p = c.processors-round.ensures ∙ ap processors_in c.profile.ensures in
     let is : c.at-n.result ≡ processor_in_turn p t = c.at-n.ensures.number ∙ ap (λ (r : ℕ). processor_number (t % r)) round in
     let within : t % processors_in p < processor_count = omega (arith, rest_within p t, most_processors p) in
-    let names : IsTrue (names_processor c.at-n.result) = subst (λ (k : ℕ). IsTrue (names_processor k)) (sym is) (number_named (t % processors_in p) within) in
+    let names : IsTrue (names_processor c.at-n.result) = subst (λ (k : ℕ). IsTrue (names_processor k)) (sym is) (processor_places.number_named (t % processors_in p) within) in
     let tables = c.loop-turn.tables in
     let now = c.loop-turn.machine in
     let n = c.at-n.result in

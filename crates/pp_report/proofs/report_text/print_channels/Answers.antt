@@ -2,7 +2,7 @@ use Rattle.std.proofs.Common.{◌≡◌, ℕ, ◌<◌, subst, arith}
 use Rattle.std.specs.List.{flat_map}
 use Rattle.pp_word.specs.Tables.{tabulate}
 use Rattle.pp_channel.specs.ChannelNo.{all_channels, channel_count, channel_index, channel_number}
-use Rattle.pp_channel.specs.ChannelPlaces.{number_of_place, place_below}
+use Rattle.pp_channel.specs.ChannelPlaces.{channel_places}
 use Rattle.pp_channel.specs.History.{history_on}
 use Rattle.pp_text.specs.TextLaw.{HistoryFits}
 use Rattle.pp_text.specs.TextWriter.{Prints}
@@ -29,6 +29,6 @@ returns g c =
     let all : c.loop-place.place ≡ channel_count = omega arith in record {
       text = subst (λ (k : ℕ). Prints g.W.Write.contents c.args.text.now c.loop-place.text (flat_map (used_channel_line c.args.channels.now) (tabulate k channel_number))) all c.loop-place.invariant.0;
       fits = λ n is.
-          let within : channel_index n < c.loop-place.place = omega (arith, place_below n is) in
-          subst (λ (k : ℕ). HistoryFits (history_on k c.args.channels.now)) (number_of_place n is) (c.loop-place.invariant.1 (channel_index n) within);
+          let within : channel_index n < c.loop-place.place = omega (arith, channel_places.place_below n is) in
+          subst (λ (k : ℕ). HistoryFits (history_on k c.args.channels.now)) (channel_places.number_of_place n is) (c.loop-place.invariant.1 (channel_index n) within);
     }

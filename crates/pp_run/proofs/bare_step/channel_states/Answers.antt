@@ -1,5 +1,5 @@
 use Rattle.std.proofs.Common.{ℕ, ◌∙◌, [], get_or, ap, arith, refl, rules}
-use Rattle.pp_channel.specs.ChannelPlaces.{place_below}
+use Rattle.pp_channel.specs.ChannelPlaces.{channel_places}
 use Rattle.pp_channel.specs.Answer.{channel_state}
 use Rattle.pp_run.proofs.BareLemmas.{states_more}
 use Rattle.pp_run.proofs.bare_step.channel_states.Goals as goal
@@ -12,4 +12,4 @@ loop-place-preserved g c = states_more c.loop-place.states _ c.args.machine.now.
     (c.of.ensures ∙ ap channel_state (c.channel.ensures.value ∙ ap (λ (i : ℕ). get_or c.args.machine.now.histories i []) c.at.ensures.place))
 
 pub returns : goal.returns
-returns g c = λ n names. c.loop-place.invariant _ (omega (arith, place_below n names))
+returns g c = λ n names. c.loop-place.invariant _ (omega (arith, channel_places.place_below n names))

@@ -2,7 +2,7 @@ use Rattle.std.proofs.Common.{◌≡◌, ℕ, ◌<◌, subst, arith}
 use Rattle.std.specs.List.{flat_map}
 use Rattle.pp_word.specs.Tables.{tabulate}
 use Rattle.pp_channel.specs.ChannelNo.{all_channels, channel_count, channel_index, channel_number}
-use Rattle.pp_channel.specs.ChannelPlaces.{number_of_place, place_below}
+use Rattle.pp_channel.specs.ChannelPlaces.{channel_places}
 use Rattle.pp_channel.specs.History.{history_on}
 use Rattle.pp_text.specs.TextLaw.{HistoryFits}
 use Rattle.pp_text.specs.TextWriter.{Prints}
@@ -31,5 +31,5 @@ returns-clause-text g c =
 
 pub returns-clause-fits : goal.returns-clause-fits
 returns-clause-fits g c = λ n is.
-    let within : channel_index n < c.loop-place.place = omega (arith, place_below n is) in
-    subst (λ (k : ℕ). HistoryFits (history_on k c.args.machine.now.histories)) (number_of_place n is) (c.loop-place.invariant.1 (channel_index n) within)
+    let within : channel_index n < c.loop-place.place = omega (arith, channel_places.place_below n is) in
+    subst (λ (k : ℕ). HistoryFits (history_on k c.args.machine.now.histories)) (channel_places.number_of_place n is) (c.loop-place.invariant.1 (channel_index n) within)

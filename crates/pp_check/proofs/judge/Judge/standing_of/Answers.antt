@@ -1,6 +1,6 @@
 use Rattle.std.proofs.Common.{◌≡◌, arith, length, rules}
 use Rattle.pp_channel.specs.ChannelNo.{channel_count}
-use Rattle.pp_channel.specs.ChannelPlaces.{named_below}
+use Rattle.pp_channel.specs.ChannelPlaces.{channel_places}
 use Rattle.pp_check.proofs.KeepsLemmas.{read_standing}
 use Rattle.pp_check.proofs.judge.Judge.standing_of.Goals as goal
 
@@ -10,4 +10,4 @@ returns-clause-kept c =
     read_standing c.args.self.now.channels c.args.channel c.index.result c.index-self-index.result c.index-self-index.is c.index.ensures.place c.index.ensures.below all
 
 pub returns-clause-names : goal.returns-clause-names
-returns-clause-names c = named_below c.args.channel (omega (arith, c.index.ensures.place, c.index.ensures.below))
+returns-clause-names c = channel_places.named_below c.args.channel (omega (arith, c.index.ensures.place, c.index.ensures.below))

@@ -1,7 +1,7 @@
 use Rattle.std.proofs.Common.{◌∙◌, ◌∷◌, [], List, false, length, replicate, get_or, sym, ap, subst}
 use Rattle.std.specs.Prelude.{Bool, if◌then◌else◌}
 use Rattle.std.proofs.lemmas.List.{length-replicate}
-use Rattle.pp_channel.specs.ChannelPlaces.{place_below}
+use Rattle.pp_channel.specs.ChannelPlaces.{channel_places}
 use Rattle.pp_channel.specs.ChannelNo.{channel_count, channel_index}
 use Rattle.pp_channel.specs.declared.event.Event.{Event}
 use Rattle.pp_channel.specs.declared.event.Event.TheVariants.{Activate}
@@ -23,5 +23,5 @@ invariant_of-result g c =
       headline = λ k names.
           let P : Bool → Type 0 = λ opened. HoldsOnChannel (if opened then Activate ∷ [] else []) [] (get_or histories (channel_index k) []) in
           let Q : List Trace → Type 0 = λ trace. HoldsOnChannel (if get_or (replicate channel_count false) (channel_index k) false then Activate ∷ [] else []) (events_on k trace) (get_or histories (channel_index k) []) in
-          subst Q (sym c.new-2.ensures.items) (subst P (sym (none_opened channel_count (channel_index k))) (c.in_ok-new_channels.ensures.headline (channel_index k) (place_below k names)));
+          subst Q (sym c.new-2.ensures.items) (subst P (sym (none_opened channel_count (channel_index k))) (c.in_ok-new_channels.ensures.headline (channel_index k) (channel_places.place_below k names)));
     }

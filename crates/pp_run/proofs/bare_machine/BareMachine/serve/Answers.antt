@@ -3,7 +3,7 @@ use Rattle.std.specs.Prelude.{IsTrue}
 use Rattle.std.proofs.lemmas.List.{get_or_read}
 use Rattle.pp_channel.specs.Answer.{channel_state, history_after}
 use Rattle.pp_channel.specs.ChannelNo.{channel_count, names_channel}
-use Rattle.pp_channel.specs.ChannelPlaces.{named_below}
+use Rattle.pp_channel.specs.ChannelPlaces.{channel_places}
 use Rattle.pp_machine.specs.FitLaws.{state_fits}
 use Rattle.pp_machine.specs.MachineState.{history_of}
 use Rattle.pp_run.proofs.BareLemmas.{states_set}
@@ -18,7 +18,7 @@ returns-in-Channel-clause-states g c = λ m stands.
     let all : length c.args.self.now.channels ≡ channel_count = search rules in
     let i = c.index.result in
     let place = c.index.ensures.place in
-    let names : IsTrue (names_channel n) = named_below n (omega (arith, place, c.index.ensures.below)) in
+    let names : IsTrue (names_channel n) = channel_places.named_below n (omega (arith, place, c.index.ensures.below)) in
     let h = history_of n m in
     let states = c.args.self.now.channels in
     let within : i < length states = omega (arith, c.index.ensures.below, all) in
