@@ -1,5 +1,5 @@
 -- From what clap ensures of a parse to what the words ask for.
-use Rattle.std.proofs.Common.{◌≡◌, ◌∙◌, ℕ, ◌-◌, ◌<◌, ◌≤◌, ap, ap₂, arith, slice_index, Bool, true, false, not, IsTrue, List, [], Option, Some, None, option_map, sym, subst, refl, inl, inr, codes}
+use Rattle.std.proofs.Common.{◌≡◌, ◌∙◌, ℕ, ◌-◌, ◌<◌, ◌≤◌, ap₂, arith, Bool, true, false, not, IsTrue, List, [], Option, Some, None, option_map, sym, subst, refl, inl, inr, codes}
 use Rattle.std.specs.Prelude.{Box, ◌≢◌, is_some}
 use Rattle.std.specs.Box.{box_value}
 use Rattle.clap.specs.Words.{App, HasKind, IsAmong, Kinds, Text, Row, HasMatchesOf, fault_of, is_simple, is_simple_and_free, found_of, kind_of, rows_of, subcommand_of, subcommand_rows, subcommand_rows_of, subcommand_name_of}
@@ -17,7 +17,6 @@ use Rattle.pp_command.specs.CommandLine.{IsFaultBy, IsRefused, AsksForMore, Asks
 use Rattle.pp_command.specs.declared.line_fault.LineFault.{LineFault}
 use Rattle.pp_command.specs.declared.line_fault.LineFault.TheVariants.{Memory, Refused, Number, Picture}
 use Rattle.pp_command.specs.declared.text_of.TextOf.{TextOf}
-use Rattle.pp_command.specs.declared.text_of.TextOf.TheVariants as texts
 
 simple : is_simple ppsim ≡ true
 unfolding clap_on_literals ppsim
@@ -101,43 +100,12 @@ no_fit false name value_of w reads short k = refl
 
 -- a drawing of more turns than a picture has is no text
 pub no_picture : (name : Text) (value_of : Text → Option Text) (profile : Profile) (w : Window) → name ≡ codes "draw" → ReadsWindow value_of w → 2000 < w.to - w.from → (text : TextOf) → AsksForText name value_of profile text → ⊥
-no_picture name value_of profile w draw reads long (texts.Barrel turns) k =
-    let bad : 98 ≡ 100 = ap (λ (t : Text). slice_index t 0) (sym k.0 ∙ draw) in absurd (omega (arith, bad))
-no_picture name value_of profile w draw reads long texts.List k =
-    let bad : 108 ≡ 100 = ap (λ (t : Text). slice_index t 0) (sym k ∙ draw) in absurd (omega (arith, bad))
-no_picture name value_of profile w draw reads long (texts.Dump turns) k =
-    let bad : 117 ≡ 114 = ap (λ (t : Text). slice_index t 1) (sym k.0 ∙ draw) in absurd (omega (arith, bad))
-no_picture name value_of profile w draw reads long (texts.State turns) k =
-    let bad : 115 ≡ 100 = ap (λ (t : Text). slice_index t 0) (sym k.0 ∙ draw) in absurd (omega (arith, bad))
-no_picture name value_of profile w draw reads long (texts.Sessions turns words) k =
-    let bad : 115 ≡ 100 = ap (λ (t : Text). slice_index t 0) (sym k.0 ∙ draw) in absurd (omega (arith, bad))
-no_picture name value_of profile w draw reads long (texts.Races turns) k =
-    let bad : 114 ≡ 100 = ap (λ (t : Text). slice_index t 0) (sym k.0 ∙ draw) in absurd (omega (arith, bad))
-no_picture name value_of profile w draw reads long (texts.Ends turns) k =
-    let bad : 101 ≡ 100 = ap (λ (t : Text). slice_index t 0) (sym k.0 ∙ draw) in absurd (omega (arith, bad))
-no_picture name value_of profile w draw reads long (texts.Memory turns n bounds) k =
-    let bad : 109 ≡ 100 = ap (λ (t : Text). slice_index t 0) (sym k.0 ∙ draw) in absurd (omega (arith, bad))
-no_picture name value_of profile w draw reads long (texts.Central turns bounds) k =
-    let bad : 99 ≡ 100 = ap (λ (t : Text). slice_index t 0) (sym k.0 ∙ draw) in absurd (omega (arith, bad))
-no_picture name value_of profile w draw reads long (texts.Steps turns chosen) k =
-    let bad : 115 ≡ 100 = ap (λ (t : Text). slice_index t 0) (sym k.0 ∙ draw) in absurd (omega (arith, bad))
-no_picture name value_of profile w draw reads long (texts.Draw window) k =
-    omega (arith, long, k.2, one_length value_of w window reads k.1)
+no_picture name value_of profile w draw reads long text k = grind (arith, draw, reads, long, k, one_length)
 
 -- without a number of turns there is no text but a listing
 pub no_turns : (name : Text) (value_of : Text → Option Text) (profile : Profile) → name ≢ codes "list" → ((turns : ℕ) → ReadsTurns value_of turns → ⊥) → (text : TextOf) → AsksForText name value_of profile text → ⊥
 unfolding ReadsWindow
-no_turns name value_of profile other none (texts.Barrel turns) k = none turns k.1
-no_turns name value_of profile other none texts.List k = other k
-no_turns name value_of profile other none (texts.Dump turns) k = none turns k.1
-no_turns name value_of profile other none (texts.State turns) k = none turns k.1
-no_turns name value_of profile other none (texts.Sessions turns words) k = none turns k.1
-no_turns name value_of profile other none (texts.Races turns) k = none turns k.1
-no_turns name value_of profile other none (texts.Ends turns) k = none turns k.1
-no_turns name value_of profile other none (texts.Memory turns n bounds) k = none turns k.1
-no_turns name value_of profile other none (texts.Central turns bounds) k = none turns k.1
-no_turns name value_of profile other none (texts.Steps turns chosen) k = none turns k.1
-no_turns name value_of profile other none (texts.Draw window) k = none k.1.0 k.1.1
+no_turns name value_of profile other none text k = grind (arith, other, none, k)
 
 -- where the text of an option is there, and is no number, it says no profile
 pub no_profile : {B : Type 0} (of : B → Text) (o : Option B) (text : Option Text) → is_some o ≡ true → option_map of o ≡ text → ((n : ℕ) → ReadsNumber text n → ⊥) → (profile : Profile) → ReadsProfile text profile → ⊥

@@ -52,37 +52,6 @@ command name options = with_rule (fold with_rule (new_app name) options) file_ar
 abbrev pub turns_command : Text → App
 turns_command name = command name (number_option (codes "turns") ∷ processors_option ∷ [])
 
-abbrev pub threads : App
-threads = command (codes "threads")
-    (number_option (codes "steps") ∷ number_option (codes "patience") ∷ processors_option ∷ [])
-
-abbrev pub list : App
-list = command (codes "list") (processors_option ∷ [])
-
-abbrev pub steps : App
-steps = command (codes "steps") (number_option (codes "turns") ∷ optional_value (codes "pp")
-    ∷ optional_value (codes "ch") ∷ optional_value (codes "from") ∷ optional_value (codes "to")
-    ∷ processors_option ∷ [])
-
-abbrev pub memory : App
-memory = command (codes "memory") (number_option (codes "turns") ∷ number_option (codes "pp")
-    ∷ optional_value (codes "first") ∷ optional_value (codes "last") ∷ processors_option ∷ [])
-
-abbrev pub central : App
-central = command (codes "central") (number_option (codes "turns") ∷ optional_value (codes "first")
-    ∷ optional_value (codes "last") ∷ processors_option ∷ [])
-
-abbrev pub sessions : App
-sessions = command (codes "sessions")
-    (number_option (codes "turns") ∷ flag_option (codes "words") ∷ processors_option ∷ [])
-
-abbrev pub draw : App
-draw = command (codes "draw") (number_option (codes "turns") ∷ optional_value (codes "from")
-    ∷ optional_value (codes "to") ∷ processors_option ∷ [])
-
-abbrev pub check : App
-check = command (codes "check") (optional_value (codes "opened") ∷ [])
-
 abbrev pub bare : App
 bare = record (new_app (codes "ppsim")) {
   top = record (new_app (codes "ppsim")).top { has_version = true; subcommand_required = true };
@@ -94,10 +63,26 @@ with_commands app commands = fold (λ app command. with_subcommand app command.t
 
 -- the commands, in the order in which help lists them
 unfoldable pub ppsim : App
-ppsim = with_commands bare (turns_command (codes "barrel") ∷ threads ∷ list
-    ∷ turns_command (codes "dump") ∷ steps ∷ turns_command (codes "state")
-    ∷ turns_command (codes "ends") ∷ memory ∷ central ∷ sessions
-    ∷ turns_command (codes "races") ∷ draw ∷ check ∷ [])
+ppsim = with_commands bare (turns_command (codes "barrel")
+    ∷ command (codes "threads")
+    (number_option (codes "steps") ∷ number_option (codes "patience") ∷ processors_option ∷ [])
+    ∷ command (codes "list") (processors_option ∷ [])
+    ∷ turns_command (codes "dump")
+    ∷ command (codes "steps") (number_option (codes "turns") ∷ optional_value (codes "pp")
+    ∷ optional_value (codes "ch") ∷ optional_value (codes "from") ∷ optional_value (codes "to")
+    ∷ processors_option ∷ [])
+    ∷ turns_command (codes "state")
+    ∷ turns_command (codes "ends")
+    ∷ command (codes "memory") (number_option (codes "turns") ∷ number_option (codes "pp")
+    ∷ optional_value (codes "first") ∷ optional_value (codes "last") ∷ processors_option ∷ [])
+    ∷ command (codes "central") (number_option (codes "turns") ∷ optional_value (codes "first")
+    ∷ optional_value (codes "last") ∷ processors_option ∷ [])
+    ∷ command (codes "sessions")
+    (number_option (codes "turns") ∷ flag_option (codes "words") ∷ processors_option ∷ [])
+    ∷ turns_command (codes "races")
+    ∷ command (codes "draw") (number_option (codes "turns") ∷ optional_value (codes "from")
+    ∷ optional_value (codes "to") ∷ processors_option ∷ [])
+    ∷ command (codes "check") (optional_value (codes "opened") ∷ []) ∷ [])
 
 -- the kinds of refusal that clap's parse may give to the words: none if they are a command line
 unfoldable pub refusals : List Text → Kinds

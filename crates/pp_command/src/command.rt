@@ -6,13 +6,8 @@ ghost use Rattle.clap.specs.declared.builder.command.Command.TheViews.{out-Comma
 ghost use Rattle.pp_command.specs.CommandLine.{bare, ppsim, with_commands};
 ghost use Rattle.pp_command.specs.CommandLine.{app_of_form, file_argument, rule_of_form};
 
-use crate::help::{
-    ABOUT, BARREL_HELP, CENTRAL_HELP, CENTRAL_LAST_HELP, CHANNELS_HELP, CHECK_HELP, DRAW_HELP,
-    DUMP_HELP, ENDS_HELP, EXAMPLE, FILE_HELP, FIRST_HELP, Help, LIST_HELP, MANUAL, MEMORY_HELP,
-    MEMORY_LAST_HELP, MEMORY_PP_HELP, OPENED_HELP, PP_HELP, PROCESSORS_HELP, RACES_HELP,
-    SESSIONS_HELP, STATE_HELP, STEPS_HELP, THREADS_HELP, WORDS_HELP,
-};
-use crate::number_range::{DRAWN_FROM, FROM, NumberRange, PATIENCE, STEPS, TO, TURNS};
+use crate::commands::{ABOUT, COMMANDS, EXAMPLE, FILE_HELP, MANUAL};
+use crate::number_range::NumberRange;
 use clap::{Arg, ArgAction, Command};
 use std::alloc::{AllocError, Global};
 
@@ -21,16 +16,16 @@ const VERSION: &str = "1.0 (rattle-kit-13f logic dac8208d650f15bf)";
 
 /// An option.
 #[derive(Clone, Copy)]
-struct OptionForm {
-    name: &'static str,
+pub(crate) struct OptionForm {
+    pub(crate) name: &'static str,
     /// Whether its command needs it.
-    required: bool,
-    value: ValueForm,
+    pub(crate) required: bool,
+    pub(crate) value: ValueForm,
 }
 
 /// The value of an option: none, a number in a range, or a text which the help calls `name`.
 #[derive(Clone, Copy)]
-enum ValueForm {
+pub(crate) enum ValueForm {
     Flag {
         help: &'static str,
     },
@@ -41,172 +36,18 @@ enum ValueForm {
     },
 }
 
-/// A command with its options.
+/// A command with its help and its options.
 #[derive(Clone, Copy)]
-struct CommandForm {
-    name: &'static str,
-    help: Help,
-    options: &'static [OptionForm],
+pub(crate) struct CommandForm {
+    pub(crate) name: &'static str,
+    /// Its line in the list of commands, with which its short help begins.
+    pub(crate) about: &'static str,
+    /// What its long help says in place of this line.
+    pub(crate) long_about: &'static str,
+    /// The end of both.
+    pub(crate) example: &'static str,
+    pub(crate) options: &'static [OptionForm],
 }
-
-/// A required option whose value is a number.
-macro_rules! number {
-    ($name:literal, $range:expr) => {
-        OptionForm {
-            name: $name,
-            required: true,
-            value: ValueForm::Number($range),
-        }
-    };
-}
-
-/// An option that may be left out, whose value is a number.
-macro_rules! optional_number {
-    ($name:literal, $range:expr) => {
-        OptionForm {
-            name: $name,
-            required: false,
-            value: ValueForm::Number($range),
-        }
-    };
-}
-
-/// An option that may be left out, whose value is a text.
-macro_rules! optional_text {
-    ($name:literal, $value:literal, $help:expr) => {
-        OptionForm {
-            name: $name,
-            required: false,
-            value: ValueForm::Text {
-                name: $value,
-                help: $help,
-            },
-        }
-    };
-}
-
-/// How many turns to run.
-const TURNS_OPTION: OptionForm = number!("turns", TURNS);
-
-/// How many processors the machine has.
-const PROCESSORS_OPTION: OptionForm = optional_text!("processors", "N", PROCESSORS_HELP);
-
-/// The first place or address to print.
-const FIRST_OPTION: OptionForm = optional_text!("first", "N", FIRST_HELP);
-
-/// `--turns N [--processors N]`
-const RUN_OPTIONS: &[OptionForm] = &[TURNS_OPTION, PROCESSORS_OPTION];
-
-/// The commands, in the order in which help lists them.
-const COMMANDS: [CommandForm; 13] = [
-    CommandForm {
-        name: "barrel",
-        help: BARREL_HELP,
-        options: RUN_OPTIONS,
-    },
-    CommandForm {
-        name: "threads",
-        help: THREADS_HELP,
-        options: &[
-            number!("steps", STEPS),
-            number!("patience", PATIENCE),
-            PROCESSORS_OPTION,
-        ],
-    },
-    CommandForm {
-        name: "list",
-        help: LIST_HELP,
-        options: &[PROCESSORS_OPTION],
-    },
-    CommandForm {
-        name: "dump",
-        help: DUMP_HELP,
-        options: RUN_OPTIONS,
-    },
-    CommandForm {
-        name: "steps",
-        help: STEPS_HELP,
-        options: &[
-            TURNS_OPTION,
-            optional_text!("pp", "N,N,..", PP_HELP),
-            optional_text!("ch", "N,N,..", CHANNELS_HELP),
-            optional_number!("from", FROM),
-            optional_number!("to", TO),
-            PROCESSORS_OPTION,
-        ],
-    },
-    CommandForm {
-        name: "state",
-        help: STATE_HELP,
-        options: RUN_OPTIONS,
-    },
-    CommandForm {
-        name: "ends",
-        help: ENDS_HELP,
-        options: RUN_OPTIONS,
-    },
-    CommandForm {
-        name: "memory",
-        help: MEMORY_HELP,
-        options: &[
-            TURNS_OPTION,
-            OptionForm {
-                name: "pp",
-                required: true,
-                value: ValueForm::Text {
-                    name: "N",
-                    help: MEMORY_PP_HELP,
-                },
-            },
-            FIRST_OPTION,
-            optional_text!("last", "N", MEMORY_LAST_HELP),
-            PROCESSORS_OPTION,
-        ],
-    },
-    CommandForm {
-        name: "central",
-        help: CENTRAL_HELP,
-        options: &[
-            TURNS_OPTION,
-            FIRST_OPTION,
-            optional_text!("last", "N", CENTRAL_LAST_HELP),
-            PROCESSORS_OPTION,
-        ],
-    },
-    CommandForm {
-        name: "sessions",
-        help: SESSIONS_HELP,
-        options: &[
-            TURNS_OPTION,
-            OptionForm {
-                name: "words",
-                required: false,
-                value: ValueForm::Flag { help: WORDS_HELP },
-            },
-            PROCESSORS_OPTION,
-        ],
-    },
-    CommandForm {
-        name: "races",
-        help: RACES_HELP,
-        options: RUN_OPTIONS,
-    },
-    CommandForm {
-        name: "draw",
-        help: DRAW_HELP,
-        options: &[
-            TURNS_OPTION,
-            optional_number!("from", DRAWN_FROM),
-            optional_number!("to", TO),
-            PROCESSORS_OPTION,
-        ],
-    },
-    CommandForm {
-        name: "check",
-        help: CHECK_HELP,
-        options: &[optional_text!("opened", "N,N,..", OPENED_HELP)],
-    },
-];
 
 impl ValueForm {
     /// What the help calls it.
@@ -278,9 +119,9 @@ fn command_of<'a>(alloc: Global, form: &CommandForm) -> Result<Command<'a>, Allo
     ensures local { IfOk result (λ c. (fields_of c).has_globals ≡ false) }
 {
     let command = Command::new(alloc, form.name)
-        .about(form.help.about)
-        .long_about(form.help.long_about)
-        .after_help(form.help.example);
+        .about(form.about)
+        .long_about(form.long_about)
+        .after_help(form.example);
     let command = with_options(alloc, command, form.options)?;
     command.arg(file_argument(alloc))
 }

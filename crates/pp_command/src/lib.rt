@@ -4,10 +4,11 @@
 mod channel_list;
 mod command;
 mod command_words;
-mod help;
+mod commands;
 mod line_fault;
 mod number_list;
 mod number_range;
+mod option_values;
 mod processor_list;
 mod text_of;
 mod work;

@@ -1,8 +1,16 @@
-//! Which text of a deck is asked for.
+//! Which text of a deck is asked for, and how a command line asks for it.
 
+ghost use Rattle.std.specs.Prelude.{codes};
+ghost use Rattle.pp_command.specs.CommandLine.{AsksForText, Finds, ReadsTurns, value_in};
+
+use crate::option_values::{
+    bounds_of, channels_of, fits_a_picture, is_flagged, processor_of, processors_of, turn_of,
+    turns_of, window_of,
+};
+use clap::ArgMatches;
 use pp_bounds::{Bounds, Window};
 use pp_channel::CHANNELS;
-use pp_machine::{PROCESSORS, PpNo};
+use pp_machine::{PROCESSORS, PpNo, Profile};
 
 /// Which steps of a run are chosen: those that all four fields choose.
 #[derive(Clone, Copy)]
@@ -69,4 +77,74 @@ pub enum TextOf {
     /// was used, and one for each processor in use. From a command line the window has
     /// at most 2,000 turns (decimal).
     Draw(Window),
+}
+
+/// How many places a processor's memory has.
+const PLACES: u32 = 0o10000;
+
+/// How many words central memory has at most.
+const MOST_CENTRAL_WORDS: u32 = 0o400000;
+
+/// The text of a deck that a command asks for, if its numbers are in range. All but `list` make a
+/// run of some turns.
+#[tactic(auto, using(crate::proofs::CommandLemmas::no_turns))]
+pub(crate) fn text_of(name: &str, matches: &ArgMatches<'_>, profile: Profile) -> Option<TextOf>
+    ensures { Finds (AsksForText name.now (value_in matches.now) profile) result }
+{
+    if name == "list" {
+        return Some(TextOf::List);
+    }
+    let turns = turns_of(matches)?;
+    match name {
+        "barrel" => Some(TextOf::Barrel(turns)),
+        "dump" => Some(TextOf::Dump(turns)),
+        "state" => Some(TextOf::State(turns)),
+        "sessions" => Some(TextOf::Sessions {
+            turns,
+            words: is_flagged(matches, "words"),
+        }),
+        "races" => Some(TextOf::Races(turns)),
+        "ends" => Some(TextOf::Ends(turns)),
+        "memory" => Some(TextOf::Memory {
+            turns,
+            processor: processor_of(matches, profile)?,
+            bounds: bounds_of(matches, PLACES)?,
+        }),
+        "central" => Some(TextOf::Central {
+            turns,
+            bounds: bounds_of(matches, MOST_CENTRAL_WORDS)?,
+        }),
+        "steps" => steps_text_of(matches, profile, turns),
+        "draw" => drawn_text_of(matches, profile),
+        _ => None,
+    }
+}
+
+/// The text of a deck that `steps` asks for, of a run of this many turns.
+fn steps_text_of(matches: &ArgMatches<'_>, profile: Profile, turns: u32) -> Option<TextOf>
+    requires { ReadsTurns (value_in matches.now) turns }
+    ensures { Finds (AsksForText (codes "steps") (value_in matches.now) profile) result }
+{
+    let processors = processors_of(matches, profile)?;
+    let channels = channels_of(matches)?;
+    let from = turn_of(matches, "from", 0)?;
+    let to = turn_of(matches, "to", turns)?;
+    let chosen = ChosenSteps {
+        processors,
+        channels,
+        from,
+        to,
+    };
+    Some(TextOf::Steps { turns, chosen })
+}
+
+/// The text of a deck that `draw` asks for.
+fn drawn_text_of(matches: &ArgMatches<'_>, profile: Profile) -> Option<TextOf>
+    ensures { Finds (AsksForText (codes "draw") (value_in matches.now) profile) result }
+{
+    let window = window_of(matches)?;
+    if !fits_a_picture(window) {
+        return None;
+    }
+    Some(TextOf::Draw(window))
 }

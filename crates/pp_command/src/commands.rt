@@ -1,4 +1,7 @@
-//! The texts of the program's help.
+//! The commands: for each its name, its help and its options.
+
+use crate::command::{CommandForm, OptionForm, ValueForm};
+use crate::number_range::{DRAWN_FROM, FROM, PATIENCE, STEPS, TO, TURNS};
 
 /// An example of a command, over a deck in which one processor hands a word to another; and what
 /// stands before it.
@@ -38,15 +41,40 @@ where four.deck has the lines
     };
 }
 
-/// The help of a command.
-#[derive(Clone, Copy)]
-pub(crate) struct Help {
-    /// Its line in the list of commands, with which its short help begins.
-    pub(crate) about: &'static str,
-    /// What its long help says in place of this line.
-    pub(crate) long_about: &'static str,
-    /// The end of both.
-    pub(crate) example: &'static str,
+/// A required option whose value is a number.
+macro_rules! number {
+    ($name:literal, $range:expr) => {
+        OptionForm {
+            name: $name,
+            required: true,
+            value: ValueForm::Number($range),
+        }
+    };
+}
+
+/// An option that may be left out, whose value is a number.
+macro_rules! optional_number {
+    ($name:literal, $range:expr) => {
+        OptionForm {
+            name: $name,
+            required: false,
+            value: ValueForm::Number($range),
+        }
+    };
+}
+
+/// An option that may be left out, whose value is a text.
+macro_rules! optional_text {
+    ($name:literal, $value:literal, $help:expr) => {
+        OptionForm {
+            name: $name,
+            required: false,
+            value: ValueForm::Text {
+                name: $value,
+                help: $help,
+            },
+        }
+    };
 }
 
 pub(crate) const ABOUT: &str =
@@ -89,9 +117,35 @@ docs/OUTPUT.md of the repository say more.
 /// The end of the short help.
 pub(crate) const EXAMPLE: &str = handoff_example!("barrel --turns 40");
 
-pub(crate) const BARREL_HELP: Help = Help {
-    about: "Runs a deck in the barrel, one step a turn, and prints what happened",
-    long_about: "\
+/// What help says of the word that names a file.
+pub(crate) const FILE_HELP: &str = "The file to read; standard input if not given, or -";
+
+/// How many turns to run.
+const TURNS_OPTION: OptionForm = number!("turns", TURNS);
+
+/// How many processors the machine has.
+const PROCESSORS_OPTION: OptionForm = optional_text!(
+    "processors",
+    "N",
+    "How many processors the machine has, 10 or 20 (decimal); 10 if not given"
+);
+
+/// The first place or address to print.
+const FIRST_OPTION: OptionForm = optional_text!(
+    "first",
+    "N",
+    "The first address to print (octal; 0 if not given)"
+);
+
+/// `--turns N [--processors N]`
+const RUN_OPTIONS: &[OptionForm] = &[TURNS_OPTION, PROCESSORS_OPTION];
+
+/// The commands, in the order in which help lists them.
+pub(crate) const COMMANDS: [CommandForm; 13] = [
+    CommandForm {
+        name: "barrel",
+        about: "Runs a deck in the barrel, one step a turn, and prints what happened",
+        long_about: "\
 Runs a deck in the barrel: processors 0, 1, .. and 11 (octal) take one step a turn, again and again;
 of twenty processors, 20, 21, .. and 31 follow them in each round.
 
@@ -104,12 +158,13 @@ machine does not have, and FAULT 4 an address past the end of central memory.
 
 Where the deck has a line DEAD, the processors without a section wait for their programs, each on
 the channel of its own number, as at a dead start.",
-    example: EXAMPLE,
-};
-
-pub(crate) const THREADS_HELP: Help = Help {
-    about: "Runs a deck with one thread per processor, and prints what happened",
-    long_about: "\
+        example: EXAMPLE,
+        options: RUN_OPTIONS,
+    },
+    CommandForm {
+        name: "threads",
+        about: "Runs a deck with one thread per processor, and prints what happened",
+        long_about: "\
 Runs a deck with one thread per processor, all at once. Each goes on at its own speed, so the
 order of events on different channels, and sometimes the events themselves, differ from run to run.
 
@@ -129,12 +184,17 @@ state of each channel that has a history. What goes wrong is one line on standar
 
 Where the deck has a line DEAD, the processors without a section wait for their programs, each on
 the channel of its own number, as at a dead start.",
-    example: handoff_example!("threads --steps 100 --patience 1000000"),
-};
-
-pub(crate) const LIST_HELP: Help = Help {
-    about: "Prints the listing of a deck, one instruction a line, which is itself a deck",
-    long_about: "\
+        example: handoff_example!("threads --steps 100 --patience 1000000"),
+        options: &[
+            number!("steps", STEPS),
+            number!("patience", PATIENCE),
+            PROCESSORS_OPTION,
+        ],
+    },
+    CommandForm {
+        name: "list",
+        about: "Prints the listing of a deck, one instruction a line, which is itself a deck",
+        long_about: "\
 Prints the listing of a deck: the words of each processor that are not 0, one instruction a line,
 with its mnemonic and operands behind it as a comment. Nothing is run.
 
@@ -144,12 +204,13 @@ the deck names. What goes wrong is one line on standard error.
 
 The listing is itself a deck, and loads the same machine, where it is no longer than a deck may be,
 1048576 bytes (decimal).",
-    example: four_example!("list"),
-};
-
-pub(crate) const DUMP_HELP: Help = Help {
-    about: "Runs a deck in the barrel, and prints a deck to go on from",
-    long_about: "\
+        example: four_example!("list"),
+        options: &[PROCESSORS_OPTION],
+    },
+    CommandForm {
+        name: "dump",
+        about: "Runs a deck in the barrel, and prints a deck to go on from",
+        long_about: "\
 Runs a deck in the barrel, and prints what is in the machine then, in the form of a listing: central
 memory, and the words of each processor that the deck names or that was loaded at dead start. Those
 that are running start where they are; the others keep their memory alone.
@@ -158,12 +219,48 @@ Reads the deck from FILE or standard input. What is printed to standard output i
 from, where it is no longer than a deck may be, 1048576 bytes (decimal): histories and turns are
 gone. Where a processor is within a block or at fault, or a channel is active, nothing is printed,
 and the first of these is told on standard error. Any other fault is one line there too.",
-    example: four_example!("dump --turns 40"),
-};
+        example: four_example!("dump --turns 40"),
+        options: RUN_OPTIONS,
+    },
+    CommandForm {
+        name: "steps",
+        about: "Runs a deck in the barrel, and prints each step",
+        long_about: "\
+Runs a deck in the barrel, and prints each step: what the instruction is, and what it did.
 
-pub(crate) const STATE_HELP: Help = Help {
-    about: "Runs a deck in the barrel, and prints how things stand then",
-    long_about: "\
+Reads the deck from FILE or standard input. Prints to standard output a line for each step of the
+processors that the deck names or that waited at dead start: the turn, the processor, P, the word or
+two at P (none within a block), the instruction that runs, and A after it; then each place and each
+central word that the step changed; the channel event, or the flags that were seen; and STOPPED or
+FAULT with its number. Steps of a processor that are held in a row, with the same flags, are one
+line, at the first of them: HELD, the channel with its flags, and how many there are. With --pp,
+--ch, --from or --to only the steps chosen are printed, and counted. What goes wrong is one line on
+standard error.
+
+FAULT 1 is an exchange jump, FAULT 2 a request to the central processor, FAULT 3 a channel that the
+machine does not have, and FAULT 4 an address past the end of central memory.",
+        example: four_example!("steps --turns 40 --pp 0"),
+        options: &[
+            TURNS_OPTION,
+            optional_text!(
+                "pp",
+                "N,N,..",
+                "Print the steps of these processors only (octal)"
+            ),
+            optional_text!(
+                "ch",
+                "N,N,..",
+                "Print the steps that ask these channels only (octal)"
+            ),
+            optional_number!("from", FROM),
+            optional_number!("to", TO),
+            PROCESSORS_OPTION,
+        ],
+    },
+    CommandForm {
+        name: "state",
+        about: "Runs a deck in the barrel, and prints how things stand then",
+        long_about: "\
 Runs a deck in the barrel, and prints how things stand then: where each processor is and what holds
 it, what the run has changed in the memories, and the state of the channels.
 
@@ -176,12 +273,13 @@ is one line on standard error.
 
 FAULT 1 is an exchange jump, FAULT 2 a request to the central processor, FAULT 3 a channel that the
 machine does not have, and FAULT 4 an address past the end of central memory.",
-    example: four_example!("state --turns 40"),
-};
-
-pub(crate) const ENDS_HELP: Help = Help {
-    about: "Runs a deck in the barrel, and says how the run ends",
-    long_about: "\
+        example: four_example!("state --turns 40"),
+        options: RUN_OPTIONS,
+    },
+    CommandForm {
+        name: "ends",
+        about: "Runs a deck in the barrel, and says how the run ends",
+        long_about: "\
 Runs a deck in the barrel, and says how the run ends, as far as these turns tell.
 
 Reads the deck from FILE or standard input. Prints to standard output AT REST FROM t, if from turn t
@@ -191,12 +289,13 @@ stood at turn t; or GOING ON AT t, after all t turns. Then, as they stand at tur
 processor that the deck names or that waited at dead start, with the places between which it LOOPS
 in a repetition; and the state of each channel that has a history. What goes wrong is one line on
 standard error.",
-    example: four_example!("ends --turns 999999"),
-};
-
-pub(crate) const MEMORY_HELP: Help = Help {
-    about: "Runs a deck in the barrel, and prints the words of a processor's memory",
-    long_about: "\
+        example: four_example!("ends --turns 999999"),
+        options: RUN_OPTIONS,
+    },
+    CommandForm {
+        name: "memory",
+        about: "Runs a deck in the barrel, and prints the words of a processor's memory",
+        long_about: "\
 Runs a deck in the barrel, and prints the words of a processor's memory, in octal and in display
 code.
 
@@ -204,28 +303,56 @@ Reads the deck from FILE or standard input. Prints to standard output a line for
 from a multiple of 10 on (octal), of which one lies within the bounds and one has a word that is not
 0: the first place, the eight words, and the same in display code, two characters a word (00 and 55
 are spaces). What goes wrong is one line on standard error.",
-    example: four_example!("memory --turns 40 --pp 0"),
-};
-
-pub(crate) const CENTRAL_HELP: Help = Help {
-    about: "Runs a deck in the barrel, and prints the words of central memory",
-    long_about: "\
+        example: four_example!("memory --turns 40 --pp 0"),
+        options: &[
+            TURNS_OPTION,
+            OptionForm {
+                name: "pp",
+                required: true,
+                value: ValueForm::Text {
+                    name: "N",
+                    help: "The processor (octal)",
+                },
+            },
+            FIRST_OPTION,
+            optional_text!(
+                "last",
+                "N",
+                "The last address to print (octal; 7777 if not given)"
+            ),
+            PROCESSORS_OPTION,
+        ],
+    },
+    CommandForm {
+        name: "central",
+        about: "Runs a deck in the barrel, and prints the words of central memory",
+        long_about: "\
 Runs a deck in the barrel, and prints the words of central memory, in octal and in display code.
 
 Reads the deck from FILE or standard input. Prints to standard output a line for each word within
 the bounds that is not 0: the address, the word, and the same in display code, ten characters (00
 and 55 are spaces). What goes wrong is one line on standard error.",
-    example: "\
+        example: "\
 Example:
   ppsim central --turns 40 < word.deck
 where word.deck has the lines
   CM 10 00010002000300040005
   PP 0",
-};
-
-pub(crate) const SESSIONS_HELP: Help = Help {
-    about: "Runs a deck in the barrel, and prints the sessions of its channels",
-    long_about: "\
+        options: &[
+            TURNS_OPTION,
+            FIRST_OPTION,
+            optional_text!(
+                "last",
+                "N",
+                "The last address to print (octal; 377777 if not given)"
+            ),
+            PROCESSORS_OPTION,
+        ],
+    },
+    CommandForm {
+        name: "sessions",
+        about: "Runs a deck in the barrel, and prints the sessions of its channels",
+        long_about: "\
 Runs a deck in the barrel, and prints the sessions of its channels, each from an activate to the
 disconnect after it.
 
@@ -237,12 +364,23 @@ stretch with function codes. Then, for each processor that the deck names or tha
 start, how many of its turns MOVED it, were HELD, and found it at REST. With --words the line of a
 session is followed by the words put, and that of an idle stretch by its function codes, eight a
 line. Turns and counts are decimal, words octal. What goes wrong is one line on standard error.",
-    example: handoff_example!("sessions --turns 40"),
-};
-
-pub(crate) const RACES_HELP: Help = Help {
-    about: "Runs a deck in the barrel, and says whether every order of steps ends the same",
-    long_about: "\
+        example: handoff_example!("sessions --turns 40"),
+        options: &[
+            TURNS_OPTION,
+            OptionForm {
+                name: "words",
+                required: false,
+                value: ValueForm::Flag {
+                    help: "Print the words and function codes as well",
+                },
+            },
+            PROCESSORS_OPTION,
+        ],
+    },
+    CommandForm {
+        name: "races",
+        about: "Runs a deck in the barrel, and says whether every order of steps ends the same",
+        long_about: "\
 Runs a deck in the barrel, and says whether this one run tells the result of every order of steps:
 whether the processors, in whatever order they take their steps, end the same.
 
@@ -258,31 +396,13 @@ DIFFER. What goes wrong is one line on standard error.
 MAY DIFFER may stand where nothing differs: each processor is looked at with one channel at a time,
 so an order that another channel or a word of memory brings about is not seen, and each look counts
 of a loop that polls a channel. SAME IN EVERY ORDER never stands where something differs.",
-    example: handoff_example!("races --turns 40"),
-};
-
-pub(crate) const STEPS_HELP: Help = Help {
-    about: "Runs a deck in the barrel, and prints each step",
-    long_about: "\
-Runs a deck in the barrel, and prints each step: what the instruction is, and what it did.
-
-Reads the deck from FILE or standard input. Prints to standard output a line for each step of the
-processors that the deck names or that waited at dead start: the turn, the processor, P, the word or
-two at P (none within a block), the instruction that runs, and A after it; then each place and each
-central word that the step changed; the channel event, or the flags that were seen; and STOPPED or
-FAULT with its number. Steps of a processor that are held in a row, with the same flags, are one
-line, at the first of them: HELD, the channel with its flags, and how many there are. With --pp,
---ch, --from or --to only the steps chosen are printed, and counted. What goes wrong is one line on
-standard error.
-
-FAULT 1 is an exchange jump, FAULT 2 a request to the central processor, FAULT 3 a channel that the
-machine does not have, and FAULT 4 an address past the end of central memory.",
-    example: four_example!("steps --turns 40 --pp 0"),
-};
-
-pub(crate) const DRAW_HELP: Help = Help {
-    about: "Runs a deck in the barrel, and draws what happened",
-    long_about: "\
+        example: handoff_example!("races --turns 40"),
+        options: RUN_OPTIONS,
+    },
+    CommandForm {
+        name: "draw",
+        about: "Runs a deck in the barrel, and draws what happened",
+        long_about: "\
 Runs a deck in the barrel, and draws what happened, as an SVG for a browser.
 
 Reads the deck from FILE or standard input. Prints to standard output a picture with a lane for each
@@ -293,12 +413,18 @@ from left to right. What goes wrong is one line on standard error.
 
 A picture has at most 2000 turns. Of a longer run, give the first turn to draw and the one before
 which the picture ends: --turns 999999 --from 5000 --to 6000.",
-    example: handoff_example!("draw --turns 40"),
-};
-
-pub(crate) const CHECK_HELP: Help = Help {
-    about: "Reads a channel trace, and says whether it is lawful",
-    long_about: "\
+        example: handoff_example!("draw --turns 40"),
+        options: &[
+            TURNS_OPTION,
+            optional_number!("from", DRAWN_FROM),
+            optional_number!("to", TO),
+            PROCESSORS_OPTION,
+        ],
+    },
+    CommandForm {
+        name: "check",
+        about: "Reads a channel trace, and says whether it is lawful",
+        long_about: "\
 Reads a channel trace, and says whether it is lawful: whether on each channel its events, in order,
 may be those of one channel, on which in every session the words taken are the first of the words
 put. No deck is read, and nothing is run.
@@ -312,32 +438,17 @@ events before it.
 Prints to standard output how many events, channels and sessions there are. Where the trace is not
 lawful, nothing is printed there, and the first line at which it is not is told on standard error,
 with what is wrong, as in 'ppsim: line 7: TAK 0007 on CH05, which is empty'; the exit status is 1.",
-    example: "\
+        example: "\
 Example:
   ppsim check < handoff.trace
 where handoff.trace has the lines
   000000 PP00 CH05 ACN
   000020 PP00 CH05 PUT 0007
   000021 PP01 CH05 TAK 0007",
-};
-
-pub(crate) const FILE_HELP: &str = "The file to read; standard input if not given, or -";
-
-pub(crate) const PROCESSORS_HELP: &str =
-    "How many processors the machine has, 10 or 20 (decimal); 10 if not given";
-
-pub(crate) const PP_HELP: &str = "Print the steps of these processors only (octal)";
-
-pub(crate) const CHANNELS_HELP: &str = "Print the steps that ask these channels only (octal)";
-
-pub(crate) const MEMORY_PP_HELP: &str = "The processor (octal)";
-
-pub(crate) const FIRST_HELP: &str = "The first address to print (octal; 0 if not given)";
-
-pub(crate) const MEMORY_LAST_HELP: &str = "The last address to print (octal; 7777 if not given)";
-
-pub(crate) const CENTRAL_LAST_HELP: &str = "The last address to print (octal; 377777 if not given)";
-
-pub(crate) const WORDS_HELP: &str = "Print the words and function codes as well";
-
-pub(crate) const OPENED_HELP: &str = "The channels that were open before the trace (octal)";
+        options: &[optional_text!(
+            "opened",
+            "N,N,..",
+            "The channels that were open before the trace (octal)"
+        )],
+    },
+];

@@ -1,7 +1,7 @@
 use Rattle.std.proofs.Common.{rules, refl, ◌-◌, ◌<◌, codes}
 use Rattle.pp_command.specs.CommandLine.{value_in}
 use Rattle.pp_command.proofs.CommandLemmas.{no_picture}
-use Rattle.pp_command.proofs.command_words.drawn_text_of.Goals as goal
+use Rattle.pp_command.proofs.text_of.drawn_text_of.Goals as goal
 
 pub returns-then-not-fits_a_picture : goal.returns-then-not-fits_a_picture
 returns-then-not-fits_a_picture c =

@@ -1,0 +1,192 @@
+//! The values of options.
+
+ghost use Rattle.std.specs.Prelude.{◌≡◌, ◌-◌, ◌≤◌, ◌↔◌, IsTrue, codes, option_map, IfSome, IsSome};
+ghost use Rattle.pp_bounds.specs.Limits.{AreLimits};
+ghost use Rattle.pp_command.specs.CommandLine.{Finds, ReadsAddress, ReadsBounds, ReadsChannels, ReadsChosen, ReadsEnd, ReadsNumber, ReadsProcessor, ReadsProcessors, ReadsProfile, ReadsTurn, ReadsFlag, ReadsTurns, ReadsWindow, value_in};
+
+use crate::channel_list::listed_channels;
+use crate::number_range::{FROM, PATIENCE, STEPS, TURNS};
+use crate::processor_list::listed_processors;
+use clap::ArgMatches;
+use pp_bounds::{Bounds, Limits, MOST_TURNS, Window};
+use pp_channel::CHANNELS;
+use pp_machine::{PROCESSORS, PpNo, Profile};
+
+/// The value of an option, if the words give it one.
+pub(crate) fn value_of<'a>(matches: &ArgMatches<'a>, id: &str) -> Option<&'a str>
+    ensures { option_map (λ s. s.now) result ≡ value_in matches.now id.now }
+{
+    matches.get_str(id)
+}
+
+/// The number in an option's value.
+pub(crate) fn number_of(matches: &ArgMatches<'_>, id: &str) -> Option<u32>
+    ensures { Finds (ReadsNumber (value_in matches.now id.now)) result }
+{
+    value_of(matches, id)?.parse::<u32>().ok()
+}
+
+/// The profile with as many processors as the options say, if there is one; the 6600's own if they
+/// do not say it.
+pub(crate) fn profile_of(matches: &ArgMatches<'_>) -> Option<Profile>
+    ensures { Finds (ReadsProfile (value_in matches.now (codes "processors"))) result }
+{
+    if value_of(matches, "processors").is_none() {
+        return Some(Profile::Ten);
+    }
+    match number_of(matches, "processors") {
+        Some(10) => Some(Profile::Ten),
+        Some(20) => Some(Profile::Twenty),
+        _ => None,
+    }
+}
+
+/// The limits of two numbers, if they are in range. The ranges printed in the help are those of
+/// `Limits`.
+pub(crate) fn limits_of(steps: u32, patience: u32) -> Option<Limits>
+    ensures exists { IsSome result ↔ AreLimits (record { steps = steps; patience = patience }) }
+    ensures value { IfSome result (λ l. l ≡ record { steps = steps; patience = patience }) }
+{
+    if !STEPS.contains(steps) || !PATIENCE.contains(patience) {
+        return None;
+    }
+    match Limits::new(steps, patience) {
+        Some(limits) => Some(limits),
+        None => unreachable!(),
+    }
+}
+
+/// The number of turns that the options say, if it is in range.
+pub(crate) fn turns_of(matches: &ArgMatches<'_>) -> Option<u32>
+    ensures { Finds (ReadsTurns (value_in matches.now)) result }
+{
+    let turns = number_of(matches, "turns")?;
+    if !TURNS.contains(turns) {
+        return None;
+    }
+    Some(turns)
+}
+
+/// The processor of a machine of this profile that `--pp` gives, in octal, if there is one.
+pub(crate) fn processor_of(matches: &ArgMatches<'_>, profile: Profile) -> Option<PpNo>
+    ensures { Finds (ReadsProcessor profile (value_in matches.now (codes "pp"))) result }
+{
+    let number = u8::from_str_radix(value_of(matches, "pp")?, 8).ok()?;
+    profile.processor(number)
+}
+
+/// The processors of a machine of this profile that `--pp` lists, in octal, if it is given; nothing
+/// if the list is none of these.
+pub(crate) fn processors_of(
+    matches: &ArgMatches<'_>,
+    profile: Profile,
+) -> Option<Option<[bool; PROCESSORS]>>
+    ensures { Finds (ReadsProcessors profile (value_in matches.now (codes "pp"))) result }
+{
+    let Some(text) = value_of(matches, "pp") else {
+        return Some(None);
+    };
+    let listed = listed_processors(profile, text.as_bytes())?;
+    Some(Some(listed))
+}
+
+/// The channels that `--ch` lists, in octal, if it is given; nothing if the list is none of
+/// channels.
+pub(crate) fn channels_of(matches: &ArgMatches<'_>) -> Option<Option<[bool; CHANNELS]>>
+    ensures { Finds (ReadsChosen (value_in matches.now (codes "ch"))) result }
+{
+    let Some(text) = value_of(matches, "ch") else {
+        return Some(None);
+    };
+    let listed = listed_channels(text.as_bytes())?;
+    Some(Some(listed))
+}
+
+/// The address in an option's value, in octal; this one if the option is not given.
+fn address_of(matches: &ArgMatches<'_>, id: &str, default: u32) -> Option<u32>
+    ensures { Finds (ReadsAddress default (value_in matches.now id.now)) result }
+{
+    match value_of(matches, id) {
+        Some(text) => u32::from_str_radix(text, 8).ok(),
+        None => Some(default),
+    }
+}
+
+/// The bounds of the words to print, if they lie within a memory of this size.
+pub(crate) fn bounds_of(matches: &ArgMatches<'_>, size: u32) -> Option<Bounds>
+    requires { 1 ≤ size }
+    ensures { Finds (ReadsBounds size (value_in matches.now)) result }
+{
+    let first = address_of(matches, "first", 0)?;
+    let last = address_of(matches, "last", size - 1)?;
+    Bounds::new(first, last, size)
+}
+
+/// The turn in an option's value, if it is in range; this one if the option is not given.
+pub(crate) fn turn_of(matches: &ArgMatches<'_>, id: &str, default: u32) -> Option<u32>
+    ensures { Finds (ReadsTurn default (value_in matches.now id.now)) result }
+{
+    let Some(text) = value_of(matches, id) else {
+        return Some(default);
+    };
+    match text.parse::<u32>() {
+        Ok(turn) if FROM.contains(turn) => Some(turn),
+        Ok(_) | Err(_) => None,
+    }
+}
+
+/// The turn before which a picture of a run of `turns` turns ends, if it is in range; that of the
+/// run if the options do not say it.
+fn end_of(matches: &ArgMatches<'_>, turns: u32) -> Option<u32>
+    ensures { Finds (ReadsEnd turns (value_in matches.now (codes "to"))) result }
+{
+    let Some(text) = value_of(matches, "to") else {
+        return Some(turns);
+    };
+    match text.parse::<u32>() {
+        Ok(to) if to <= turns => Some(to),
+        Ok(_) | Err(_) => None,
+    }
+}
+
+/// The turns that the options say to be drawn, if they are in range, however many they are.
+#[tactic(auto, unfolding(crate::specs::CommandLine::ReadsWindow))]
+pub(crate) fn window_of(matches: &ArgMatches<'_>) -> Option<Window>
+    ensures { Finds (ReadsWindow (value_in matches.now)) result }
+{
+    let turns = turns_of(matches)?;
+    let to = end_of(matches, turns)?;
+    let from = turn_of(matches, "from", 0)?;
+    if to < from {
+        return None;
+    }
+    Some(Window { from, to })
+}
+
+/// Whether turns are no more than a picture has.
+pub(crate) fn fits_a_picture(window: Window) -> bool
+    ensures { IsTrue result ↔ (window.to - window.from ≤ 2000) }
+{
+    window.to.saturating_sub(window.from) <= MOST_TURNS
+}
+
+/// Whether an option without a value is given.
+pub(crate) fn is_flagged(matches: &ArgMatches<'_>, id: &str) -> bool
+    ensures { ReadsFlag (value_in matches.now id.now) result }
+{
+    match value_of(matches, id) {
+        Some("true") => true,
+        Some(_) | None => false,
+    }
+}
+
+/// The channels that the options say to be open, by flags in the order of their places, if they are
+/// channels; none if the options do not name any.
+pub(crate) fn opened_of(matches: &ArgMatches<'_>) -> Option<[bool; CHANNELS]>
+    ensures { Finds (ReadsChannels (value_in matches.now (codes "opened"))) result }
+{
+    match value_of(matches, "opened") {
+        Some(text) => listed_channels(text.as_bytes()),
+        None => Some([false; CHANNELS]),
+    }
+}
