@@ -10,9 +10,11 @@ use Rattle.pp_machine.specs.Run.{barrel, run}
 use Rattle.pp_machine.specs.declared.profile.Profile.{Profile}
 use Rattle.pp_deck.specs.DeckMeaning.{LoadedDeck, deck_meaning}
 use Rattle.pp_deck.specs.declared.deck_fault.DeckFault.{DeckFault}
-use Rattle.pp_text.specs.Written.{IsWritten}
+use Rattle.pp_text.specs.Written.{IsReportWritten, IsWritten}
+use Rattle.pp_text.specs.declared.report_fault.ReportFault.{ReportFault}
+use Rattle.pp_text.specs.declared.report_fault.ReportFault.TheVariants as report
 use Rattle.pp_text.specs.declared.write_fault.WriteFault.{WriteFault}
-use Rattle.pp_sim.specs.TextAnswer.{AnswersDeckUnless, IsAnswerUnless, answer_to, IsOfDeck, IsLoadFault, NothingPrevents, most_bytes}
+use Rattle.pp_sim.specs.TextAnswer.{AnswersDeckUnless, IsAnswerUnless, answer_to, answer_to_report, IsOfDeck, IsLoadFault, NothingPrevents, most_bytes}
 use Rattle.pp_sim.specs.TextOf.{IsTextAfter}
 use Rattle.pp_listing.specs.declared.going_on.Busy.{Busy}
 use Rattle.pp_sim.specs.declared.text_fault.TextFault.{TextFault}
@@ -23,6 +25,13 @@ pub answers_written : (profile : Profile) (Prevents : LoadedDeck → Busy → Ty
     → IsOfDeck profile IsDeckText bytes text → IsWritten text written old new → IsAnswerUnless profile Prevents IsDeckText (answer_to written) bytes old new
 answers_written profile Prevents IsDeckText bytes text (Ok done) old new is whole = (text, is, whole)
 answers_written profile Prevents IsDeckText bytes text (Err fault) old new is front = (text, is, front)
+
+-- the same of the text of a report, which is one if memory is not lacking
+pub answers_reported : (profile : Profile) (IsDeckText : LoadedDeck → List ℕ → Type 0) (bytes text : List ℕ) (written : Result (Unit {0}) ReportFault) (old new : Option (List ℕ))
+    → (written ≢ Err report.Memory → IsOfDeck profile IsDeckText bytes text) → IsReportWritten text written old new → IsAnswerUnless profile NothingPrevents IsDeckText (answer_to_report written) bytes old new
+answers_reported profile IsDeckText bytes text (Ok done) old new is whole = (text, is (λ e. cc), whole)
+answers_reported profile IsDeckText bytes text (Err report.Write) old new is front = (text, is (λ e. cc), front)
+answers_reported profile IsDeckText bytes text (Err report.Memory) old new is kept = kept
 
 -- the same of a text of the run of some turns
 pub answers_after : (profile : Profile) (turns : ℕ) (text_after : List ℕ → LoadedDeck → List ℕ) (bytes text : List ℕ) (deck : LoadedDeck) (after : MachineState) (written : Result (Unit {0}) WriteFault) (old new : Option (List ℕ))

@@ -1,11 +1,15 @@
 -- How the answer to a deck stands to the bytes that were read and written.
-use Rattle.std.specs.Prelude.{◌≡◌, ◌≢◌, ◌≤◌, ℕ, List, length, take, Option, Result, Ok, Err, OnOk, IfErr, IfSome}
+use Rattle.std.specs.Prelude.{◌≡◌, ◌≢◌, ◌≤◌, ℕ, Bool, List, length, take, Option, Result, Ok, Err, OnOk, IfErr, IfSome}
 use Rattle.std.specs.Io.KnownBytes.{Appends, Consumes, IsAtEnd, Keeps}
+use Rattle.pp_machine.specs.Headline.{HoldsOnEachChannel}
+use Rattle.pp_machine.specs.MachineState.{MachineState}
+use Rattle.pp_machine.specs.Run.{barrel, run}
 use Rattle.pp_machine.specs.declared.profile.Profile.{Profile}
 use Rattle.pp_deck.specs.DeckMeaning.{LoadedDeck, deck_meaning}
 use Rattle.pp_deck.specs.declared.deck_fault.DeckCode.TheVariants as code
 use Rattle.pp_deck.specs.declared.deck_fault.DeckFault.{DeckFault}
 use Rattle.pp_text.specs.Written.{AppendsFront}
+use Rattle.pp_text.specs.declared.report_fault.ReportFault.{ReportFault}
 use Rattle.pp_text.specs.declared.write_fault.WriteFault.{WriteFault}
 use Rattle.pp_listing.specs.declared.going_on.Busy.{Busy}
 use Rattle.pp_sim.specs.declared.text_fault.TextFault.{TextFault}
@@ -84,6 +88,22 @@ AnswersDeck profile IsDeckText = AnswersDeckUnless profile NothingPrevents IsDec
 abbrev pub answer_to : Result (Unit {0}) WriteFault → Result (Unit {0}) TextFault
 answer_to (Ok done) = Ok done
 answer_to (Err fault) = Err TextFault.Write
+
+-- the same of a report, for which memory may be lacking
+abbrev pub answer_to_report : Result (Unit {0}) ReportFault → Result (Unit {0}) TextFault
+answer_to_report (Ok done) = Ok done
+answer_to_report (Err ReportFault.Write) = Err TextFault.Write
+answer_to_report (Err ReportFault.Memory) = Err TextFault.Memory
+
+-- the bytes mean a deck that names these processors, and this is its machine after N turns of the
+-- barrel, of which the headline holds
+pub record HasRun (turns : ℕ) (profile : Profile) (bytes : List ℕ) (machine : MachineState)
+    (named : List Bool) : Type 0 where
+  pub before : MachineState
+  pub same_profile : before.profile ≡ profile
+  pub meant : deck_meaning profile bytes ≡ Ok (record { machine = before; named = named })
+  pub ran : machine ≡ run (barrel before.profile turns) before
+  pub headline : HoldsOnEachChannel machine
 
 -- reading fails by the reader or for lack of memory
 abbrev pub IsReadFault : TextFault → Type 0

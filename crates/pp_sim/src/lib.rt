@@ -7,7 +7,6 @@ mod laws;
 mod program;
 mod streams;
 mod text_fault;
-mod text_of;
 mod texts;
 
 pub use entry::run_main;
@@ -34,7 +33,6 @@ pub use pp_state::{run_counting_held, state_law, write_state};
 pub use pp_steps::{steps_law, write_steps};
 pub use program::run_program;
 pub use text_fault::TextFault;
-pub use texts::barrel_text::barrel_text;
 pub use texts::check_text::check_text;
-pub use texts::deck_text::deck_text;
+pub use texts::deck_text::{barrel_text, deck_text};
 pub use texts::threads_text::threads_text;

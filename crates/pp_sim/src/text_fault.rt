@@ -1,12 +1,14 @@
 //! Why a text was not written.
 
 ghost use Rattle.std.specs.Prelude.{◌≡◌};
-ghost use Rattle.pp_sim.specs.TextAnswer.{answer_to};
+ghost use Rattle.pp_sim.specs.TextAnswer.{answer_to, answer_to_report};
 
+use pp_channel::Memory;
 use pp_check::TraceFault;
 use pp_deck::DeckFault;
 use pp_listing::Busy;
-use pp_text::WriteFault;
+use pp_machine::Cut;
+use pp_text::{ReportFault, WriteFault};
 use thiserror::Error;
 
 /// Why a text of a deck or of a trace was not written. Every fault but `Write` comes before the
@@ -33,9 +35,42 @@ pub enum TextFault {
     Write,
 }
 
+impl From<Cut> for TextFault {
+    ghost use Rattle.std.specs.Prelude.{◌≡◌};
+    ghost use Rattle.pp_sim.specs.declared.text_fault.TextFault.TheVariants.{Memory};
+
+    ghost from_gives = { λ _ fault. fault ≡ Memory };
+
+    fn from(_cut: Cut) -> TextFault {
+        TextFault::Memory
+    }
+}
+
+impl From<Memory> for TextFault {
+    ghost use Rattle.std.specs.Prelude.{◌≡◌};
+    ghost use Rattle.pp_sim.specs.declared.text_fault.TextFault.TheVariants.{Memory};
+
+    ghost from_gives = { λ _ fault. fault ≡ Memory };
+
+    fn from(_memory: Memory) -> TextFault {
+        TextFault::Memory
+    }
+}
+
 /// The answer after a text was written, or after the writer failed.
 pub(crate) fn answer_to(written: Result<(), WriteFault>) -> Result<(), TextFault>
     ensures { result ≡ answer_to written }
 {
     written.map_err(|_| TextFault::Write)
+}
+
+/// The same of the text of a report.
+pub(crate) fn answer_to_report(written: Result<(), ReportFault>) -> Result<(), TextFault>
+    ensures { result ≡ answer_to_report written }
+{
+    match written {
+        Ok(()) => Ok(()),
+        Err(ReportFault::Memory) => Err(TextFault::Memory),
+        Err(ReportFault::Write) => Err(TextFault::Write),
+    }
 }

@@ -1,12 +1,13 @@
 //! Reading a deck and writing a text of it.
 
-ghost use Rattle.pp_sim.specs.TextAnswer.{AnswersDeckUnless};
+ghost use Rattle.pp_sim.specs.BarrelText.{IsBarrelText};
+ghost use Rattle.pp_sim.specs.TextAnswer.{AnswersDeck, AnswersDeckUnless};
 ghost use Rattle.pp_sim.specs.TextOf.{IsTextOf, obstacle};
 
 use crate::deck_bytes::DeckBytes;
 use crate::streams::read_front;
 use crate::text_fault::TextFault;
-use crate::text_of::write_text_of;
+use crate::texts::write_text_of;
 use pp_command::TextOf;
 use pp_machine::Profile;
 use std::alloc::Allocator;
@@ -28,4 +29,20 @@ pub fn deck_text<A: Allocator + Copy, R: Read, W: Write>(
     let front = read_front(alloc, reader)?;
     let bytes = front.as_slice();
     write_text_of(alloc, &DeckBytes { profile, bytes }, writer, text)
+}
+
+/// Reads a deck for a machine of this profile, runs it in the barrel for `turns` turns (decimal),
+/// and writes the text of the run. That the headline holds of it is law `headline_law`.
+pub fn barrel_text<A: Allocator + Copy, R: Read, W: Write>(
+    alloc: A,
+    profile: Profile,
+    reader: &mut R,
+    writer: &mut W,
+    turns: u32,
+) -> Result<(), TextFault>
+    ensures { AnswersDeck profile (IsBarrelText turns) result
+        (R.remaining reader.old) (R.remaining reader.new)
+        (W.contents writer.old) (W.contents writer.new) }
+{
+    deck_text(alloc, profile, reader, writer, &TextOf::Barrel(turns))
 }

@@ -6,11 +6,10 @@ ghost use Rattle.pp_sim.specs.ThreadsText.{IsThreadsText};
 
 use crate::deck_bytes::DeckBytes;
 use crate::streams::read_front;
-use crate::text_fault::TextFault;
+use crate::text_fault::{TextFault, answer_to_report};
 use pp_machine::Profile;
 use pp_report::{headline_law, write_report};
 use pp_runner::{Gate, Limits, NoGate, run_threads};
-use pp_text::ReportFault;
 use std::alloc::Allocator;
 use std::io::{Read, Write};
 use std::sync::Wait;
@@ -65,9 +64,5 @@ fn write_threads<
     let Ok(report) = run_threads(rt, alloc, &loaded.machine, limits, gate) else {
         return Err(TextFault::Memory);
     };
-    match write_report(alloc, writer, &report, &loaded.named) {
-        Ok(()) => Ok(()),
-        Err(ReportFault::Memory) => Err(TextFault::Memory),
-        Err(ReportFault::Write) => Err(TextFault::Write),
-    }
+    answer_to_report(write_report(alloc, writer, &report, &loaded.named))
 }

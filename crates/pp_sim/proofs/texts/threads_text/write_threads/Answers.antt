@@ -1,5 +1,7 @@
 use Rattle.std.proofs.Common.{refl}
+use Rattle.pp_sim.proofs.AnswerLemmas.{answers_reported}
 use Rattle.pp_sim.proofs.texts.threads_text.write_threads.Goals as goal
+use Rattle.pp_sim.specs.ThreadsText.{IsThreadsText}
 
 pub run_threads-requires-send-A : goal.run_threads-requires-send-A
 run_threads-requires-send-A g c κs within = c.type_bounds.send-A
@@ -19,38 +21,19 @@ run_threads-requires-after_bounds g c κs within = (c.requires, c.in_ok-loaded.e
 pub run_threads-requires-sync-G : goal.run_threads-requires-sync-G
 run_threads-requires-sync-G g c κs within = c.type_bounds.sync-G
 
-pub returns-in-Ok-write_report : goal.returns-in-Ok-write_report
-returns-in-Ok-write_report g c = (
-  _,
-  record {
-    deck = _;
-    meant = c.in_ok-loaded.ensures.ok;
-    told = record {
-      report = _;
-      named = c.in_ok-loaded.ensures.names;
-      run = c.in-Ok.ensures;
-      headline = (c.headline_law.ensures _ _ _ c.in_ok-loaded.ensures.ok).threads _ _ c.in-Ok.ensures;
-      told = refl;
-      fits = c.in-Ok-write_report.ensures.fits (λ e. cc);
-    };
-  },
-  c.in-Ok-write_report.ensures.written,
-)
-
 pub returns : goal.returns
-returns g c = (
-  _,
-  record {
-    deck = _;
-    meant = c.in_ok-loaded.ensures.ok;
-    told = record {
-      report = _;
-      named = c.in_ok-loaded.ensures.names;
-      run = c.in-Ok.ensures;
-      headline = (c.headline_law.ensures _ _ _ c.in_ok-loaded.ensures.ok).threads _ _ c.in-Ok.ensures;
-      told = refl;
-      fits = c.in-Err-Write.ensures.fits (λ e. cc);
-    };
-  },
-  rw c.in-Err-Write.field-0-is at c.in-Err-Write.ensures.written,
-)
+returns g c =
+    rw c.answer_to_report.ensures (answers_reported c.args.deck.now.profile (IsThreadsText _ c.args.limits) c.args.deck.now.bytes.now _ c.write_report.result _ _
+    (λ some. record {
+      deck = _;
+      meant = c.in_ok-loaded.ensures.ok;
+      told = record {
+        report = _;
+        named = c.in_ok-loaded.ensures.names;
+        run = c.in-Ok.ensures;
+        headline = (c.headline_law.ensures _ _ _ c.in_ok-loaded.ensures.ok).threads _ _ c.in-Ok.ensures;
+        told = refl;
+        fits = c.write_report.ensures.fits some;
+      };
+    })
+    c.write_report.ensures.written)

@@ -5,7 +5,7 @@ use Rattle.pp_deck.specs.InUse.{in_use}
 use Rattle.pp_sessions.specs.SessionsText.{sessions_after, sessions_text}
 use Rattle.pp_sessions.specs.declared.step_counts.StepCounts.{StepCounts}
 use Rattle.pp_sim.proofs.AnswerLemmas.{answers_after}
-use Rattle.pp_sim.proofs.texts.sessions_text.write_sessions_after.Goals as goal
+use Rattle.pp_sim.proofs.texts.write_sessions_after.Goals as goal
 
 pub returns : goal.returns
 returns g c =
@@ -14,8 +14,8 @@ returns g c =
     let shown = in_use (record { machine = before; named = c.in_ok-loaded.loaded.named }) in
     let after = c.run_counting_steps.new.machine in
     let told =
-    ap (λ (flags : List Bool). sessions_text words flags after c.in-Ok.counts) c.in_use-shown.ensures
-    ∙ ap (λ (m : MachineState). sessions_text words shown m c.in-Ok.counts) c.in-Ok.ensures.ran
-    ∙ ap (λ (counts : List StepCounts). sessions_text words shown (run (barrel before.profile c.args.turns) before) counts) c.in-Ok.ensures.counts in
+    ap (λ (flags : List Bool). sessions_text words flags after c.in_ok-counts.counts) c.in_use-shown.ensures
+    ∙ ap (λ (m : MachineState). sessions_text words shown m c.in_ok-counts.counts) c.in_ok-counts.ensures.ran
+    ∙ ap (λ (counts : List StepCounts). sessions_text words shown (run (barrel before.profile c.args.turns) before) counts) c.in_ok-counts.ensures.counts in
     rw c.answer_to.ensures (answers_after c.args.deck.now.profile c.args.turns (sessions_after words) c.args.deck.now.bytes.now _ _ after c.write_sessions.result _ _
-    c.in_ok-loaded.ensures.ok c.in-Ok.ensures.ran c.run_counting_steps.ensures.headline told c.write_sessions.ensures)
+    c.in_ok-loaded.ensures.ok c.in_ok-counts.ensures.ran c.run_counting_steps.ensures.headline told c.write_sessions.ensures)

@@ -5,7 +5,7 @@ use Rattle.pp_deck.specs.InUse.{in_use}
 use Rattle.pp_draw.specs.DrawingText.{drawing, drawing_of_run}
 use Rattle.pp_draw.specs.declared.seen_step.SeenStep.{SeenStep}
 use Rattle.pp_sim.proofs.AnswerLemmas.{answers_after}
-use Rattle.pp_sim.proofs.texts.draw_text.write_drawn.Goals as goal
+use Rattle.pp_sim.proofs.texts.write_drawn.Goals as goal
 
 pub returns : goal.returns
 returns g c =
@@ -16,7 +16,7 @@ returns g c =
     let told =
     ap (λ (flags : List Bool). drawing c.args.window flags after c.as_slice.result.now) c.in_use-shown.ensures
     ∙ ap (λ (steps : List SeenStep). drawing c.args.window shown after steps) c.as_slice.ensures.value
-    ∙ ap (λ (m : MachineState). drawing c.args.window shown m c.in-Ok.steps.items) c.in-Ok.ensures.ran
-    ∙ ap (λ (steps : List SeenStep). drawing c.args.window shown (ran_to before) steps) c.in-Ok.ensures.seen in
+    ∙ ap (λ (m : MachineState). drawing c.args.window shown m c.in_ok-steps.steps.items) c.in_ok-steps.ensures.ran
+    ∙ ap (λ (steps : List SeenStep). drawing c.args.window shown (ran_to before) steps) c.in_ok-steps.ensures.seen in
     rw c.answer_to.ensures (answers_after c.args.deck.now.profile c.args.window.to (λ turns. drawing_of_run c.args.window) c.args.deck.now.bytes.now _ _ after c.write_drawing.result _ _
-    c.in_ok-loaded.ensures.ok c.in-Ok.ensures.ran c.run_seeing_steps.ensures.headline told c.write_drawing.ensures)
+    c.in_ok-loaded.ensures.ok c.in_ok-steps.ensures.ran c.run_seeing_steps.ensures.headline told c.write_drawing.ensures)

@@ -9,7 +9,7 @@ use Rattle.pp_state.specs.HeldSteps.{each_held_steps}
 use Rattle.pp_state.specs.StateText.{state_after, state_text}
 use Rattle.pp_sim.proofs.AnswerLemmas.{answers_after, refused}
 use Rattle.pp_sim.proofs.StateLemmas.{one_deck}
-use Rattle.pp_sim.proofs.texts.state_text.write_state_after.Goals as goal
+use Rattle.pp_sim.proofs.texts.write_state_after.Goals as goal
 use Rattle.pp_sim.specs.TextOf.{IsTextAfter}
 use Rattle.pp_sim.specs.TextAnswer.{NothingPrevents}
 
@@ -21,12 +21,12 @@ returns g c =
     let ran_on : MachineState → MachineState = λ (m : MachineState). run (barrel m.profile turns) m in
     let same : c.in_ok-after.after.machine ≡ before =
     ap (λ (deck : LoadedDeck). deck.machine) (one_deck (deck_meaning c.args.deck.now.profile c.args.deck.now.bytes.now) _ _ c.in_ok-after.ensures.ok c.in_ok-before.ensures.ok) in
-    let ran : c.run_counting_held.new.machine ≡ ran_on before = c.in-Ok.ensures.ran ∙ ap ran_on same in
-    let counted : c.in-Ok.held ≡ each_held_steps (run_steps (barrel before.profile turns) before) =
-    c.in-Ok.ensures.held ∙ ap (λ (m : MachineState). each_held_steps (run_steps (barrel m.profile turns) m)) same in
+    let ran : c.run_counting_held.new.machine ≡ ran_on before = c.in_ok-held.ensures.ran ∙ ap ran_on same in
+    let counted : c.in_ok-held.held ≡ each_held_steps (run_steps (barrel before.profile turns) before) =
+    c.in_ok-held.ensures.held ∙ ap (λ (m : MachineState). each_held_steps (run_steps (barrel m.profile turns) m)) same in
     let told =
-    ap (λ (flags : List Bool). state_text flags before c.run_counting_held.new.machine c.in-Ok.held) c.in_use-shown.ensures
-    ∙ ap (λ (m : MachineState). state_text shown before m c.in-Ok.held) ran
+    ap (λ (flags : List Bool). state_text flags before c.run_counting_held.new.machine c.in_ok-held.held) c.in_use-shown.ensures
+    ∙ ap (λ (m : MachineState). state_text shown before m c.in_ok-held.held) ran
     ∙ ap (λ (held : List ℕ). state_text shown before (ran_on before) held) counted in
     rw c.answer_to.ensures (answers_after c.args.deck.now.profile turns state_after c.args.deck.now.bytes.now _ _ c.run_counting_held.new.machine c.write_state.result _ _
     c.in_ok-before.ensures.ok ran c.run_counting_held.ensures.headline told c.write_state.ensures)

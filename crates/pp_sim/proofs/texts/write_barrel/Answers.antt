@@ -3,22 +3,22 @@ use Rattle.pp_machine.specs.Headline.{HoldsOnEachChannel}
 use Rattle.pp_text.specs.PrintedText.{printed}
 use Rattle.pp_text.specs.TextLaw.{FitsItsText}
 use Rattle.pp_sim.proofs.AnswerLemmas.{answers_written}
-use Rattle.pp_sim.proofs.texts.barrel_text.write_barrel.Goals as goal
+use Rattle.pp_sim.proofs.texts.write_barrel.Goals as goal
 use Rattle.pp_sim.specs.BarrelText.{IsBarrelText}
 use Rattle.pp_sim.specs.TextAnswer.{NothingPrevents}
 
 pub returns : goal.returns
 returns g c =
-    let named = c.in_ok-loaded.loaded.named in
-    let ran = c.in-Ok.ensures.ok in
+    let named = c.in_ok-ran.ran.named in
+    let run = c.in_ok-ran.ensures.ok in
     rw c.answer_to.ensures (answers_written c.args.deck.now.profile NothingPrevents (IsBarrelText c.args.turns) c.args.deck.now.bytes.now _ c.write_text.result _ _
     (record {
       deck = _;
-      meant = c.in_ok-loaded.ensures.ok;
+      meant = run.meant;
       told = record {
-        told = ap (printed named) ran;
-        headline = subst HoldsOnEachChannel ran c.run_barrel.ensures.headline;
-        fits = subst (FitsItsText named) ran c.write_text.ensures.fits;
+        told = ap (printed named) run.ran;
+        headline = subst HoldsOnEachChannel run.ran run.headline;
+        fits = subst (FitsItsText named) run.ran c.write_text.ensures.fits;
       };
     })
     c.write_text.ensures.written)

@@ -2,14 +2,14 @@ use Rattle.std.proofs.Common.{◌≡◌, Some, subst}
 use Rattle.pp_machine.specs.MachineState.{MachineState}
 use Rattle.pp_listing.specs.Dump.{first_busy}
 use Rattle.pp_sim.proofs.DumpTextLemmas.{dumped_of}
-use Rattle.pp_sim.proofs.texts.dump_text.write_dump_after.Goals as goal
+use Rattle.pp_sim.proofs.texts.write_dump_after.Goals as goal
 
-pub returns-in-Ok-write_dump : goal.returns-in-Ok-write_dump
-returns-in-Ok-write_dump g c =
-    let (between, whole) = c.in-Ok-write_dump.ensures.dumped in (
+pub returns-in-Ok : goal.returns-in-Ok
+returns-in-Ok g c =
+    let (between, whole) = c.in-Ok.ensures.dumped in (
       _,
-      dumped_of c.args.turns _ c.args.deck.now.profile c.args.deck.now.bytes.now c.run_barrel.new.self c.in_ok-loaded.ensures.profile c.in_ok-loaded.ensures.ok c.in-Ok.ensures.ok
-          between c.in-Ok-write_dump.ensures.goes_on,
+      dumped_of c.args.turns _ c.args.deck.now.profile c.args.deck.now.bytes.now c.in_ok-ran.ran.machine c.in_ok-ran.ensures.ok.same_profile c.in_ok-ran.ensures.ok.meant c.in_ok-ran.ensures.ok.ran
+          between c.in-Ok.ensures.goes_on,
       whole,
     )
 
@@ -17,7 +17,7 @@ pub returns : goal.returns
 returns g c =
     let dumped = rw c.in-Err-Write.field-0-is at c.in-Err-Write.ensures.dumped in (
       _,
-      dumped_of c.args.turns _ c.args.deck.now.profile c.args.deck.now.bytes.now c.run_barrel.new.self c.in_ok-loaded.ensures.profile c.in_ok-loaded.ensures.ok c.in-Ok.ensures.ok
+      dumped_of c.args.turns _ c.args.deck.now.profile c.args.deck.now.bytes.now c.in_ok-ran.ran.machine c.in_ok-ran.ensures.ok.same_profile c.in_ok-ran.ensures.ok.meant c.in_ok-ran.ensures.ok.ran
           dumped.0 c.in-Err-Write.ensures.goes_on,
       dumped.1,
     )
@@ -26,6 +26,6 @@ pub returns-in-Err-NotBetweenPrograms : goal.returns-in-Err-NotBetweenPrograms
 returns-in-Err-NotBetweenPrograms g c =
     let dumped = rw c.in-Err-NotBetweenPrograms.field-0-is at c.in-Err-NotBetweenPrograms.ensures.dumped in
     let IsFirst : MachineState → Type 0 = λ m. first_busy m ≡ Some c.in-Err-NotBetweenPrograms.first in (
-      record { deck = _; meant = c.in_ok-loaded.ensures.ok; told = subst IsFirst c.in-Ok.ensures.ok dumped.0 },
+      record { deck = _; meant = c.in_ok-ran.ensures.ok.meant; told = subst IsFirst c.in_ok-ran.ensures.ok.ran dumped.0 },
       dumped.1,
     )

@@ -4,7 +4,7 @@ use Rattle.pp_machine.specs.Run.{barrel, run}
 use Rattle.pp_deck.specs.InUse.{in_use}
 use Rattle.pp_ends.specs.EndsText.{ends_text}
 use Rattle.pp_sim.proofs.AnswerLemmas.{answers_written}
-use Rattle.pp_sim.proofs.texts.ends_text.write_ends_after.Goals as goal
+use Rattle.pp_sim.proofs.texts.write_ends_after.Goals as goal
 use Rattle.pp_sim.specs.EndsText.{IsEndsText}
 use Rattle.pp_sim.specs.TextAnswer.{NothingPrevents}
 
@@ -13,8 +13,8 @@ returns g c =
     let load = c.in_ok-loaded.loaded.machine in
     let shown = in_use (record { machine = load; named = c.in_ok-loaded.loaded.named }) in
     let turns = c.args.turns in
-    let ending = c.in-Ok.ending in
-    let loops = c.in-Ok-find_loops.loops in
+    let ending = c.in_ok-ending.ending in
+    let loops = c.in_ok-loops.loops in
     rw c.answer_to.ensures (answers_written c.args.deck.now.profile NothingPrevents (IsEndsText turns) c.args.deck.now.bytes.now _ c.write_ends.result _ _
     (record {
       deck = _;
@@ -22,10 +22,10 @@ returns g c =
       told = record {
         ending = ending;
         loops = loops;
-        ends = c.in-Ok.ensures;
-        looped = c.in-Ok-find_loops.ensures;
+        ends = c.in_ok-ending.ensures;
+        looped = c.in_ok-loops.ensures;
         told = ap (λ (flags : List Bool). ends_text flags ending turns c.run_barrel.new.self loops) c.in_use-shown.ensures
-            ∙ ap (λ (m : MachineState). ends_text shown ending turns m loops) c.in-Ok-run_barrel.ensures.ok
+            ∙ ap (λ (m : MachineState). ends_text shown ending turns m loops) c.in_ok-run_barrel.ensures.ok
             ∙ ap (λ (t : ℕ). ends_text shown ending turns (run (barrel load.profile t) load) loops) c.turn.ensures;
       };
     })
