@@ -6,8 +6,8 @@ use Rattle.pp_machine.specs.RunLaws.{run_profile}
 use Rattle.pp_deck.specs.DeckMeaning.{LoadedDeck, deck_meaning}
 use Rattle.pp_machine.specs.MachineState.{MachineState}
 use Rattle.pp_listing.specs.Dump.{GoesOnFrom, deck_to_go_on, dump, first_busy}
-use Rattle.pp_sim.specs.DumpText.{IsDumpText, after_turns}
 use Rattle.pp_sim.specs.TextAnswer.{IsOfDeck}
+use Rattle.pp_sim.specs.TextOf.{IsDumpText, after_turns}
 
 pub goes_on_after : (turns : ℕ) (deck : LoadedDeck) (profile : Profile) (source text : List ℕ) → deck.machine.profile ≡ profile → deck_meaning profile source ≡ Ok deck → GoesOnFrom text (after_turns turns deck)
     → length text ≤ 1048576 → deck_meaning deck.machine.profile text ≡ Ok (deck_to_go_on (after_turns turns deck))

@@ -1,11 +1,5 @@
 pub mod TextAnswer
-pub mod BarrelText
 pub mod ThreadsText
-pub mod ListText
 pub mod CheckText
-pub mod DumpText
-pub mod RacesText
-pub mod StepsText
-pub mod EndsText
 pub mod TextOf
 pub mod Program

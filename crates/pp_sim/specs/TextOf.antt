@@ -1,25 +1,65 @@
--- The text of a deck that is asked for.
-use Rattle.std.specs.Prelude.{◌≡◌, ℕ, List}
-use Rattle.pp_machine.specs.Headline.{HoldsOnEachChannel}
+-- The texts of a deck: which text is each that is asked for.
+use Rattle.std.specs.Prelude.{◌≡◌, ℕ, List, ◌≤◌, length, Ok, None, Some, Option, [], unwrap_or}
+use Rattle.pp_machine.specs.Headline.{HoldsOnEachChannel, IsMachine}
 use Rattle.pp_machine.specs.MachineState.{processor_of}
 use Rattle.pp_machine.specs.Run.{barrel, run}
-use Rattle.pp_deck.specs.DeckMeaning.{LoadedDeck}
-use Rattle.pp_draw.specs.DrawingText.{drawing_of_run}
+use Rattle.pp_bounds.specs.declared.bounds.Bounds.{Bounds}
 use Rattle.pp_bounds.specs.declared.window.Window.{Window}
+use Rattle.pp_deck.specs.DeckMeaning.{LoadedDeck, deck_meaning}
+use Rattle.pp_deck.specs.InUse.{in_use}
+use Rattle.pp_listing.specs.Dump.{after, deck_to_go_on, dump, first_busy}
+use Rattle.pp_listing.specs.Listing.{listing}
 use Rattle.pp_listing.specs.declared.going_on.Busy.{Busy}
+use Rattle.pp_text.specs.PrintedText.{printed}
+use Rattle.pp_text.specs.TextLaw.{FitsItsText}
 use Rattle.pp_state.specs.CentralText.{central_text}
 use Rattle.pp_state.specs.MemoryText.{memory_text}
-use Rattle.pp_bounds.specs.declared.bounds.Bounds.{Bounds}
-use Rattle.pp_sessions.specs.SessionsText.{sessions_after}
-use Rattle.pp_sim.specs.BarrelText.{IsBarrelText}
-use Rattle.pp_sim.specs.DumpText.{PreventsDump, IsDumpText}
-use Rattle.pp_sim.specs.EndsText.{IsEndsText}
-use Rattle.pp_sim.specs.ListText.{IsListText}
-use Rattle.pp_sim.specs.RacesText.{IsRacesText}
-use Rattle.pp_sim.specs.StepsText.{IsStepsText}
-use Rattle.pp_sim.specs.TextAnswer.{NothingPrevents}
-use Rattle.pp_command.specs.declared.text_of.TextOf.{TextOf}
 use Rattle.pp_state.specs.StateText.{state_after}
+use Rattle.pp_ends.specs.Endings.{IsEnding}
+use Rattle.pp_ends.specs.EndsText.{ends_text_of}
+use Rattle.pp_ends.specs.Loops.{AreLoops}
+use Rattle.pp_ends.specs.declared.ending.Ending.{Ending}
+use Rattle.pp_ends.specs.declared.loops.Loop.{Loop}
+use Rattle.pp_steps.specs.StepsText.{steps_text}
+use Rattle.pp_steps.specs.declared.choice.Choice.{Choice}
+use Rattle.pp_races.specs.Findings.{findings}
+use Rattle.pp_races.specs.RacesText.{races_text}
+use Rattle.pp_sessions.specs.SessionsText.{sessions_after}
+use Rattle.pp_draw.specs.DrawingText.{drawing_of_run}
+use Rattle.pp_run.specs.Determinacy.{IsDeterminate}
+use Rattle.pp_command.specs.declared.text_of.ChosenSteps.{ChosenSteps}
+use Rattle.pp_command.specs.declared.text_of.TextOf.{TextOf}
+use Rattle.pp_sim.specs.TextAnswer.{NothingPrevents}
+
+-- the text of a loaded deck that has run in the barrel for N turns. Of that run the headline holds:
+-- each channel's history is its opening history and then the trace's events on it, and keeps the
+-- law of sessions. And all that the machine then shows fits its lines, so that the text shows it
+pub record IsBarrelText (turns : ℕ) (deck : LoadedDeck) (text : List ℕ) : Type 0 where
+  pub told : text ≡ printed deck.named (run (barrel deck.machine.profile turns) deck.machine)
+  pub headline : HoldsOnEachChannel (run (barrel deck.machine.profile turns) deck.machine)
+  pub fits : FitsItsText deck.named (run (barrel deck.machine.profile turns) deck.machine)
+
+-- the text of a loaded deck: its listing, which means the same deck for a machine of the same
+-- profile, if it is no longer than a deck may be
+pub record IsListText (deck : LoadedDeck) (text : List ℕ) : Type 0 where
+  pub told : text ≡ listing deck
+  pub reads_back : length text ≤ 1048576 → deck_meaning deck.machine.profile text ≡ Ok deck
+
+-- a loaded deck that has run in the barrel for `turns` turns
+abbrev pub after_turns : ℕ → LoadedDeck → LoadedDeck
+after_turns turns deck = after (barrel deck.machine.profile turns) deck
+
+-- its text: the machine is between programs; the text is its dump, which means the deck to go on
+-- from, for a machine of the same profile, if it is no longer than a deck may be
+pub record IsDumpText (turns : ℕ) (deck : LoadedDeck) (text : List ℕ) : Type 0 where
+  pub between : first_busy (after_turns turns deck).machine ≡ None
+  pub told : text ≡ dump (after_turns turns deck)
+  pub goes_on : length text ≤ 1048576
+      → deck_meaning deck.machine.profile text ≡ Ok (deck_to_go_on (after_turns turns deck))
+
+-- it is not between programs, and this is the first that goes on
+abbrev pub PreventsDump : ℕ → LoadedDeck → Busy → Type 0
+PreventsDump turns deck going_on = first_busy (after_turns turns deck).machine ≡ Some going_on
 
 -- the text of a loaded deck after N turns of the barrel, by these turns and the deck; of that run
 -- the headline holds: each channel's history is its opening history and then the trace's events on
@@ -41,6 +81,36 @@ central_after bounds steps deck = central_text bounds (run steps deck.machine).c
 -- the drawing of a loaded deck in a window of its run, which ends with the window
 abbrev pub IsDrawing : Window → LoadedDeck → List ℕ → Type 0
 IsDrawing w = IsTextAfter w.to (λ turns. drawing_of_run w)
+
+-- the text of a loaded deck: its ending in N turns of the barrel, and the loops of its processors
+pub record IsEndsText (turns : ℕ) (deck : LoadedDeck) (text : List ℕ) : Type 0 where
+  pub ending : Ending
+  pub loops : List (Option Loop)
+  pub ends : IsEnding ending turns deck.machine
+  pub looped : AreLoops loops ending deck.machine
+  pub told : text ≡ ends_text_of (in_use deck) ending turns deck.machine loops
+
+-- the text of a loaded deck that has run in the barrel for N turns; its machine is a whole one, and
+-- if nothing is found the run is determinate
+pub record IsRacesText (turns : ℕ) (deck : LoadedDeck) (text : List ℕ) : Type 0 where
+  pub told : text ≡ races_text (barrel deck.machine.profile turns) deck.machine
+  pub machine : IsMachine deck.machine
+  pub same : findings (barrel deck.machine.profile turns) deck.machine ≡ []
+      → IsDeterminate (barrel deck.machine.profile turns) deck.machine
+
+-- the steps chosen of a deck: of the processors in use, if no others are given
+abbrev pub choice_of : ChosenSteps → LoadedDeck → Choice
+choice_of chosen deck = record {
+  processors = unwrap_or chosen.processors (in_use deck);
+  channels = chosen.channels;
+  from = chosen.from;
+  to = chosen.to;
+}
+
+-- the text of a loaded deck: the steps chosen of N turns of the barrel
+abbrev pub IsStepsText : ℕ → ChosenSteps → LoadedDeck → List ℕ → Type 0
+IsStepsText turns chosen deck text =
+    text ≡ steps_text (choice_of chosen deck) (barrel deck.machine.profile turns) deck.machine
 
 -- THE TEXT: which text of a loaded deck is each that is asked for
 abbrev pub IsTextOf : TextOf → LoadedDeck → List ℕ → Type 0

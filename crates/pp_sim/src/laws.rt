@@ -17,9 +17,8 @@ ghost use Rattle.pp_races.specs.declared.verdict.Verdict.TheVariants.{Same};
 ghost use Rattle.pp_bounds.specs.Limits.{RunLimits};
 ghost use Rattle.pp_runner.specs.Report.{IsReportOf};
 ghost use Rattle.pp_runner.specs.declared.report.Report.{Report};
-ghost use Rattle.pp_sim.specs.BarrelText.{IsBarrelText};
-ghost use Rattle.pp_sim.specs.RacesText.{IsRacesText};
 ghost use Rattle.pp_sim.specs.ThreadsText.{IsThreadsText};
+ghost use Rattle.pp_sim.specs.TextOf.{IsBarrelText, IsRacesText};
 ghost use Rattle.pp_report.specs.ReportLaw.{AgreeOnReport};
 ghost use Rattle.pp_text.specs.TextLaw.{AgreeOnText, AreSameHistories, NameAlike};
 

@@ -5,14 +5,8 @@ pub(crate) mod deck_text;
 pub(crate) mod threads_text;
 
 ghost use Rattle.pp_sessions.specs.SessionsText.{sessions_after};
-ghost use Rattle.pp_sim.specs.BarrelText.{IsBarrelText};
-ghost use Rattle.pp_sim.specs.DumpText.{IsDumpText, PreventsDump};
-ghost use Rattle.pp_sim.specs.EndsText.{IsEndsText};
-ghost use Rattle.pp_sim.specs.ListText.{IsListText};
-ghost use Rattle.pp_sim.specs.RacesText.{IsRacesText};
-ghost use Rattle.pp_sim.specs.StepsText.{IsStepsText};
 ghost use Rattle.pp_sim.specs.TextAnswer.{IsAnswer, IsAnswerUnless};
-ghost use Rattle.pp_sim.specs.TextOf.{IsDrawing, IsTextAfter, IsTextOf, central_after, memory_after, obstacle};
+ghost use Rattle.pp_sim.specs.TextOf.{IsBarrelText, IsDrawing, IsDumpText, IsEndsText, IsListText, IsRacesText, IsStepsText, IsTextAfter, IsTextOf, PreventsDump, central_after, memory_after, obstacle};
 ghost use Rattle.pp_state.specs.StateText.{state_after};
 
 use crate::deck_bytes::DeckBytes;

@@ -1,8 +1,7 @@
 //! Reading a deck and writing a text of it.
 
-ghost use Rattle.pp_sim.specs.BarrelText.{IsBarrelText};
 ghost use Rattle.pp_sim.specs.TextAnswer.{AnswersDeck, AnswersDeckUnless};
-ghost use Rattle.pp_sim.specs.TextOf.{IsTextOf, obstacle};
+ghost use Rattle.pp_sim.specs.TextOf.{IsBarrelText, IsTextOf, obstacle};
 
 use crate::deck_bytes::DeckBytes;
 use crate::streams::read_front;

@@ -4,8 +4,8 @@ use Rattle.pp_text.specs.PrintedText.{printed}
 use Rattle.pp_text.specs.TextLaw.{FitsItsText}
 use Rattle.pp_sim.proofs.AnswerLemmas.{answers_written}
 use Rattle.pp_sim.proofs.texts.write_barrel.Goals as goal
-use Rattle.pp_sim.specs.BarrelText.{IsBarrelText}
 use Rattle.pp_sim.specs.TextAnswer.{NothingPrevents}
+use Rattle.pp_sim.specs.TextOf.{IsBarrelText}
 
 pub returns : goal.returns
 returns g c =

@@ -1,7 +1,7 @@
 use Rattle.std.proofs.Common.{rules}
 use Rattle.pp_sim.proofs.AnswerLemmas.{answers_reported}
 use Rattle.pp_sim.proofs.texts.write_chosen_steps.Goals as goal
-use Rattle.pp_sim.specs.StepsText.{IsStepsText}
+use Rattle.pp_sim.specs.TextOf.{IsStepsText}
 
 pub returns : goal.returns
 returns g c =

@@ -5,8 +5,8 @@ use Rattle.pp_deck.specs.InUse.{in_use}
 use Rattle.pp_ends.specs.EndsText.{ends_text}
 use Rattle.pp_sim.proofs.AnswerLemmas.{answers_written}
 use Rattle.pp_sim.proofs.texts.write_ends_after.Goals as goal
-use Rattle.pp_sim.specs.EndsText.{IsEndsText}
 use Rattle.pp_sim.specs.TextAnswer.{NothingPrevents}
+use Rattle.pp_sim.specs.TextOf.{IsEndsText}
 
 pub returns : goal.returns
 returns g c =

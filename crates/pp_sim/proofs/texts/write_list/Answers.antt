@@ -2,8 +2,8 @@ use Rattle.std.proofs.Common.{◌∙◌, ap, refl}
 use Rattle.pp_deck.specs.DeckMeaning.{deck_meaning}
 use Rattle.pp_sim.proofs.AnswerLemmas.{answers_written}
 use Rattle.pp_sim.proofs.texts.write_list.Goals as goal
-use Rattle.pp_sim.specs.ListText.{IsListText}
 use Rattle.pp_sim.specs.TextAnswer.{NothingPrevents}
+use Rattle.pp_sim.specs.TextOf.{IsListText}
 
 pub returns : goal.returns
 returns g c =

@@ -1,7 +1,7 @@
 use Rattle.std.proofs.Common.{refl}
 use Rattle.pp_sim.proofs.AnswerLemmas.{answers_reported}
 use Rattle.pp_sim.proofs.texts.write_raced.Goals as goal
-use Rattle.pp_sim.specs.RacesText.{IsRacesText}
+use Rattle.pp_sim.specs.TextOf.{IsRacesText}
 
 pub returns : goal.returns
 returns g c =
