@@ -84,6 +84,19 @@ AnswersDeck profile IsDeckText = AnswersDeckUnless profile NothingPrevents IsDec
 
 -- ---- parts of a call
 
+-- the answer to a deck that is loaded, from whatever bytes: its machine, and what it names
+abbrev pub AnswersLoadedUnless : MachineState → List Bool → (LoadedDeck → Busy → Type 0)
+    → (LoadedDeck → List ℕ → Type 0) → Result (Unit {0}) TextFault → (old new : Option (List ℕ))
+    → Type 0
+AnswersLoadedUnless machine named Prevents IsDeckText answer old new =
+    (profile : Profile) (bytes : List ℕ)
+    → deck_meaning profile bytes ≡ Ok (record { machine = machine; named = named })
+    → machine.profile ≡ profile → IsAnswerUnless profile Prevents IsDeckText answer bytes old new
+
+abbrev pub AnswersLoaded : MachineState → List Bool → (LoadedDeck → List ℕ → Type 0)
+    → Result (Unit {0}) TextFault → (old new : Option (List ℕ)) → Type 0
+AnswersLoaded machine named = AnswersLoadedUnless machine named NothingPrevents
+
 -- the answer after a text was written, or after the writer failed
 abbrev pub answer_to : Result (Unit {0}) WriteFault → Result (Unit {0}) TextFault
 answer_to (Ok done) = Ok done
@@ -94,16 +107,6 @@ abbrev pub answer_to_report : Result (Unit {0}) ReportFault → Result (Unit {0}
 answer_to_report (Ok done) = Ok done
 answer_to_report (Err ReportFault.Write) = Err TextFault.Write
 answer_to_report (Err ReportFault.Memory) = Err TextFault.Memory
-
--- the bytes mean a deck that names these processors, and this is its machine after N turns of the
--- barrel, of which the headline holds
-pub record HasRun (turns : ℕ) (profile : Profile) (bytes : List ℕ) (machine : MachineState)
-    (named : List Bool) : Type 0 where
-  pub before : MachineState
-  pub same_profile : before.profile ≡ profile
-  pub meant : deck_meaning profile bytes ≡ Ok (record { machine = before; named = named })
-  pub ran : machine ≡ run (barrel before.profile turns) before
-  pub headline : HoldsOnEachChannel machine
 
 -- reading fails by the reader or for lack of memory
 abbrev pub IsReadFault : TextFault → Type 0

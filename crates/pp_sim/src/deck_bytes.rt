@@ -2,7 +2,7 @@
 
 ghost use Rattle.pp_deck.specs.DeckLaw.{NamesWithin};
 ghost use Rattle.pp_deck.specs.DeckMeaning.{deck_meaning};
-ghost use Rattle.pp_sim.specs.TextAnswer.{HasRun, IsLoadFault};
+ghost use Rattle.pp_sim.specs.TextAnswer.{IsLoadFault};
 ghost use Rattle.std.specs.Prelude.{◌≡◌, [], Ok, IfOk, IfErr};
 
 use crate::text_fault::TextFault;
@@ -33,19 +33,5 @@ impl<'a> DeckBytes<'a> {
             Err(fault) if fault.code == DeckCode::Memory => Err(TextFault::Memory),
             Err(fault) => Err(TextFault::Deck(fault)),
         }
-    }
-    /// The same after `turns` turns of the barrel.
-    pub(crate) fn run<A: Allocator + Copy>(
-        &self,
-        alloc: A,
-        turns: u32,
-    ) -> Result<Deck<A>, TextFault>
-        ensures ok { IfOk result (λ deck. HasRun turns self.now.profile self.now.bytes.now
-            deck.machine deck.named) }
-        ensures fault { IfErr result (IsLoadFault self.now.profile self.now.bytes.now) }
-    {
-        let mut deck = self.load(alloc)?;
-        deck.machine.run_barrel(turns)?;
-        Ok(deck)
     }
 }

@@ -27,7 +27,9 @@ pub fn deck_text<A: Allocator + Copy, R: Read, W: Write>(
 {
     let front = read_front(alloc, reader)?;
     let bytes = front.as_slice();
-    write_text_of(alloc, &DeckBytes { profile, bytes }, writer, text)
+    let deck = DeckBytes { profile, bytes };
+    let mut loaded = deck.load(alloc)?;
+    write_text_of(alloc, &deck, &mut loaded, writer, text)
 }
 
 /// Reads a deck for a machine of this profile, runs it in the barrel for `turns` turns (decimal),

@@ -1,12 +1,15 @@
 //! Reading a deck, running it with one thread per processor and writing the text of the run.
 
+ghost use Rattle.std.specs.Prelude.{◌≡◌, []};
+ghost use Rattle.pp_deck.specs.DeckLaw.{NamesWithin};
 ghost use Rattle.pp_runner.specs.Report.{ReportFitsInMemory};
-ghost use Rattle.pp_sim.specs.TextAnswer.{AnswersDeck, IsAnswer};
+ghost use Rattle.pp_sim.specs.TextAnswer.{AnswersDeck, AnswersLoaded};
 ghost use Rattle.pp_sim.specs.ThreadsText.{IsThreadsText};
 
 use crate::deck_bytes::DeckBytes;
 use crate::streams::read_front;
 use crate::text_fault::{TextFault, answer_to_report};
+use pp_deck::Deck;
 use pp_machine::Profile;
 use pp_report::{headline_law, write_report};
 use pp_runner::{Gate, Limits, NoGate, run_threads};
@@ -37,8 +40,8 @@ pub fn threads_text<T: Threads + Wait + Sync, R: Read, A: Allocator + Copy + Sen
 {
     let front = read_front(alloc, reader)?;
     let bytes = front.as_slice();
-    let deck = DeckBytes { profile, bytes };
-    write_threads(rt, &NoGate, alloc, &deck, writer, limits)
+    let loaded = DeckBytes { profile, bytes }.load(alloc)?;
+    write_threads(rt, &NoGate, alloc, &loaded, writer, limits)
 }
 
 /// Runs a deck, and then writes the text of its run.
@@ -51,16 +54,17 @@ fn write_threads<
     rt: &T,
     gate: &G,
     alloc: A,
-    deck: &DeckBytes,
+    loaded: &Deck<A>,
     writer: &mut W,
     limits: Limits,
 ) -> Result<(), TextFault>
-    requires { ReportFitsInMemory A.row A.Allocator }
-    ensures { IsAnswer deck.now.profile (IsThreadsText A limits) result deck.now.bytes.now
+    requires memory { ReportFitsInMemory A.row A.Allocator }
+    requires fresh { loaded.now.machine.trace ≡ [] }
+    requires names { NamesWithin loaded.now.machine.profile loaded.now.named }
+    ensures { AnswersLoaded loaded.now.machine loaded.now.named (IsThreadsText A limits) result
         (W.contents writer.old) (W.contents writer.new) }
 {
     headline_law::<A>();
-    let loaded = deck.load(alloc)?;
     let Ok(report) = run_threads(rt, alloc, &loaded.machine, limits, gate) else {
         return Err(TextFault::Memory);
     };

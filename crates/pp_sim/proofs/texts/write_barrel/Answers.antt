@@ -8,17 +8,16 @@ use Rattle.pp_sim.specs.TextAnswer.{NothingPrevents}
 use Rattle.pp_sim.specs.TextOf.{IsBarrelText}
 
 pub returns : goal.returns
-returns g c =
-    let named = c.in_ok-ran.ran.named in
-    let run = c.in_ok-ran.ensures.ok in
-    rw c.answer_to.ensures (answers_written c.args.deck.now.profile NothingPrevents (IsBarrelText c.args.turns) c.args.deck.now.bytes.now _ c.write_text.result _ _
+returns g c = λ profile bytes meant same.
+    let named = c.args.loaded.now.named in
+    rw c.answer_to.ensures (answers_written profile NothingPrevents (IsBarrelText c.args.turns) bytes _ c.write_text.result _ _
     (record {
       deck = _;
-      meant = run.meant;
+      meant = meant;
       told = record {
-        told = ap (printed named) run.ran;
-        headline = subst HoldsOnEachChannel run.ran run.headline;
-        fits = subst (FitsItsText named) run.ran c.write_text.ensures.fits;
+        told = ap (printed named) c.in_ok-run_barrel.ensures.ok;
+        headline = subst HoldsOnEachChannel c.in_ok-run_barrel.ensures.ok c.run_barrel.ensures.headline;
+        fits = subst (FitsItsText named) c.in_ok-run_barrel.ensures.ok c.write_text.ensures.fits;
       };
     })
     c.write_text.ensures.written)

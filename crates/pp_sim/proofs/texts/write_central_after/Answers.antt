@@ -6,9 +6,8 @@ use Rattle.pp_sim.proofs.texts.write_central_after.Goals as goal
 use Rattle.pp_sim.specs.TextOf.{central_after}
 
 pub returns : goal.returns
-returns g c =
+returns g c = λ profile bytes meant same.
     let bounds = c.args.bounds in
-    let run = c.in_ok-ran.ensures.ok in
-    let told = ap (central_text bounds) c.central.ensures ∙ ap (λ (m : MachineState). central_text bounds m.central) run.ran in
-    rw c.answer_to.ensures (answers_after c.args.deck.now.profile c.args.turns (central_after bounds) c.args.deck.now.bytes.now _ _ _ c.write_central.result _ _
-    run.meant run.ran run.headline told c.write_central.ensures)
+    let told = ap (central_text bounds) c.central.ensures ∙ ap (λ (m : MachineState). central_text bounds m.central) c.in_ok-run_barrel.ensures.ok in
+    rw c.answer_to.ensures (answers_after profile c.args.turns (central_after bounds) bytes _ _ _ c.write_central.result _ _
+    meant c.in_ok-run_barrel.ensures.ok c.run_barrel.ensures.headline told c.write_central.ensures)

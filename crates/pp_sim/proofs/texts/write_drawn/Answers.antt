@@ -8,9 +8,9 @@ use Rattle.pp_sim.proofs.AnswerLemmas.{answers_after}
 use Rattle.pp_sim.proofs.texts.write_drawn.Goals as goal
 
 pub returns : goal.returns
-returns g c =
-    let before = c.in_ok-loaded.loaded.machine in
-    let shown = in_use (record { machine = before; named = c.in_ok-loaded.loaded.named }) in
+returns g c = λ profile bytes meant same.
+    let before = c.args.loaded.now.machine in
+    let shown = in_use (record { machine = before; named = c.args.loaded.now.named }) in
     let after = c.run_seeing_steps.new.machine in
     let ran_to : MachineState → MachineState = λ m. run (barrel m.profile c.args.window.to) m in
     let told =
@@ -18,5 +18,5 @@ returns g c =
     ∙ ap (λ (steps : List SeenStep). drawing c.args.window shown after steps) c.as_slice.ensures.value
     ∙ ap (λ (m : MachineState). drawing c.args.window shown m c.in_ok-steps.steps.items) c.in_ok-steps.ensures.ran
     ∙ ap (λ (steps : List SeenStep). drawing c.args.window shown (ran_to before) steps) c.in_ok-steps.ensures.seen in
-    rw c.answer_to.ensures (answers_after c.args.deck.now.profile c.args.window.to (λ turns. drawing_of_run c.args.window) c.args.deck.now.bytes.now _ _ after c.write_drawing.result _ _
-    c.in_ok-loaded.ensures.ok c.in_ok-steps.ensures.ran c.run_seeing_steps.ensures.headline told c.write_drawing.ensures)
+    rw c.answer_to.ensures (answers_after profile c.args.window.to (λ turns. drawing_of_run c.args.window) bytes _ _ after c.write_drawing.result _ _
+    meant c.in_ok-steps.ensures.ran c.run_seeing_steps.ensures.headline told c.write_drawing.ensures)

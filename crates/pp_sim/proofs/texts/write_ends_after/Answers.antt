@@ -9,16 +9,16 @@ use Rattle.pp_sim.specs.TextAnswer.{NothingPrevents}
 use Rattle.pp_sim.specs.TextOf.{IsEndsText}
 
 pub returns : goal.returns
-returns g c =
-    let load = c.in_ok-loaded.loaded.machine in
-    let shown = in_use (record { machine = load; named = c.in_ok-loaded.loaded.named }) in
+returns g c = λ profile bytes meant same.
+    let load = c.args.loaded.now.machine in
+    let shown = in_use (record { machine = load; named = c.args.loaded.now.named }) in
     let turns = c.args.turns in
     let ending = c.in_ok-ending.ending in
     let loops = c.in_ok-loops.loops in
-    rw c.answer_to.ensures (answers_written c.args.deck.now.profile NothingPrevents (IsEndsText turns) c.args.deck.now.bytes.now _ c.write_ends.result _ _
+    rw c.answer_to.ensures (answers_written profile NothingPrevents (IsEndsText turns) bytes _ c.write_ends.result _ _
     (record {
       deck = _;
-      meant = c.in_ok-loaded.ensures.ok;
+      meant = meant;
       told = record {
         ending = ending;
         loops = loops;

@@ -6,15 +6,15 @@ use Rattle.pp_sim.specs.TextAnswer.{NothingPrevents}
 use Rattle.pp_sim.specs.TextOf.{IsListText}
 
 pub returns : goal.returns
-returns g c =
-    let meant = c.in_ok-loaded.ensures.ok in
-    rw c.answer_to.ensures (answers_written c.args.deck.now.profile NothingPrevents IsListText c.args.deck.now.bytes.now _ c.write_listing.result _ _
+returns g c = λ profile bytes meant same.
+    let meant = meant in
+    rw c.answer_to.ensures (answers_written profile NothingPrevents IsListText bytes _ c.write_listing.result _ _
     (record {
       deck = _;
       meant = meant;
       told = record {
         told = refl;
-        reads_back = c.write_listing.ensures.reads_back c.args.deck.now.bytes.now (ap (λ p. deck_meaning p c.args.deck.now.bytes.now) c.in_ok-loaded.ensures.profile ∙ meant);
+        reads_back = c.write_listing.ensures.reads_back bytes (ap (λ p. deck_meaning p bytes) same ∙ meant);
       };
     })
     c.write_listing.ensures.written)

@@ -6,10 +6,9 @@ use Rattle.pp_sim.proofs.texts.write_memory_after.Goals as goal
 use Rattle.pp_sim.specs.TextOf.{memory_after}
 
 pub returns : goal.returns
-returns g c =
+returns g c = λ profile bytes meant same.
     let n = c.args.processor in
     let bounds = c.args.bounds in
-    let run = c.in_ok-ran.ensures.ok in
-    let told = ap (memory_text bounds) c.pp.ensures ∙ ap (λ (m : MachineState). memory_text bounds (processor_of n m)) run.ran in
-    rw c.answer_to.ensures (answers_after c.args.deck.now.profile c.args.turns (memory_after n bounds) c.args.deck.now.bytes.now _ _ _ c.write_memory.result _ _
-    run.meant run.ran run.headline told c.write_memory.ensures)
+    let told = ap (memory_text bounds) c.pp.ensures ∙ ap (λ (m : MachineState). memory_text bounds (processor_of n m)) c.in_ok-run_barrel.ensures.ok in
+    rw c.answer_to.ensures (answers_after profile c.args.turns (memory_after n bounds) bytes _ _ _ c.write_memory.result _ _
+    meant c.in_ok-run_barrel.ensures.ok c.run_barrel.ensures.headline told c.write_memory.ensures)

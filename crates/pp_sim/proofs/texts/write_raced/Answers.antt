@@ -8,7 +8,7 @@ returns g c =
     rw c.answer_to_report.ensures (answers_reported c.args.deck.now.profile (IsRacesText c.args.turns) c.args.deck.now.bytes.now _ c.write_races.result _ _
     (λ some. record {
       deck = _;
-      meant = c.in_ok-loaded.ensures.ok;
+      meant = c.requires;
       told = record { told = refl; machine = c.turns-whole.ensures.sound; same = c.write_races.ensures.same some };
     })
     c.write_races.ensures.written)

@@ -8,14 +8,14 @@ use Rattle.pp_sim.proofs.AnswerLemmas.{answers_after}
 use Rattle.pp_sim.proofs.texts.write_sessions_after.Goals as goal
 
 pub returns : goal.returns
-returns g c =
+returns g c = λ profile bytes meant same.
     let words = c.args.words in
-    let before = c.in_ok-loaded.loaded.machine in
-    let shown = in_use (record { machine = before; named = c.in_ok-loaded.loaded.named }) in
+    let before = c.args.loaded.now.machine in
+    let shown = in_use (record { machine = before; named = c.args.loaded.now.named }) in
     let after = c.run_counting_steps.new.machine in
     let told =
     ap (λ (flags : List Bool). sessions_text words flags after c.in_ok-counts.counts) c.in_use-shown.ensures
     ∙ ap (λ (m : MachineState). sessions_text words shown m c.in_ok-counts.counts) c.in_ok-counts.ensures.ran
     ∙ ap (λ (counts : List StepCounts). sessions_text words shown (run (barrel before.profile c.args.turns) before) counts) c.in_ok-counts.ensures.counts in
-    rw c.answer_to.ensures (answers_after c.args.deck.now.profile c.args.turns (sessions_after words) c.args.deck.now.bytes.now _ _ after c.write_sessions.result _ _
-    c.in_ok-loaded.ensures.ok c.in_ok-counts.ensures.ran c.run_counting_steps.ensures.headline told c.write_sessions.ensures)
+    rw c.answer_to.ensures (answers_after profile c.args.turns (sessions_after words) bytes _ _ after c.write_sessions.result _ _
+    meant c.in_ok-counts.ensures.ran c.run_counting_steps.ensures.headline told c.write_sessions.ensures)

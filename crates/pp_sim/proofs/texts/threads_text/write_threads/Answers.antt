@@ -16,22 +16,22 @@ pub run_threads-requires-frees-A-Allocator : goal.run_threads-requires-frees-A-A
 run_threads-requires-frees-A-Allocator g c κs within = c.type_bounds.frees-A-Allocator
 
 pub run_threads-requires-after_bounds : goal.run_threads-requires-after_bounds
-run_threads-requires-after_bounds g c κs within = (c.requires, c.in_ok-loaded.ensures.fresh)
+run_threads-requires-after_bounds g c κs within = (c.requires.memory, c.requires.fresh)
 
 pub run_threads-requires-sync-G : goal.run_threads-requires-sync-G
 run_threads-requires-sync-G g c κs within = c.type_bounds.sync-G
 
 pub returns : goal.returns
-returns g c =
-    rw c.answer_to_report.ensures (answers_reported c.args.deck.now.profile (IsThreadsText _ c.args.limits) c.args.deck.now.bytes.now _ c.write_report.result _ _
+returns g c = λ profile bytes meant same.
+    rw c.answer_to_report.ensures (answers_reported profile (IsThreadsText _ c.args.limits) bytes _ c.write_report.result _ _
     (λ some. record {
       deck = _;
-      meant = c.in_ok-loaded.ensures.ok;
+      meant = meant;
       told = record {
         report = _;
-        named = c.in_ok-loaded.ensures.names;
+        named = c.requires.names;
         run = c.in-Ok.ensures;
-        headline = (c.headline_law.ensures _ _ _ c.in_ok-loaded.ensures.ok).threads _ _ c.in-Ok.ensures;
+        headline = (c.headline_law.ensures _ _ _ meant).threads _ _ c.in-Ok.ensures;
         told = refl;
         fits = c.write_report.ensures.fits some;
       };
