@@ -5,11 +5,10 @@ ghost use Rattle.pp_ends.specs.Loops.{AreLoops, TellLoops, noted, widened};
 
 use crate::ending::Ending;
 use crate::quiet::step_telling;
-use crate::rounds::round_of;
 use crate::run::run_telling;
 use pp_channel::Memory;
 use pp_machine::{Machine, PROCESSORS, PpNo};
-use pp_run::BareMachine;
+use pp_run::{BareMachine, in_turn};
 use pp_word::Word12;
 use std::alloc::Allocator;
 
@@ -47,13 +46,13 @@ fn loops_in<A: Allocator + Copy, B: Allocator>(
 ) -> Result<[Option<Loop>; PROCESSORS], Memory>
     ensures { IfOk result (λ loops. TellLoops loops from (from + every) machine.now) }
 {
-    let round = round_of(machine);
+    let profile = machine.profile();
     let mut bare = BareMachine::of(alloc, machine)?;
-    let _still = run_telling(&mut bare, round, from);
+    let _still = run_telling(&mut bare, profile, from);
     let mut loops = [None; PROCESSORS];
     let start = u64::from(from);
     for turn in start..start + u64::from(every) {
-        let n = PpNo::at((turn % u64::from(round)) as usize);
+        let n = in_turn(profile, turn);
         let p = bare.pp(n).p();
         let moved = step_telling(&mut bare, n);
         note(&mut loops, n, p, moved);

@@ -1,10 +1,8 @@
 //! How runs end.
 
-ghost use Rattle.std.specs.Prelude.{◌≡◌, ◌≤◌, ℕ, IfOk, IfSome, IsNone};
+ghost use Rattle.std.specs.Prelude.{◌≡◌, ℕ, IfOk, IfSome, IsNone};
 ghost use Rattle.pp_run.specs.BareMachine.{StandsFor};
 ghost use Rattle.pp_machine.specs.MachineState.{MachineState};
-ghost use Rattle.pp_machine.specs.PpNo.{processor_count};
-ghost use Rattle.pp_machine.specs.Profile.{processors_in};
 ghost use Rattle.pp_run.specs.Determinacy.{IsQuiet};
 ghost use Rattle.pp_ends.specs.Endings.{IsEnding, IsStillFrom, after_turns};
 
@@ -12,8 +10,8 @@ use crate::ending::Ending;
 use crate::quiet::{is_quiet, is_running, step_telling};
 use crate::rounds::{find_period, find_start, round_of};
 use pp_channel::Memory;
-use pp_machine::{Machine, PpNo};
-use pp_run::BareMachine;
+use pp_machine::{Machine, Profile};
+use pp_run::{BareMachine, in_turn};
 use std::alloc::Allocator;
 
 /// How a run of this many turns of the barrel (decimal) ends. The machine is only read: at most two
@@ -56,7 +54,7 @@ fn quiet_ending<A: Allocator + Copy, B: Allocator>(
         → ¬ IsQuiet (after_turns turns machine.now)) }
 {
     let mut bare = BareMachine::of(alloc, machine)?;
-    let from = run_telling(&mut bare, round_of(machine), turns);
+    let from = run_telling(&mut bare, machine.profile(), turns);
     if !is_quiet(&bare) {
         return Ok(None);
     }
@@ -68,17 +66,19 @@ fn quiet_ending<A: Allocator + Copy, B: Allocator>(
 }
 
 /// Runs these turns of the barrel, and says from which turn on no step moved.
-pub(crate) fn run_telling<A: Allocator>(bare: &mut BareMachine<A>, round: u32, turns: u32) -> u32
-    requires some { 1 ≤ round }
-    requires most { round ≤ processor_count }
-    ensures ran { (m : MachineState) → round ≡ processors_in m.profile → StandsFor bare.old m
+pub(crate) fn run_telling<A: Allocator>(
+    bare: &mut BareMachine<A>,
+    profile: Profile,
+    turns: u32,
+) -> u32
+    ensures ran { (m : MachineState) → profile ≡ m.profile → StandsFor bare.old m
         → StandsFor bare.new (after_turns turns m) }
-    ensures still { (m : MachineState) → round ≡ processors_in m.profile → StandsFor bare.old m
+    ensures still { (m : MachineState) → profile ≡ m.profile → StandsFor bare.old m
         → IsStillFrom result turns m }
 {
     let mut from = 0;
     for turn in 0..turns {
-        if step_telling(bare, PpNo::at((turn % round) as usize)) {
+        if step_telling(bare, in_turn(profile, u64::from(turn))) {
             from = turn + 1;
         }
     }

@@ -1,6 +1,6 @@
 -- What a look leaves in the tables.
 use Rattle.std.proofs.Common.{◌≡◌, ℕ, ◌<◌, ◌≤◌, Bool, true, IsTrue, List, [], ◌++◌, length, drop, slice_set, get_or, Option, Some, None, refl, sym, ap, ◌∙◌, subst, inl, inr, append-nil, arith}
-use Rattle.std.specs.Prelude.{if◌then◌else◌}
+use Rattle.std.specs.Prelude.{◌⊎◌, if◌then◌else◌}
 use Rattle.std.specs.Option.{option_or}
 use Rattle.std.proofs.lemmas.List.{get_or_default, get_or-set_same}
 use Rattle.pp_channel.specs.Answer.{event_of, flags_of}
@@ -19,7 +19,6 @@ use Rattle.pp_machine.specs.declared.trace.Trace.{Trace}
 use Rattle.pp_run.proofs.StepFacts.{histories_by, histories_none, trace_by, trace_with}
 use Rattle.pp_races.specs.FlagSets.{has, look_at, no_looks}
 use Rattle.pp_races.specs.OtherFlags.{found_at, is_alike, is_race, waits_at}
-use Rattle.pp_races.specs.Soundness.{AsksLawfulChannel}
 use Rattle.pp_races.specs.Spans.{IsIndex}
 use Rattle.pp_races.specs.Tables.{AreLow, AreLooks, AreWatched, IsLow, entry_count, entry_place, flags_through, looks_of, low_of, missed_at, no_low}
 use Rattle.pp_races.specs.Watch.{Missed, Watch, asked, asking_step, first_race, from_alike, looked, race_before, watched_need}
@@ -181,20 +180,23 @@ waits_watched m w n c op low looks found e none waits are =
     (kept_watched m (stepped n m) w w low looks found (trace_kept n c op m e none) (λ k. history_kept n c k op m e none) refl refl refl are))
 
 -- a step that asks no channel
-trace_off : (x : Need) (m : MachineState) (n : ℕ) → x ≡ need (processor_of n m) → ((c : ℕ) (op : ChanOp) → x ≡ Channel c op → ⊥) → (stepped n m).trace ≡ m.trace
-trace_off (Channel c op) m n e off = absurd (off c op refl)
+abbrev pub AsksNone : Need → Type 0
+AsksNone x = (x ≡ Need.Nothing) ⊎ ((x ≡ Need.Local) ⊎ (((a : ℕ) × (x ≡ Need.Read a)) ⊎ ((a word : ℕ) × (x ≡ Need.Write a word))))
+
+asks_one : (c : ℕ) (op : ChanOp) → AsksNone (Channel c op) → ⊥
+asks_one c op (inl e) = cc
+asks_one c op (inr (inl e)) = cc
+asks_one c op (inr (inr (inl (a, e)))) = cc
+asks_one c op (inr (inr (inr (a, word, e)))) = cc
+
+trace_off : (x : Need) (m : MachineState) (n : ℕ) → x ≡ need (processor_of n m) → AsksNone x → (stepped n m).trace ≡ m.trace
+trace_off (Channel c op) m n e off = absurd (asks_one c op off)
 trace_off other m n e off = trace_by n m other (sym e)
 
-pub off_indexed : (x : Need) (m : MachineState) (n : ℕ) (latest : List Latest) (short long : List (List Span)) → x ≡ need (processor_of n m) → ((c : ℕ) (op : ChanOp) → x ≡ Channel c op → ⊥) → IsIndex m.trace latest short long → IsIndex (stepped n m).trace latest short long
+pub off_indexed : (x : Need) (m : MachineState) (n : ℕ) (latest : List Latest) (short long : List (List Span)) → x ≡ need (processor_of n m) → AsksNone x → IsIndex m.trace latest short long → IsIndex (stepped n m).trace latest short long
 off_indexed x m n latest short long e off is = subst (λ (t : List Trace). IsIndex t latest short long) (sym (trace_off x m n e off)) is
 
-pub off_sound : (x : Need) (m : MachineState) → ((c : ℕ) (op : ChanOp) → x ≡ Channel c op → ⊥) → AsksLawfulChannel x m
-off_sound (Channel c op) m off = absurd (off c op refl)
-off_sound other m off = tt
-
-pub off_watched : (x : Need) (m : MachineState) (w : Watch) (n : ℕ) (low : List Low) (looks : List Looks) (found : List Finding) → x ≡ need (processor_of n m) → ((c : ℕ) (op : ChanOp) → x ≡ Channel c op → ⊥)
+pub off_watched : (x : Need) (m : MachineState) (w : Watch) (n : ℕ) (low : List Low) (looks : List Looks) (found : List Finding) → x ≡ need (processor_of n m) → AsksNone x
     → AreWatched m w low looks found → AreWatched (stepped n m) (watched_need x n m w) low looks found
-off_watched (Channel c op) m w n low looks found e off are = absurd (off c op refl)
-off_watched (Need.Read a) m w n low looks found e off are = kept_watched m (stepped n m) w (watched_need (Need.Read a) n m w) low looks found (trace_by n m (Need.Read a) (sym e)) (λ c. ap (λ (hs : List (List Event)). get_or hs (channel_index c) []) (histories_by n m (Need.Read a) (sym e))) refl refl refl are
-off_watched (Need.Write a v) m w n low looks found e off are = kept_watched m (stepped n m) w (watched_need (Need.Write a v) n m w) low looks found (trace_by n m (Need.Write a v) (sym e)) (λ c. ap (λ (hs : List (List Event)). get_or hs (channel_index c) []) (histories_by n m (Need.Write a v) (sym e))) refl refl refl are
-off_watched other m w n low looks found e off are = kept_watched m (stepped n m) w w low looks found (trace_by n m other (sym e)) (λ c. ap (λ (hs : List (List Event)). get_or hs (channel_index c) []) (histories_by n m other (sym e))) refl refl refl are
+off_watched (Channel c op) m w n low looks found e off are = absurd (asks_one c op off)
+off_watched other m w n low looks found e off are = kept_watched m (stepped n m) w (watched_need other n m w) low looks found (trace_by n m other (sym e)) (λ c. ap (λ (hs : List (List Event)). get_or hs (channel_index c) []) (histories_by n m other (sym e))) refl refl refl are

@@ -249,7 +249,7 @@ pub(crate) fn take_step<A: Allocator>(
 {
     match asked {
         Need::Channel(c, op) => take_asked(machine, n, *c, op, index, low, looks, findings),
-        _ => Ok(()),
+        Need::Nothing | Need::Local | Need::Read(_) | Need::Write(_, _) => Ok(()),
     }
 }
 

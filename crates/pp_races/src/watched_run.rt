@@ -14,7 +14,8 @@ use crate::settled::find_unsettled;
 use crate::verdict::Verdict;
 use crate::watch::{take_step, take_use};
 use crate::watch_tables::WatchTables;
-use pp_machine::{Machine, PpNo};
+use pp_machine::Machine;
+use pp_run::in_turn;
 use pp_text::TextWriter;
 use std::alloc::Allocator;
 use std::io::Write;
@@ -41,10 +42,10 @@ pub(crate) fn print_run<A: Allocator, W: Write>(
 {
     // The call says to the proof that the machine is sound.
     let _sound = machine.turns();
-    let round = machine.profile().processors() as u32;
+    let profile = machine.profile();
     let mut verdict = Verdict::Same;
     for turn in 0..turns {
-        let n = PpNo::at((turn % round) as usize);
+        let n = in_turn(profile, u64::from(turn));
         let need = machine.pp(n).wants();
         let Ok(()) = take_step(
             machine,

@@ -8,9 +8,13 @@ mod laws;
 mod observed_run;
 mod observer;
 mod progress;
+mod step_counts;
+mod turn;
 
 pub use bare_machine::BareMachine;
 pub use laws::determinacy_law;
 pub use observed_run::run_observed;
 pub use observer::Observer;
 pub use progress::Progress;
+pub use step_counts::{StepCounts, run_counting_steps};
+pub use turn::in_turn;

@@ -6,7 +6,8 @@ ghost use Rattle.pp_machine.specs.Run.{barrel, run};
 ghost use Rattle.pp_run.specs.RunSteps.{IsCutAt, RunStep, run_steps};
 
 use crate::observer::Observer;
-use pp_machine::{Cut, Machine, PpNo};
+use crate::turn::in_turn;
+use pp_machine::{Cut, Machine};
 use std::alloc::Allocator;
 
 /// Runs `turns` turns of the barrel (decimal), as `Machine::run_barrel` does, and shows each step
@@ -33,9 +34,9 @@ pub fn run_observed<A: Allocator, O: Observer<A>>(
 {
     // Reveals to the proof that the machine is sound.
     let _sound = machine.turns();
-    let round = machine.profile().processors() as u32;
+    let profile = machine.profile();
     for turn in 0..turns {
-        let n = PpNo::at((turn % round) as usize);
+        let n = in_turn(profile, u64::from(turn));
         let note = observer.note(machine, n);
         let Ok(outcome) = machine.step(n) else {
             return Err(Cut {

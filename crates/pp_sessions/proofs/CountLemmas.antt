@@ -4,7 +4,7 @@ use Rattle.std.specs.Prelude.{count_by}
 use Rattle.std.proofs.lemmas.List.Sums.{sum_by-cons}
 use Rattle.pp_machine.specs.declared.outcome.Outcome.{Outcome}
 use Rattle.pp_machine.specs.declared.outcome.Outcome.TheVariants.{Moved}
-use Rattle.pp_sessions.specs.StepCounts.{is_at_rest, is_held, is_moved}
+use Rattle.pp_run.specs.StepCounts.{is_at_rest, is_held, is_moved}
 
 -- each outcome is counted once
 pub three_counts : (os : List Outcome) → count_by is_moved os + count_by is_held os + count_by is_at_rest os ≡ length os

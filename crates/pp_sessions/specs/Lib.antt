@@ -1,6 +1,5 @@
 pub mod TimedEvents
 pub mod Stretches
-pub mod StepCounts
 pub mod SessionsText
 pub mod SessionsLaw
 -- cited by private contracts alone: nobody has to read these to believe what the crate promises

@@ -12,7 +12,7 @@ ghost use Rattle.pp_machine.specs.MachineState.{MachineState, history_of};
 ghost use Rattle.pp_run.specs.RunSteps.{run_steps};
 ghost use Rattle.pp_sessions.specs.SessionsLaw.{TellsIdle, TellsMoments, TellsSession, session_events, stretches_of};
 ghost use Rattle.pp_sessions.specs.SessionsText.{lines_from};
-ghost use Rattle.pp_sessions.specs.StepCounts.{step_counts};
+ghost use Rattle.pp_run.specs.StepCounts.{step_counts};
 ghost use Rattle.pp_sessions.specs.Stretches.{is_session, stretches, tally_of, words_in};
 ghost use Rattle.pp_sessions.specs.TimedEvents.{events_in, timed_events};
 ghost use Rattle.pp_sessions.specs.declared.moment.TimedEvent.{TimedEvent};

@@ -7,10 +7,9 @@ mod lines;
 mod moment;
 mod open_stretch;
 mod sessions_text;
-mod step_counts;
 mod tally;
 mod words;
 
 pub use laws::{counts_law, course_law, sessions_law};
+pub use pp_run::{StepCounts, run_counting_steps};
 pub use sessions_text::write_sessions;
-pub use step_counts::{StepCounts, run_counting_steps};

@@ -4,10 +4,10 @@ ghost use Rattle.pp_text.specs.TextWriter.{Prints};
 ghost use Rattle.pp_sessions.specs.SessionsText.{counts_line, end_text, idle_line, moment_text, session_line, tally_line, word_text};
 
 use crate::moment::Moment;
-use crate::step_counts::StepCounts;
 use crate::tally::Tally;
 use pp_channel::ChannelNo;
 use pp_machine::PpNo;
+use pp_run::StepCounts;
 use pp_text::{
     TextWriter, channel_name, octal4, print_decimal, print_short_decimal, processor_name,
 };

@@ -8,9 +8,9 @@ ghost use Rattle.pp_sessions.specs.SessionsText.{channel_lines, sessions_text, s
 
 use crate::lines::print_counts;
 use crate::open_stretch::{OpenStretch, print_stretch, take_in_entry};
-use crate::step_counts::StepCounts;
 use pp_channel::{CHANNELS, ChannelNo};
 use pp_machine::{Machine, PROCESSORS, PpNo};
+use pp_run::StepCounts;
 use pp_text::{TextWriter, WriteFault};
 use std::alloc::Allocator;
 use std::io::Write;

@@ -2,7 +2,6 @@
 
 ghost use Rattle.std.specs.Prelude.{◌≡◌, ◌+◌, ◌<◌, ◌^◌, length, IfOk, OnOk, replicate, slice_index_or, slice_set, if◌then◌else◌};
 ghost use Rattle.pp_machine.specs.PpNo.{processor_count, processor_index};
-ghost use Rattle.pp_machine.specs.Profile.{processor_in_turn};
 ghost use Rattle.pp_machine.specs.Run.{barrel};
 ghost use Rattle.pp_steps.specs.Choice.{chosen_steps};
 ghost use Rattle.pp_steps.specs.HeldRuns.{each_spells, no_spells, with_step};
@@ -11,7 +10,7 @@ use crate::choice::Choice;
 use crate::held_runs::HeldRuns;
 use pp_channel::Memory;
 use pp_machine::{Machine, PROCESSORS, PpNo};
-use pp_run::{BareMachine, Progress};
+use pp_run::{BareMachine, Progress, in_turn};
 use std::alloc::Allocator;
 
 /// How long each processor is held each time, in the steps chosen of a run of this many turns of
@@ -28,23 +27,12 @@ pub(crate) fn counted_runs<A: Allocator + Copy>(
     let mut runs = no_runs(alloc)?;
     let mut bare = BareMachine::of(alloc, machine)?;
     for turn in 0..turns {
-        let n = in_turn(machine, turn);
+        let n = in_turn(machine.profile(), u64::from(turn));
         let is_chosen = choice.has(&bare, n);
         let step = bare.step(n);
         note_step(&mut runs, is_chosen, n, step)?;
     }
     Ok(runs)
-}
-
-/// The processor whose turn it is.
-#[tactic(auto, using(pp_machine::specs::ProfilePlaces::rest_within, // each place has a processor
-pp_machine::specs::ProfilePlaces::most_processors))]
-pub(crate) fn in_turn<A: Allocator>(machine: &Machine<A>, turn: u32) -> PpNo
-    ensures is { result ≡ processor_in_turn machine.now.profile turn }
-    ensures place { processor_index result < processor_count }
-{
-    let round = machine.profile().processors() as u32;
-    PpNo::at((turn % round) as usize)
 }
 
 /// Counts a step of a processor, where it is chosen.

@@ -15,10 +15,10 @@ use crate::choice::Choice;
 use crate::cursor::{Cursor, pass_step};
 use crate::held_runs::HeldRuns;
 use crate::line_kind::LineKind;
-use crate::run_counts::{counted_runs, in_turn};
+use crate::run_counts::counted_runs;
 use crate::step_line::{print_held_line, print_step_line};
 use pp_machine::{Machine, PROCESSORS, PpNo};
-use pp_run::BareMachine;
+use pp_run::{BareMachine, in_turn};
 use pp_text::{ReportFault, TextWriter};
 use std::alloc::Allocator;
 use std::io::Write;
@@ -79,7 +79,7 @@ fn print_steps<A: Allocator, W: Write>(
 {
     let mut cursors = [Cursor::new(); PROCESSORS];
     for turn in 0..turns {
-        let n = in_turn(machine, turn);
+        let n = in_turn(machine.profile(), u64::from(turn));
         let is_chosen = choice.has(after, n);
         let step = after.step(n);
         let kind = pass_step(&mut cursors, runs, is_chosen, n, step);

@@ -1,12 +1,11 @@
 use Rattle.std.proofs.Common.{◌≡◌}
 use Rattle.pp_run.specs.BareMachine.{StandsFor}
 use Rattle.pp_machine.specs.MachineState.{MachineState}
-use Rattle.pp_machine.specs.Profile.{processors_in}
 use Rattle.pp_ends.specs.Endings.{IsStillFrom, after_turns}
 use Rattle.pp_ends.proofs.run.run_telling.Given as goal
 
 abbrev pub invariant-loop-turn : goal.invariant-loop-turn
 invariant-loop-turn g l = record {
-  ran : (m : MachineState) → l.round ≡ processors_in m.profile → StandsFor l.fn.bare m → StandsFor l.bare (after_turns l.turn m);
-  still : (m : MachineState) → l.round ≡ processors_in m.profile → StandsFor l.fn.bare m → IsStillFrom l.from l.turn m;
+  ran : (m : MachineState) → l.profile ≡ m.profile → StandsFor l.fn.bare m → StandsFor l.bare (after_turns l.turn m);
+  still : (m : MachineState) → l.profile ≡ m.profile → StandsFor l.fn.bare m → IsStillFrom l.from l.turn m;
 }

@@ -1,16 +1,29 @@
-use Rattle.pp_races.proofs.LookLemmas.{off_indexed, off_sound, off_watched}
+use Rattle.pp_races.proofs.LookLemmas.{off_indexed, off_watched}
 use Rattle.pp_races.proofs.watch.take_step.Goals as goal
 
 pub returns-in-Channel-clause-watched : goal.returns-in-Channel-clause-watched
 returns-in-Channel-clause-watched g c = rw c.in-Channel.is c.take_asked.ensures.watched
 
-pub returns-in_default-clause-sound : goal.returns-in_default-clause-sound
-returns-in_default-clause-sound g c = off_sound c.args.asked.now c.args.machine.now c.in_default.not-Channel
+pub returns-in-Nothing-clause-index : goal.returns-in-Nothing-clause-index
+returns-in-Nothing-clause-index g c = off_indexed _ _ _ _ _ _ c.requires.needs c.in-Nothing.is c.requires.index
 
-pub returns-in_default-clause-watched : goal.returns-in_default-clause-watched
-returns-in_default-clause-watched g c = λ w are.
-    off_watched c.args.asked.now c.args.machine.now w c.args.n c.args.low.now c.args.looks.now c.args.findings.now.items c.requires.needs c.in_default.not-Channel are
+pub returns-in-Nothing-clause-watched : goal.returns-in-Nothing-clause-watched
+returns-in-Nothing-clause-watched g c = λ w are. off_watched _ _ w _ _ _ _ c.requires.needs c.in-Nothing.is are
 
-pub returns-in_default-clause-index : goal.returns-in_default-clause-index
-returns-in_default-clause-index g c =
-    off_indexed c.args.asked.now c.args.machine.now c.args.n c.args.index.now.latest c.args.index.now.short.items c.args.index.now.long.items c.requires.needs c.in_default.not-Channel c.requires.index
+pub returns-in-Nothing-2-clause-index : goal.returns-in-Nothing-2-clause-index
+returns-in-Nothing-2-clause-index g c = off_indexed _ _ _ _ _ _ c.requires.needs c.in-Nothing.is c.requires.index
+
+pub returns-in-Nothing-2-clause-watched : goal.returns-in-Nothing-2-clause-watched
+returns-in-Nothing-2-clause-watched g c = λ w are. off_watched _ _ w _ _ _ _ c.requires.needs c.in-Nothing.is are
+
+pub returns-in-Nothing-3-clause-index : goal.returns-in-Nothing-3-clause-index
+returns-in-Nothing-3-clause-index g c = off_indexed _ _ _ _ _ _ c.requires.needs c.in-Nothing.is c.requires.index
+
+pub returns-in-Nothing-3-clause-watched : goal.returns-in-Nothing-3-clause-watched
+returns-in-Nothing-3-clause-watched g c = λ w are. off_watched _ _ w _ _ _ _ c.requires.needs c.in-Nothing.is are
+
+pub returns-in-Nothing-4-clause-index : goal.returns-in-Nothing-4-clause-index
+returns-in-Nothing-4-clause-index g c = off_indexed _ _ _ _ _ _ c.requires.needs c.in-Nothing.is c.requires.index
+
+pub returns-in-Nothing-4-clause-watched : goal.returns-in-Nothing-4-clause-watched
+returns-in-Nothing-4-clause-watched g c = λ w are. off_watched _ _ w _ _ _ _ c.requires.needs c.in-Nothing.is are

@@ -1,10 +1,8 @@
-use Rattle.std.proofs.Common.{◌≡◌, ◌++◌, ◌%◌, ◌<◌, ℕ, List, IsTrue, subst, sym, ap, ◌∙◌, length, arith}
+use Rattle.std.proofs.Common.{◌≡◌, ◌++◌, List, subst, sym, ap, ◌∙◌, length, arith}
 use Rattle.std.specs.Vec.{with_items}
 use Rattle.std.proofs.lemmas.List.{with_items_is}
-use Rattle.pp_machine.specs.PpNo.{names_processor, processor_count, processor_number}
-use Rattle.pp_machine.specs.Profile.{processor_in_turn, processors_in}
-use Rattle.pp_machine.specs.ProcessorPlaces.{processor_places}
-use Rattle.pp_machine.specs.ProfilePlaces.{most_processors, rest_within}
+use Rattle.pp_machine.specs.Profile.{processor_in_turn}
+use Rattle.pp_machine.specs.ProcessorPlaces.{named_below}
 use Rattle.pp_machine.specs.MachineState.{MachineState}
 use Rattle.pp_machine.specs.MachineStep.{stepped}
 use Rattle.pp_machine.specs.NeedAndEffect.{need}
@@ -30,13 +28,11 @@ pub loop-turn-preserved : goal.loop-turn-preserved
 loop-turn-preserved g c =
     let p = c.args.machine.now.profile in
     let t = c.loop-turn.turn in
-    let round : c.processors-round.result ≡ processors_in p = c.processors-round.ensures ∙ ap processors_in c.profile.ensures in
-    let is : c.at-n.result ≡ processor_in_turn p t = c.at-n.ensures.number ∙ ap (λ (r : ℕ). processor_number (t % r)) round in
-    let within : t % processors_in p < processor_count = omega (arith, rest_within p t, most_processors p) in
-    let names : IsTrue (names_processor c.at-n.result) = subst (λ (k : ℕ). IsTrue (names_processor k)) (sym is) (processor_places.number_named (t % processors_in p) within) in
+    let n = c.in_turn-n.result in
+    let is : n ≡ processor_in_turn p t = rw (c.from.ensures, c.profile-profile.ensures) at c.in_turn-n.ensures.is in
+    let names = named_below n c.in_turn-n.ensures.place in
     let tables = c.loop-turn.tables in
     let now = c.loop-turn.machine in
-    let n = c.at-n.result in
     let need_is = c.wants-need.result in
     let low_is : c.deref_mut.result.now ≡ tables.low.items = c.deref_mut.ensures.value in
     let looks_is : c.deref_mut-in-loop-turn.result.now ≡ tables.looks.items = c.deref_mut-in-loop-turn.ensures.value in
@@ -50,7 +46,7 @@ loop-turn-preserved g c =
     let low_new = with_items_is tables.low c.take_step.new.low (low_all ∙ c.deref_mut.ensures.len) in
     let looks_new = with_items_is tables.looks c.take_step.new.looks (looks_all ∙ c.deref_mut-in-loop-turn.ensures.len) in
     let uses_new = with_items_is tables.uses c.take_use.new.uses (uses_all ∙ c.deref_mut-in-loop-turn-2.ensures.len) in
-    let (run_on, found) = run_goes_on p c.args.turns t c.args.machine.now c.loop-turn.machine c.step.new.self c.at-n.result c.wants-need.result tables
+    let (run_on, found) = run_goes_on p c.args.turns t c.args.machine.now c.loop-turn.machine c.step.new.self n c.wants-need.result tables
     (record {
       index = c.take_step.new.index;
       low = with_items tables.low c.take_step.new.low;

@@ -1,6 +1,5 @@
-use Rattle.std.proofs.Common.{◌≡◌, ◌<◌, ◌+◌, ◌%◌, ◌^◌, ℕ, List, inr, length, refl, sym, ap, ◌∙◌, subst, arith}
-use Rattle.pp_machine.specs.PpNo.{processor_number}
-use Rattle.pp_machine.specs.Profile.{processor_in_turn, processors_in}
+use Rattle.std.proofs.Common.{◌≡◌, ◌<◌, ◌+◌, ◌^◌, ℕ, List, inr, length, refl, sym, ap, ◌∙◌, subst, arith}
+use Rattle.pp_machine.specs.Profile.{processor_in_turn}
 use Rattle.pp_machine.specs.Run.{barrel, run}
 use Rattle.pp_machine.specs.RunLaws.{barrel_more}
 use Rattle.pp_run.specs.RunSteps.{IsMade, RunStep, barrel_step, run_steps}
@@ -8,13 +7,13 @@ use Rattle.pp_run.specs.RunStepLaws.{barrel_steps_more, length-barrel_steps}
 use Rattle.pp_run.proofs.observed_run.run_observed.Goals as goal
 use Rattle.pp_run.proofs.observed_run.run_observed.Goals.{In-Ok}
 
-number : (g : _) (c : In-Ok g) → c.at-n.result ≡ processor_in_turn c.args.machine.now.profile c.loop-turn.turn
-number g c = c.at-n.ensures.number ∙ ap (λ (r : ℕ). processor_number (c.loop-turn.turn % r)) (c.processors-round.ensures ∙ ap processors_in c.profile.ensures)
+number : (g : _) (c : In-Ok g) → c.in_turn-n.result ≡ processor_in_turn c.args.machine.now.profile c.loop-turn.turn
+number g c = rw (c.from.ensures, c.profile-profile.ensures) at c.in_turn-n.ensures.is
 
 noted : (g : _) (c : In-Ok g) → g.O.Observer.IsNote c.note-note.result (barrel_step c.args.machine.now c.loop-turn.turn)
 noted g c = rw (number g c, c.loop-turn.invariant.ran) at c.note-note.ensures
 
-made : (g : _) (c : In-Ok g) → IsMade (barrel_step c.args.machine.now c.loop-turn.turn) c.at-n.result c.in-Ok.outcome c.step.new.self
+made : (g : _) (c : In-Ok g) → IsMade (barrel_step c.args.machine.now c.loop-turn.turn) c.in_turn-n.result c.in-Ok.outcome c.step.new.self
 made g c = record {
   processor_is = sym (number g c);
   outcome_is = rw (number g c, c.loop-turn.invariant.ran) at c.in-Ok.ensures.outcome;

@@ -3,7 +3,7 @@ use Rattle.pp_machine.specs.MachineState.{MachineState}
 use Rattle.pp_machine.specs.Run.{barrel, run}
 use Rattle.pp_deck.specs.InUse.{in_use}
 use Rattle.pp_sessions.specs.SessionsText.{sessions_after, sessions_text}
-use Rattle.pp_sessions.specs.declared.step_counts.StepCounts.{StepCounts}
+use Rattle.pp_run.specs.declared.step_counts.StepCounts.{StepCounts}
 use Rattle.pp_sim.proofs.AnswerLemmas.{answers_after}
 use Rattle.pp_sim.proofs.texts.write_sessions_after.Goals as goal
 

@@ -7,11 +7,12 @@ ghost use Rattle.pp_machine.specs.Profile.{processor_in_turn};
 ghost use Rattle.pp_machine.specs.Run.{barrel, run};
 ghost use Rattle.pp_machine.specs.declared.outcome.Outcome.{Outcome};
 ghost use Rattle.pp_run.specs.RunSteps.{run_steps};
-ghost use Rattle.pp_sessions.specs.StepCounts.{counts_of, each_step_counts};
+ghost use Rattle.pp_run.specs.StepCounts.{counts_of, each_step_counts};
 
+use crate::observed_run::run_observed;
+use crate::observer::Observer;
 use pp_channel::Memory;
 use pp_machine::{Cut, Machine, Outcome, PROCESSORS, PpNo};
-use pp_run::{Observer, run_observed};
 use std::alloc::Allocator;
 
 /// How many steps of a processor did what (decimal).
@@ -23,6 +24,8 @@ pub struct StepCounts {
     pub held: u32,
     /// Steps that found it stopped or at fault.
     pub at_rest: u32,
+    /// Of its last steps, how many in a row were held.
+    pub last_held: u32,
 }
 
 impl StepCounts {
@@ -31,6 +34,7 @@ impl StepCounts {
         moved: 0,
         held: 0,
         at_rest: 0,
+        last_held: 0,
     };
 
     /// Those with a step more.
@@ -39,9 +43,13 @@ impl StepCounts {
             → result ≡ counts_of (steps ++ outcome ∷ []) }
     {
         let mut counts = self;
+        counts.last_held = 0;
         match outcome {
             Outcome::Moved => counts.moved = self.moved.saturating_add(1),
-            Outcome::Held => counts.held = self.held.saturating_add(1),
+            Outcome::Held => {
+                counts.held = self.held.saturating_add(1);
+                counts.last_held = self.last_held.saturating_add(1);
+            }
             Outcome::AtRest => counts.at_rest = self.at_rest.saturating_add(1),
         }
         counts
@@ -50,7 +58,7 @@ impl StepCounts {
 
 /// Runs `turns` turns of the barrel (decimal), as `Machine::run_barrel` does, and says of each
 /// processor, in the order of the barrel, how many of its steps moved it, were held, and found it
-/// at rest.
+/// at rest, and how many of the last were held.
 #[tactic(auto, unfolding(pp_word::specs::Tables::tabulate))]
 pub fn run_counting_steps<A: Allocator>(
     machine: &mut Machine<A>,

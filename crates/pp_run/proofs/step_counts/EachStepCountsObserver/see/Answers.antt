@@ -2,8 +2,8 @@ use Rattle.std.proofs.Common.{◌∷◌, ◌++◌, [], ap, ◌∙◌, arith}
 use Rattle.pp_machine.specs.declared.outcome.Outcome.{Outcome}
 use Rattle.pp_run.specs.RunSteps.{outcome_of, seen_of}
 use Rattle.pp_run.specs.RunStepLaws.{counted_at, counted_more, few_seen}
-use Rattle.pp_sessions.specs.StepCounts.{counts_of, no_steps}
-use Rattle.pp_sessions.proofs.step_counts.EachStepCountsObserver.see.Goals as goal
+use Rattle.pp_run.specs.StepCounts.{counts_of, no_steps}
+use Rattle.pp_run.proofs.step_counts.EachStepCountsObserver.see.Goals as goal
 
 pub returns-clause-seen : goal.returns-clause-seen
 returns-clause-seen g c start seen step note made few are =
