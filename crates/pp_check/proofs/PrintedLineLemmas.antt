@@ -3,7 +3,7 @@ use Rattle.std.proofs.Common.{◌≡◌, ◌∙◌, ℕ, ◌^◌, ◌<◌, ◌�
 use Rattle.std.specs.Prelude.{IfSome, IsTrue, nat_le, nat_lt}
 use Rattle.std.specs.List.{list_all}
 use Rattle.std.specs.Str.{bytes_eq}
-use Rattle.std.proofs.lemmas.Bool.{leb-true, le-leb, ltb-true, ne_eqb}
+use Rattle.std.proofs.lemmas.Bool.{and_from, and_parts, le-leb, leb-true, ltb-true, ne_eqb}
 use Rattle.std.proofs.lemmas.List.Folds.{list_all-append}
 use Rattle.pp_channel.specs.ChannelPlaces.{channel_fits}
 use Rattle.pp_channel.specs.ChannelNo.{names_channel}
@@ -11,7 +11,7 @@ use Rattle.pp_channel.specs.History.{HasTwelveBitWord, active, waiting}
 use Rattle.pp_channel.specs.declared.channel_state.ChannelState.{ChannelState}
 use Rattle.pp_channel.specs.declared.event.Event.{Event}
 use Rattle.pp_channel.specs.declared.event.Event.TheVariants.{Activate, Disconnect, Put, Take, Function}
-use Rattle.pp_deck.proofs.FieldTextLemmas.{IsField, IsTail, and_both, and_left, and_right, fields_of_plain, is_ink, is_plain, tail_blank, tail_field, tail_last, decimal_is_field, octal_ink, octal_is_field}
+use Rattle.pp_deck.proofs.FieldTextLemmas.{IsField, IsTail, fields_of_plain, is_ink, is_plain, tail_blank, tail_field, tail_last, decimal_is_field, octal_ink, octal_is_field}
 use Rattle.pp_deck.specs.DeckText.{fields_of}
 use Rattle.pp_machine.specs.ProcessorPlaces.{processor_fits}
 use Rattle.pp_machine.specs.PpNo.{names_processor}
@@ -56,8 +56,8 @@ channel_no_processor c = refl
 digit_first : (first second : ℕ) (text : List ℕ) → 58 ≤ first → list_all (is_digit 10) text ≡ true → bytes_eq (take 2 text) (first ∷ second ∷ []) ≡ false
 digit_first first second [] late is = refl
 digit_first first second (c ∷ text) late is =
-    let here = and_left (is_digit 10 c) (list_all (is_digit 10) text) is in
-    let most = ltb-true c 58 (and_right (nat_le 48 c) (nat_lt c 58) here) in
+    let here = (and_parts (is_digit 10 c) (list_all (is_digit 10) text) is).0 in
+    let most = ltb-true c 58 (and_parts (nat_le 48 c) (nat_lt c 58) here).1 in
     rw (ne_eqb c first (λ same. absurd (omega (arith, same, most, late)))) refl
 
 pub count_no_processor : (n : ℕ) → is_processor (decimal n) ≡ false
@@ -101,12 +101,12 @@ event_read (Function w) bits = rw (octal_read 4 4 w (omega arith) (omega arith) 
 ink_plain : (text : List ℕ) → list_all is_ink text ≡ true → list_all is_plain text ≡ true
 ink_plain [] is = refl
 ink_plain (c ∷ text) is =
-    let here = and_left (is_ink c) (list_all is_ink text) is in
-    let least = leb-true 43 c (and_left (nat_le 43 c) (nat_le c 126) here) in
-    and_both (is_plain c) (list_all is_plain text) (and_both (nat_le 32 c) (nat_le c 126) (le-leb 32 c (omega (arith, least))) (and_right (nat_le 43 c) (nat_le c 126) here)) (ink_plain text (and_right (is_ink c) (list_all is_ink text) is))
+    let here = (and_parts (is_ink c) (list_all is_ink text) is).0 in
+    let least = leb-true 43 c (and_parts (nat_le 43 c) (nat_le c 126) here).0 in
+    and_from (is_plain c) (list_all is_plain text) (and_from (nat_le 32 c) (nat_le c 126) (le-leb 32 c (omega (arith, least))) (and_parts (nat_le 43 c) (nat_le c 126) here).1) (ink_plain text (and_parts (is_ink c) (list_all is_ink text) is).1)
 
 pub plain_more : (xs ys : List ℕ) → list_all is_plain xs ≡ true → list_all is_plain ys ≡ true → list_all is_plain (xs ++ ys) ≡ true
-plain_more xs ys is more = list_all-append is_plain xs ys ∙ and_both (list_all is_plain xs) (list_all is_plain ys) is more
+plain_more xs ys is more = list_all-append is_plain xs ys ∙ and_from (list_all is_plain xs) (list_all is_plain ys) is more
 
 pub plain_octal : (width n : ℕ) → list_all is_plain (octal width n) ≡ true
 plain_octal width n = ink_plain (octal width n) (octal_ink width n)

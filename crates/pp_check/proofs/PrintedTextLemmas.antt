@@ -2,7 +2,7 @@
 use Rattle.std.proofs.Common.{All, ◌≡◌, ◌∙◌, ℕ, zero, suc, ◌^◌, ◌<◌, Bool, true, false, List, [], ◌∷◌, ◌++◌, map, get_or, Option, Some, refl, sym, ap, subst, append_assoc, arith}
 use Rattle.std.specs.Prelude.{◌&&◌, IsSome, IsTrue, if◌then◌else◌, slice_index_or}
 use Rattle.std.specs.List.{cons_option, filter_map, flat_map, list_all, slice_split}
-use Rattle.std.proofs.lemmas.Bool.{ne_eqb}
+use Rattle.std.proofs.lemmas.Bool.{and_parts, false_from_ne_true, ne_eqb}
 use Rattle.std.proofs.lemmas.List.{append-nil}
 use Rattle.std.proofs.lemmas.List.Elements.{All-cons, All-head, All-nil, All-tail}
 use Rattle.std.proofs.lemmas.List.Splits.{slice_split_at}
@@ -18,7 +18,6 @@ use Rattle.pp_machine.specs.declared.trace.Trace.{Trace}
 use Rattle.pp_text.specs.PrintedText.{each_below, event_line, channel_line, line_end, named_processor_line, printed, state_text, used_channel_line}
 use Rattle.pp_text.specs.PrintingLaws.{channels_by_number, numbered_channel_line, processors_by_number}
 use Rattle.pp_text.specs.TextLaw.{HistoryFits, EventFits}
-use Rattle.pp_text.proofs.TextLawLemmas.{unnamed}
 use Rattle.pp_check.specs.LawfulTrace.{parsed_lines}
 use Rattle.pp_check.specs.PrintedTrace.{IsPrintable}
 use Rattle.pp_check.specs.TraceLine.{parsed_line}
@@ -96,12 +95,8 @@ pub reads_if : (b : Bool) (text : List ℕ) (lines : List TraceLine) → (IsTrue
 reads_if true text lines reads = reads refl
 reads_if false text lines reads = λ rest. refl
 
-pub left_true : (a b : Bool) → IsTrue (a && b) → IsTrue a
-left_true true b is = refl
-left_true false b is = is
-
 unnamed_line : (named : List Bool) (m : MachineState) (n : ℕ) → (IsTrue (names_processor n) → ⊥) → named_processor_line named m n ≡ []
-unnamed_line named m n none = rw (unnamed (names_processor n) none) refl
+unnamed_line named m n none = rw (false_from_ne_true (names_processor n) none) refl
 
 reads_processor : (named : List Bool) (m : MachineState) (n : ℕ) → Reads (named_processor_line named m n) (processor_lines named n)
 unfolding processor_lines
@@ -109,7 +104,7 @@ reads_processor named m n =
     let pp = processor_of n m in
     reads_if (is_named named n) _ (Other ∷ []) (λ is.
     subst (λ (text : List ℕ). Reads text (Other ∷ [])) (sym (processor_line_is n pp (state_text pp.state)))
-    (reads_line (processor_body n pp (state_text pp.state)) Other (plain_processor n pp (state_text pp.state) (plain_state pp.state)) (processor_line_read n pp (state_text pp.state) (plain_state pp.state) (left_true (names_processor n) (slice_index_or named (processor_index n) false) is))))
+    (reads_line (processor_body n pp (state_text pp.state)) Other (plain_processor n pp (state_text pp.state) (plain_state pp.state)) (processor_line_read n pp (state_text pp.state) (plain_state pp.state) (and_parts (names_processor n) (slice_index_or named (processor_index n) false) is).0)))
 
 unfoldable pub state_lines : ℕ → List Event → List TraceLine
 state_lines c [] = []

@@ -2,7 +2,7 @@
 use Rattle.std.proofs.Common.{◌≡◌, ℕ, zero, suc, replicate, ◌-◌, ◌<◌, ◌≤◌, Bool, true, false, not, cond, List, [], ◌∷◌, ◌++◌, length, get_or, refl, sym, ap, ◌∙◌, arith, ◌+◌, ◌^◌, Option, Ok, lit<}
 use Rattle.std.specs.Prelude.{nat_le, filter, slice_index, ◌==◌, ◌&&◌}
 use Rattle.std.specs.List.{list_all, slice_split, onto_first, take_while, All}
-use Rattle.std.proofs.lemmas.Bool.{leb-true, ne_eqb, cond-false, le-leb}
+use Rattle.std.proofs.lemmas.Bool.{and_from, and_parts, cond-false, le-leb, leb-true, ne_eqb}
 use Rattle.std.proofs.lemmas.List.{append-nil}
 use Rattle.std.proofs.lemmas.List.Sums.{take_while-cons, AllPass-from_list_all}
 use Rattle.std.proofs.lemmas.List.Splits.{slice_split-cons_yes, slice_split-cons_no, slice_split_none, slice_split_at}
@@ -21,25 +21,14 @@ is_ink c = nat_le 43 c && nat_le c 126
 abbrev pub is_plain : ℕ → Bool
 is_plain c = nat_le 32 c && nat_le c 126
 
-pub and_left : (a b : Bool) → (a && b) ≡ true → a ≡ true
-and_left true b e = refl
-and_left false b e = absurd (cc)
-
-pub and_right : (a b : Bool) → (a && b) ≡ true → b ≡ true
-and_right true b e = e
-and_right false b e = absurd (cc)
-
-pub and_both : (a b : Bool) → a ≡ true → b ≡ true → (a && b) ≡ true
-and_both a b e f = rw (e, f) refl
-
 pub ink_least : (c : ℕ) → is_ink c ≡ true → 43 ≤ c
-ink_least c e = leb-true 43 c (and_left (nat_le 43 c) (nat_le c 126) e)
+ink_least c e = leb-true 43 c (and_parts (nat_le 43 c) (nat_le c 126) e).0
 
 pub plain_least : (c : ℕ) → is_plain c ≡ true → 32 ≤ c
-plain_least c e = leb-true 32 c (and_left (nat_le 32 c) (nat_le c 126) e)
+plain_least c e = leb-true 32 c (and_parts (nat_le 32 c) (nat_le c 126) e).0
 
 pub plain_most : (c : ℕ) → is_plain c ≡ true → c ≤ 126
-plain_most c e = leb-true c 126 (and_right (nat_le 32 c) (nat_le c 126) e)
+plain_most c e = leb-true c 126 (and_parts (nat_le 32 c) (nat_le c 126) e).1
 
 ink_no_blank : (c : ℕ) → is_ink c ≡ true → is_blank c ≡ false
 ink_no_blank c e =
@@ -64,7 +53,7 @@ unfolding fields_in pieces
 fields_are text = refl
 
 no_star : (c : ℕ) (field : List ℕ) → list_all is_ink (c ∷ field) ≡ true → (c == 42) ≡ false
-no_star c field e = let least = ink_least c (and_left (is_ink c) (list_all is_ink field) e) in ne_eqb c 42 (λ h. absurd (omega (arith, least, h)))
+no_star c field e = let least = ink_least c (and_parts (is_ink c) (list_all is_ink field) e).0 in ne_eqb c 42 (λ h. absurd (omega (arith, least, h)))
 
 field_piece : (c : ℕ) (field : List ℕ) (more : List (List ℕ)) → list_all is_ink (c ∷ field) ≡ true → pieces ((c ∷ field) ∷ more) ≡ (c ∷ field) ∷ pieces more
 unfolding pieces
@@ -136,17 +125,17 @@ tail_comment k text = λ field h. tail_blank (replicate k 32 ++ 42 ∷ text) fie
 -- a line that does not end in CR
 plain_here : (line : List ℕ) (i : ℕ) → list_all is_plain line ≡ true → (slice_index line i == 13) ≡ false
 plain_here [] i e = refl
-plain_here (c ∷ line) zero e = let least = plain_least c (and_left (is_plain c) (list_all is_plain line) e) in ne_eqb c 13 (λ h. absurd (omega (arith, least, h)))
-plain_here (c ∷ line) (suc i) e = plain_here line i (and_right (is_plain c) (list_all is_plain line) e)
+plain_here (c ∷ line) zero e = let least = plain_least c (and_parts (is_plain c) (list_all is_plain line) e).0 in ne_eqb c 13 (λ h. absurd (omega (arith, least, h)))
+plain_here (c ∷ line) (suc i) e = plain_here line i (and_parts (is_plain c) (list_all is_plain line) e).1
 
 pub fields_of_plain : (line : List ℕ) → list_all is_plain line ≡ true → fields_of line ≡ fields_in line
 fields_of_plain line e = ap fields_in (cond-false (slice_index line (length line - 1) == 13) _ line (plain_here line (length line - 1) e))
 
 ink_digit : Pass 10 is_ink
-ink_digit d lt = and_both (nat_le 43 (48 + d)) (nat_le (48 + d) 126) (le-leb 43 (48 + d) (omega arith)) (le-leb (48 + d) 126 (omega (arith, lt)))
+ink_digit d lt = and_from (nat_le 43 (48 + d)) (nat_le (48 + d) 126) (le-leb 43 (48 + d) (omega arith)) (le-leb (48 + d) 126 (omega (arith, lt)))
 
 plain_digit : Pass 8 is_plain
-plain_digit d lt = and_both (nat_le 32 (48 + d)) (nat_le (48 + d) 126) (le-leb 32 (48 + d) (omega arith)) (le-leb (48 + d) 126 (omega (arith, lt)))
+plain_digit d lt = and_from (nat_le 32 (48 + d)) (nat_le (48 + d) 126) (le-leb 32 (48 + d) (omega arith)) (le-leb (48 + d) 126 (omega (arith, lt)))
 
 ink_octal : Pass 8 is_ink
 ink_octal d lt = ink_digit d (omega (arith, lt))

@@ -4,7 +4,7 @@ use Rattle.std.specs.Prelude.{nat_le, nat_lt, ◌&&◌, ◌||◌, All, find, is_
 use Rattle.std.specs.List.{list_all}
 use Rattle.std.specs.Option.{ok_or}
 use Rattle.std.proofs.Math.Nat.{mul-le-mul_left, pow-le-pow_right, pow-suc, pow-zero}
-use Rattle.std.proofs.lemmas.Bool.{leb-true, ltb-true}
+use Rattle.std.proofs.lemmas.Bool.{and_parts, leb-true, ltb-true}
 use Rattle.std.proofs.lemmas.List.Elements.{All-cons, All-nil}
 use Rattle.pp_word.specs.Address.{place_count}
 use Rattle.pp_word.specs.Numeral.{is_digit, numeral, value_of}
@@ -19,7 +19,6 @@ use Rattle.pp_deck.specs.declared.flaw.Flaw.{Flaw}
 use Rattle.pp_deck.specs.declared.keyword.Keyword.{Keyword}
 use Rattle.pp_deck.specs.declared.keyword.Keyword.TheVariants as keywords
 use Rattle.pp_deck.proofs.SectionLemmas.{current_after}
-use Rattle.pp_deck.proofs.FieldTextLemmas.{and_left, and_right}
 
 -- ---- results
 
@@ -45,13 +44,13 @@ digit_more power value d r le lt =
 octal_below : (field : List ℕ) (value : ℕ) → list_all (is_digit 8) field ≡ true → fold (λ value digit. value * 8 + (digit - 48)) value field < (value + 1) * 8 ^ length field
 octal_below [] value e = rw pow-zero (omega arith)
 octal_below (c ∷ field) value e =
-    let most = ltb-true c 56 (and_right (nat_le 48 c) (nat_lt c 56) (and_left (is_digit 8 c) (list_all (is_digit 8) field) e)) in
-    rw (pow-suc 8 (length field)) (digit_more (8 ^ length field) value (c - 48) _ (omega (arith, most)) (octal_below field (value * 8 + (c - 48)) (and_right (is_digit 8 c) (list_all (is_digit 8) field) e)))
+    let most = ltb-true c 56 (and_parts (nat_le 48 c) (nat_lt c 56) (and_parts (is_digit 8 c) (list_all (is_digit 8) field) e).0).1 in
+    rw (pow-suc 8 (length field)) (digit_more (8 ^ length field) value (c - 48) _ (omega (arith, most)) (octal_below field (value * 8 + (c - 48)) (and_parts (is_digit 8 c) (list_all (is_digit 8) field) e).1))
 
 value_below : (most : ℕ) (field : List ℕ) → (nat_le 1 (length field) && nat_le (length field) most && list_all (is_digit 8) field) ≡ true → value_of 8 field < 8 ^ most
 value_below most field e =
-    let short = leb-true (length field) most (and_right (nat_le 1 (length field)) (nat_le (length field) most) (and_left (nat_le 1 (length field) && nat_le (length field) most) (list_all (is_digit 8) field) e)) in
-    let all = and_right (nat_le 1 (length field) && nat_le (length field) most) (list_all (is_digit 8) field) e in
+    let short = leb-true (length field) most (and_parts (nat_le 1 (length field)) (nat_le (length field) most) (and_parts (nat_le 1 (length field) && nat_le (length field) most) (list_all (is_digit 8) field) e).0).1 in
+    let all = (and_parts (nat_le 1 (length field) && nat_le (length field) most) (list_all (is_digit 8) field) e).1 in
     omega (arith, octal_below field 0 all, pow-le-pow_right {n = 8} (lit< tt) {i = length field} {j = most} short)
 
 holds_read : {A F : Type 0} (P : A → Type 0) (b : Bool) (x : A) (flaw : F) → (b ≡ true → P x) → Holds P (ok_or (cond b (Some x) None) flaw)
@@ -108,7 +107,7 @@ module _ (profile : Profile) where
   central_holds fields =
       then_holds 6 fields _ (IsKnown false)
       (λ n more small. holds_if (IsKnown false) (nat_le 1 n && nat_le n 0o400000) (ends_with (central_size n) more) _
-      (λ e. end_holds (IsKnown false) (central_size n) more (refl, (leb-true 1 n (and_left (nat_le 1 n) (nat_le n 0o400000) e), leb-true n 0o400000 (and_right (nat_le 1 n) (nat_le n 0o400000) e)))))
+      (λ e. end_holds (IsKnown false) (central_size n) more (refl, (leb-true 1 n (and_parts (nat_le 1 n) (nat_le n 0o400000) e).0, leb-true n 0o400000 (and_parts (nat_le 1 n) (nat_le n 0o400000) e).1))))
 
   central_words_hold : (size : ℕ) (fields : Fields) → Holds (IsKnown false) (central_words_line size fields)
   unfolding central_words_line

@@ -1,4 +1,5 @@
 -- The lines of a deck, read one after another, up to the first fault.
+use mathlib.Core.Bool.{or-false}
 use Rattle.std.proofs.Common.{◌≡◌, ℕ, suc, ◌+◌, ◌-◌, ◌<◌, Bool, true, false, List, [], ◌∷◌, ◌++◌, length, take, get_or, Option, Result, Ok, Err, refl, sym, ap, ◌∙◌, arith, fold, lt-ltb}
 use Rattle.std.specs.Prelude.{filter_map, option_to_list, is_some, ◌||◌}
 use Rattle.std.specs.List.{list_any, range_with_len, cons_option}
@@ -48,10 +49,6 @@ module _ (profile : Profile) where
     in_section = ap (λ (p : Progress). is_some p.current) e;
   }
 
-  or_false : (b : Bool) → (b || false) ≡ b
-  or_false true = refl
-  or_false false = refl
-
   one_first : (n : ℕ) → 1 + n ≡ suc n
   one_first n = omega arith
 
@@ -96,7 +93,7 @@ module _ (profile : Profile) where
   unfolding line_after after_line
   read_blank lines k progress b h lt e =
       let next = read_more lines k progress b nothing h lt (ap (line_after profile (size_of lines) b (is_some progress.current)) e) in
-      let same : (b || has_fields (get_or lines k [])) ≡ b = ap (λ (fields : List (List ℕ)). b || has_fields fields) e ∙ or_false b in
+      let same : (b || has_fields (get_or lines k [])) ≡ b = ap (λ (fields : List (List ℕ)). b || has_fields fields) e ∙ or-false b in
       record { faultless = next.faultless; progress_is = next.progress_is; behind = sym same ∙ next.behind; in_section = next.in_section }
 
   -- central memory keeps its size

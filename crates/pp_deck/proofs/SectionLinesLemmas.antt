@@ -1,4 +1,5 @@
 -- Lines that stand in sections, and what each section sets.
+use mathlib.Core.Bool.{and-true, or-false}
 use Rattle.std.proofs.Common.{◌≡◌, ℕ, zero, suc, ◌+◌, ◌<◌, ◌≤◌, ◌⊎◌, Bool, true, false, cond, eqb, List, [], ◌∷◌, ◌++◌, length, take, get_or, Option, Some, None, refl, sym, ap, ◌∙◌, arith, append_assoc, append-nil, inl, inr}
 use Rattle.std.specs.Prelude.{filter_map, ◌&&◌, ◌||◌}
 use Rattle.std.specs.List.{AllByRecursion, flat_map, list_any, range_with_len, cons_option}
@@ -30,10 +31,6 @@ any_none q a zero none = refl
 any_none q a (suc len) none =
     ap (λ (b : Bool). b || list_any q (range_with_len (a + 1) len)) (none a (omega arith)) ∙ any_none q (a + 1) len (λ m le. none m (omega (arith, le)))
 
-pub or_false : (b : Bool) → (b || false) ≡ b
-or_false true = refl
-or_false false = refl
-
 pub any_only : (q : ℕ → Bool) (n a len : ℕ) → ((m : ℕ) → (n ≡ m → ⊥) → q m ≡ false) → a ≤ n → n < a + len → list_any q (range_with_len a len) ≡ q n
 any_only q n a zero none low high = absurd (omega (arith, low, high))
 any_only q n a (suc len) none low high = at (λ ne. any_only q n (a + 1) len none (omega (arith, low, ne)) (omega (arith, high))) (cases_eq n a)
@@ -41,7 +38,7 @@ any_only q n a (suc len) none low high = at (λ ne. any_only q n (a + 1) len non
     at : ((n ≡ a → ⊥) → list_any q (range_with_len (a + 1) len) ≡ q n) → (n ≡ a) ⊎ (n ≡ a → ⊥) → (q a || list_any q (range_with_len (a + 1) len)) ≡ q n
     at later (inl e) =
         ap (λ (b : Bool). q a || b) (any_none q (a + 1) len (λ m le. none m (λ h. absurd (omega (arith, e, h, le)))))
-        ∙ or_false (q a) ∙ ap q (sym e)
+        ∙ or-false (q a) ∙ ap q (sym e)
     at later (inr ne) =
         ap (λ (b : Bool). b || list_any q (range_with_len (a + 1) len)) (none a ne)
         ∙ later ne
@@ -162,7 +159,7 @@ held_by_sections {A} f named body n count head none h k lt =
 -- ---- names
 
 named_if : (n m : ℕ) (b : Bool) (body : List Line) → list_any (names n) body ≡ false → list_any (names n) (cond b (section m ∷ body) []) ≡ (b && eqb n m)
-named_if n m true body none = ap (λ (b : Bool). eqb n m || b) none ∙ or_false (eqb n m)
+named_if n m true body none = ap (λ (b : Bool). eqb n m || b) none ∙ or-false (eqb n m)
 named_if n m false body none = refl
 
 -- the processors that sections name
@@ -173,11 +170,7 @@ named_by_sections named body n count head none no_head lt =
     ∙ any_flat (names n) (section_if named body) (range_with_len 0 count)
     ∙ any_only (λ m. list_any (names n) (section_if named body m)) n 0 count
     (λ m ne. named_if n m (named m) (body m) (none m) ∙ ap (λ (b : Bool). named m && b) (ne_eqb n m ne) ∙ and_right (named m) false refl) (omega arith) (omega (arith, lt))
-    ∙ named_if n n (named n) (body n) (none n) ∙ ap (λ (b : Bool). named n && b) (eq-eqb n n refl) ∙ and_true (named n)
-  where
-    and_true : (b : Bool) → (b && true) ≡ b
-    and_true true = refl
-    and_true false = refl
+    ∙ named_if n n (named n) (body n) (none n) ∙ ap (λ (b : Bool). named n && b) (eq-eqb n n refl) ∙ and-true (named n)
 
 -- ---- central words
 

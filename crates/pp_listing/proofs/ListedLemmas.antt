@@ -1,4 +1,5 @@
 -- The lines of a listing, taken all together, load the deck that they list.
+use mathlib.Core.Bool.{and-false, and-true, or-false}
 use Rattle.std.proofs.Common.{◌≡◌, ℕ, suc, ◌-◌, ◌<◌, ◌⊎◌, Bool, true, false, cond, eqb, List, [], ◌∷◌, ◌++◌, length, get_or, Option, Some, None, refl, sym, ap, ◌∙◌, map, subst, arith, append-nil, inl, inr}
 use Rattle.std.specs.Prelude.{filter_map, unwrap_or, ◌&&◌, ◌||◌, IsTrue}
 use Rattle.std.specs.List.{AllByRecursion, flat_map, list_any, range_with_len, cons_option}
@@ -14,7 +15,7 @@ use Rattle.pp_word.specs.Tables.{tabulate, tabulate_is}
 use Rattle.pp_deck.specs.DeckLoad.{word_among, word_for, central_word_for, start_in, lines_for, is_named, is_dead_start, asks_dead_start, memory_of, central_loaded, processor_with, processor_loaded}
 use Rattle.pp_word.specs.GrowingLists.{last_of}
 use Rattle.pp_deck.proofs.SectionLemmas.{names}
-use Rattle.pp_deck.proofs.SectionLinesLemmas.{KeepsCurrent, all_append, all_flat, all_unset, or_false, flat_only, filter_flat, any_flat, any_none, section_if, held_by_sections, named_by_sections, unset_by_sections}
+use Rattle.pp_deck.proofs.SectionLinesLemmas.{KeepsCurrent, all_append, all_flat, all_unset, flat_only, filter_flat, any_flat, any_none, section_if, held_by_sections, named_by_sections, unset_by_sections}
 use Rattle.pp_listing.specs.ListedLine.{says}
 use Rattle.pp_listing.specs.Listing.{instruction_lines, start_line}
 use Rattle.pp_listing.proofs.InstructionLemmas.{among_at, among_before, instructions_all, instructions_hold, start_all}
@@ -127,7 +128,7 @@ line_without p a w true e = refl
 line_without p a w false e = ap (λ (b : Bool). b || false) e
 
 dead_if : (p : Line → Bool) (dead : Bool) → list_any p (dead_line dead) ≡ (dead && p dead_start)
-dead_if p true = or_false (p dead_start)
+dead_if p true = or-false (p dead_start)
 dead_if p false = refl
 
 any_head : (p : Line → Bool) (central : List ℕ) (dead : Bool) → p (central_size (length central)) ≡ false → ((a w : ℕ) → p (central_words a (w ∷ [])) ≡ false) → list_any p (head_of central dead) ≡ (dead && p dead_start)
@@ -139,19 +140,11 @@ any_head p central dead no_size no_word =
     ∙ any_none (λ a. list_any p (word_line central a)) 0 (length central) (λ a le. line_without p a (get_or central a 0) (eqb (get_or central a 0) 0) (no_word a (get_or central a 0))))
     ∙ dead_if p dead
 
-and_false : (b : Bool) → (b && false) ≡ false
-and_false true = refl
-and_false false = refl
-
-and_true : (b : Bool) → (b && true) ≡ b
-and_true true = refl
-and_true false = refl
-
 -- ---- names
 
 pub named_held : (central : List ℕ) (dead : Bool) (named : ℕ → Bool) (pp : ℕ → Processor) (n : ℕ) → n < number_count → is_named (lines_of_parts central dead named pp) n ≡ named n
 named_held central dead named pp n lt =
-    named_by_sections named (λ m. body_of (pp m)) n number_count (head_of central dead) (λ m. untrue (names n) (body_of (pp m)) (each_of_body (λ line. names n line ≡ false) (λ x ws. refl) (λ p a. refl) (pp m))) (any_head (names n) central dead refl (λ a w. refl) ∙ and_false dead) lt
+    named_by_sections named (λ m. body_of (pp m)) n number_count (head_of central dead) (λ m. untrue (names n) (body_of (pp m)) (each_of_body (λ line. names n line ≡ false) (λ x ws. refl) (λ p a. refl) (pp m))) (any_head (names n) central dead refl (λ a w. refl) ∙ and-false dead) lt
 
 -- ---- dead start
 
@@ -162,11 +155,11 @@ section_unasking m false pp = refl
 pub asked_held : (central : List ℕ) (dead : Bool) (named : ℕ → Bool) (pp : ℕ → Processor) → asks_dead_start (lines_of_parts central dead named pp) ≡ dead
 asked_held central dead named pp =
     list_any-append is_dead_start (head_of central dead) (flat_map (section_if named (λ n. body_of (pp n))) (range_with_len 0 number_count))
-    ∙ ap (λ (b : Bool). b || list_any is_dead_start (flat_map (section_if named (λ n. body_of (pp n))) (range_with_len 0 number_count))) (any_head is_dead_start central dead refl (λ a w. refl) ∙ and_true dead)
+    ∙ ap (λ (b : Bool). b || list_any is_dead_start (flat_map (section_if named (λ n. body_of (pp n))) (range_with_len 0 number_count))) (any_head is_dead_start central dead refl (λ a w. refl) ∙ and-true dead)
     ∙ ap (λ (b : Bool). dead || b)
     (any_flat is_dead_start (section_if named (λ n. body_of (pp n))) (range_with_len 0 number_count)
     ∙ any_none (λ m. list_any is_dead_start (section_if named (λ n. body_of (pp n)) m)) 0 number_count (λ m le. section_unasking m (named m) (pp m)))
-    ∙ or_false dead
+    ∙ or-false dead
 
 -- ---- processors
 

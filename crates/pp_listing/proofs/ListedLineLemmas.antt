@@ -2,10 +2,11 @@
 use Rattle.std.proofs.Common.{◌≡◌, ℕ, ◌<◌, true, List, [], ◌∷◌, ◌++◌, length, map, replicate, refl, sym, subst, arith, append_assoc, ◌/◌, ◌%◌, ◌^◌, Bool, false, cond, eqb, ◌∙◌}
 use Rattle.std.specs.Prelude.{codes}
 use Rattle.std.specs.List.{list_all, flat_map}
+use Rattle.std.proofs.lemmas.Bool.{and_from}
 use Rattle.std.proofs.lemmas.List.{append-nil}
 use Rattle.pp_deck.specs.DeckLine.{Line, nothing, central_size, central_words, section, start, words, dead_start}
 use Rattle.pp_deck.specs.DeckText.{fields_in}
-use Rattle.pp_deck.proofs.FieldTextLemmas.{is_ink, IsField, IsTail, tail_none, tail_field, tail_last, tail_comment, no_fields, fields_last, is_plain, and_both, octal_is_field, octal_plain, short_is_field, short_plain}
+use Rattle.pp_deck.proofs.FieldTextLemmas.{is_ink, IsField, IsTail, tail_none, tail_field, tail_last, tail_comment, no_fields, fields_last, is_plain, octal_is_field, octal_plain, short_is_field, short_plain}
 use Rattle.pp_text.specs.InstructionText.{instruction_text, index_text, operands_of, operands_text}
 use Rattle.pp_listing.specs.ListedLine.{ListedLine, bare, one_word, two_words, after_blank, line_text, says, listed_text}
 use Rattle.pp_word.specs.Numeral.{octal, short_octal}
@@ -22,7 +23,7 @@ abbrev pub IsPlain : List ℕ → Type 0
 IsPlain text = list_all is_plain text ≡ true
 
 pub plain_append : (xs ys : List ℕ) → IsPlain xs → IsPlain ys → IsPlain (xs ++ ys)
-plain_append xs ys h k = list_all-append is_plain xs ys ∙ and_both (list_all is_plain xs) (list_all is_plain ys) h k
+plain_append xs ys h k = list_all-append is_plain xs ys ∙ and_from (list_all is_plain xs) (list_all is_plain ys) h k
 
 mnemonic_plain : (op : Opcode) → IsPlain ((row_of op).mnemonic)
 mnemonic_plain PSN = refl

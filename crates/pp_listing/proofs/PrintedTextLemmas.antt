@@ -2,7 +2,7 @@
 use Rattle.std.proofs.Common.{◌≡◌, ℕ, ◌+◌, ◌<◌, ◌≤◌, Bool, true, false, List, [], ◌∷◌, ◌++◌, length, drop, get_or, map, fold, Option, Some, None, Ok, refl, sym, ap, subst, ◌∙◌, arith, append_assoc, ltb, le-ltb, ◌^◌, cond, Result, Err, lt-ltb}
 use Rattle.std.specs.Prelude.{nat_le, position, is_some, IsTrue, nat_eq, All}
 use Rattle.std.specs.List.{list_all, flat_map, slice_split, All}
-use Rattle.std.proofs.lemmas.Bool.{leb-true, le-leb, ne_eqb, cond-false}
+use Rattle.std.proofs.lemmas.Bool.{and_from, and_parts, cond-false, le-leb, leb-true, ne_eqb}
 use Rattle.std.proofs.lemmas.List.{length-drop}
 use Rattle.std.proofs.lemmas.List.Folds.{list_all-append}
 use Rattle.std.proofs.lemmas.List.Sums.{AllPass-from_list_all}
@@ -18,7 +18,7 @@ use Rattle.pp_deck.proofs.FieldLemmas.{next_line}
 use Rattle.pp_deck.proofs.ProgressLemmas.{after_lines_is}
 use Rattle.pp_deck.proofs.ReadingLemmas.{ReadTo, read_none, read_more, read_blank, read_all}
 use Rattle.pp_listing.specs.ListedLine.{ListedLine, says, listed_text, text_line}
-use Rattle.pp_deck.proofs.FieldTextLemmas.{is_plain, and_left, and_right, and_both, plain_least, plain_most, no_fields, fields_of_plain, octal_field, short_field}
+use Rattle.pp_deck.proofs.FieldTextLemmas.{is_plain, plain_least, plain_most, no_fields, fields_of_plain, octal_field, short_field}
 use Rattle.pp_listing.proofs.ListedLineLemmas.{fields_said, line_fields, line_plain}
 use Rattle.std.proofs.lemmas.List.Elements.{All-head, All-tail}
 use Rattle.pp_word.specs.Address.{place_count}
@@ -136,11 +136,11 @@ plain_ascii : (text : List ℕ) → list_all is_plain text ≡ true → list_all
 unfolding is_ascii
 plain_ascii [] e = refl
 plain_ascii (c ∷ text) e =
-    let most = plain_most c (and_left (is_plain c) (list_all is_plain text) e) in
-    and_both (nat_le c 127) (list_all is_ascii text) (le-leb c 127 (omega (arith, most))) (plain_ascii text (and_right (is_plain c) (list_all is_plain text) e))
+    let most = plain_most c (and_parts (is_plain c) (list_all is_plain text) e).0 in
+    and_from (nat_le c 127) (list_all is_ascii text) (le-leb c 127 (omega (arith, most))) (plain_ascii text (and_parts (is_plain c) (list_all is_plain text) e).1)
 
 ascii_append : (xs ys : List ℕ) → list_all is_ascii xs ≡ true → list_all is_ascii ys ≡ true → list_all is_ascii (xs ++ ys) ≡ true
-ascii_append xs ys h k = list_all-append is_ascii xs ys ∙ and_both (list_all is_ascii xs) (list_all is_ascii ys) h k
+ascii_append xs ys h k = list_all-append is_ascii xs ys ∙ and_from (list_all is_ascii xs) (list_all is_ascii ys) h k
 
 text_ascii : (lines : List ListedLine) → list_all is_ascii (flat_map text_line lines) ≡ true
 unfolding is_ascii

@@ -14,6 +14,7 @@ use Rattle.pp_races.specs.Watch.{each_below, race_after}
 use Rattle.pp_races.specs.declared.finding.Finding.{Finding}
 use Rattle.pp_races.specs.declared.looks.Looks.{Looks}
 use Rattle.pp_races.proofs.EntryLemmas.{entry_within, set_other}
+use Rattle.pp_races.proofs.EndLemmas.{each_more}
 
 -- the looks of the processors at the first places are closed
 pub record AreClosedBelow (made : Trace) (after : Flags) (old new : List Looks) (place : ℕ) : Type 0 where
@@ -76,7 +77,6 @@ pub found_more : (made : Trace) (after : Flags) (old now : List Looks) (place q 
     → found ≡ first ++ each_below place (λ k. closing_findings made after old (processor_number k))
     → next ≡ found ++ closing_findings made after now q
     → next ≡ first ++ each_below (place + 1) (λ k. closing_findings made after old (processor_number k))
-unfolding each_below
 found_more made after old now place q first found next low q_is so_far found_is next_is =
     let of : ℕ → List Finding = λ k. closing_findings made after old (processor_number k) in
     let q_named : IsTrue (names_processor q) = subst (λ (k : ℕ). IsTrue (names_processor k)) (sym q_is) (processor_places.number_named place low) in
@@ -84,6 +84,4 @@ found_more made after old now place q first found next low q_is so_far found_is 
     let same : closing_findings made after now q ≡ of place =
     ap (λ (l : Looks). if q == made.pp then [] else race_after (look_at l after) made) (so_far.above q q_named (omega arith))
     ∙ ap (λ k. closing_findings made after old k) q_is in
-    next_is ∙ ap (λ x. x ++ closing_findings made after now q) found_is ∙ append_assoc first (each_below place of) (closing_findings made after now q)
-    ∙ ap (λ x. first ++ (each_below place of ++ x)) same
-    ∙ ap (λ k. first ++ each_below k of) (sym (add-one place))
+    each_more of first found next place found_is (next_is ∙ ap (λ x. found ++ x) same)

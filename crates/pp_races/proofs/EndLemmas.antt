@@ -13,6 +13,7 @@ use Rattle.pp_machine.specs.Processor.{Processor}
 use Rattle.pp_machine.specs.ProcessorPlaces.{processor_places}
 use Rattle.pp_machine.specs.declared.need.Need.TheVariants.{Channel}
 use Rattle.pp_machine.specs.declared.trace.Trace.{Trace}
+use Rattle.pp_text.specs.PrintingLaws.{each_below_suc}
 use Rattle.pp_races.specs.FlagSets.{has}
 use Rattle.pp_races.specs.Findings.{end_by_need, held_before, is_shared, sharing_of}
 use Rattle.pp_races.specs.OtherFlags.{waits_at}
@@ -33,9 +34,8 @@ unfolding each_below
 each_none of first = sym (append-nil first)
 
 pub each_more : {X : Type 0} (of : ℕ → List X) (first found next : List X) (place : ℕ) → found ≡ first ++ each_below place of → next ≡ found ++ of place → next ≡ first ++ each_below (place + 1) of
-unfolding each_below
 each_more of first found next place found_is next_is =
-    next_is ∙ ap (λ x. x ++ of place) found_is ∙ append_assoc first (each_below place of) (of place) ∙ ap (λ k. first ++ each_below k of) (sym (add-one place))
+    next_is ∙ ap (λ x. x ++ of place) found_is ∙ append_assoc first (each_below place of) (of place) ∙ ap (λ x. first ++ x) (each_below_suc place of)
 
 -- ---- a processor that asks a channel
 

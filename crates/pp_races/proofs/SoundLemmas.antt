@@ -1,4 +1,5 @@
 -- Where a step adds no finding, it is checked, and the watch stays sound.
+use mathlib.Core.List.{append-eq-nil_iff}
 use Rattle.std.proofs.Common.{◌≡◌, ◌≢◌, ℕ, zero, suc, ◌+◌, ◌-◌, ◌<◌, ◌≤◌, Bool, true, false, IsTrue, List, [], ◌∷◌, ◌++◌, length, get_or, Option, Some, None, refl, sym, ap, ◌∙◌, subst, inl, inr, arith}
 use Rattle.std.specs.Prelude.{◌==◌, ◌||◌, ◌⊎◌, not, is_some, is_none, if◌then◌else◌}
 use Rattle.std.specs.Option.{option_or, option_to_list}
@@ -38,12 +39,10 @@ use Rattle.pp_races.proofs.Watching.{stays_at}
 -- ---- findings that are none
 
 pub none_first : {X : Type 0} (xs ys : List X) → xs ++ ys ≡ [] → xs ≡ []
-none_first [] ys is = refl
-none_first (x ∷ xs) ys is = absurd (cc)
+none_first xs ys is = (append-eq-nil_iff.0 is).0
 
 pub none_second : {X : Type 0} (xs ys : List X) → xs ++ ys ≡ [] → ys ≡ []
-none_second [] ys is = is
-none_second (x ∷ xs) ys is = absurd (cc)
+none_second xs ys is = (append-eq-nil_iff.0 is).1
 
 no_race_before : (step : AskingStep) (entry : Option Trace) → race_before step entry ≡ [] → entry ≡ None
 no_race_before step None is = refl

@@ -19,6 +19,7 @@ use Rattle.pp_races.specs.OtherFlags.{waits_at, found_at, is_alike, is_race}
 use Rattle.pp_races.specs.declared.asking_step.AskingStep.{AskingStep}
 use Rattle.pp_races.specs.declared.finding.Finding.{Finding}
 use Rattle.pp_races.specs.declared.finding.Finding.TheVariants.{Before, After}
+unfoldable pub use Rattle.pp_text.specs.PrintedText.{each_below}
 
 -- an event of the trace, and the flags of its channel before it
 pub record Missed : Type 0 where
@@ -98,11 +99,6 @@ looked n c op m w =
       findings = w.findings
           ++ race_before step (first_race (λ f. is_race (found f)) (w.missed n c));
     }
-
--- what there is of 0, of 1, .. and of count - 1, one after another
-unfoldable pub each_below : {X : Type 0} → ℕ → (ℕ → List X) → List X
-each_below zero of = []
-each_below (suc k) of = each_below k of ++ of k
 
 -- what there is of each processor, in order of number
 abbrev pub each_number : {X : Type 0} → (ℕ → List X) → List X

@@ -2,7 +2,7 @@
 use Rattle.std.proofs.Common.{All, ◌≡◌, ◌≢◌, ◌∙◌, ℕ, zero, suc, ◌+◌, ◌^◌, ◌<◌, ◌≤◌, Bool, true, false, List, [], ◌∷◌, ◌++◌, length, map, Option, Some, None, refl, sym, ap, subst, append_assoc, arith, inl, inr}
 use Rattle.std.specs.Prelude.{IsTrue, if◌then◌else◌, slice_get, slice_index_or}
 use Rattle.std.specs.List.{AllByRecursion, cons_option, enumerate_from, filter_map, flat_map, list_all}
-use Rattle.std.proofs.lemmas.Bool.{cases_eq}
+use Rattle.std.proofs.lemmas.Bool.{and_parts, cases_eq}
 use Rattle.std.proofs.lemmas.List.{append-nil, length_push}
 use Rattle.std.proofs.lemmas.List.Elements.{All-head, All-tail}
 use Rattle.pp_channel.specs.ChannelPlaces.{channel_fits}
@@ -33,7 +33,7 @@ use Rattle.pp_check.proofs.KeepsLemmas.{event_line, numbered_here}
 use Rattle.pp_check.proofs.OpeningLemmas.{lawful_start}
 use Rattle.pp_check.proofs.PrintedLawLemmas.{Shows, all_below, all_both, events_both, history_shows, lawful_shown, none_shown}
 use Rattle.pp_check.proofs.PrintedLineLemmas.{numbered_body, numbered_line_read, plain_numbered, plain_octal, plain_processor, processor_body, processor_line_is, processor_line_read}
-use Rattle.pp_check.proofs.PrintedTextLemmas.{Reads, all_said, channel_lines, left_true, lines_below, no_text, reads_both, reads_channel, reads_channels, reads_if, reads_line, reads_processors, said_is, map_both, state_lines}
+use Rattle.pp_check.proofs.PrintedTextLemmas.{Reads, all_said, channel_lines, lines_below, no_text, reads_both, reads_channel, reads_channels, reads_if, reads_line, reads_processors, said_is, map_both, state_lines}
 use Rattle.pp_check.proofs.TraceLemmas.{history_more, history_same, lawful_push}
 
 -- ---- lines
@@ -217,7 +217,7 @@ module _ {Z : Type 0} (named : List Bool) (report : Report Z) (opened : List Boo
 
   reads_workers : (n : ℕ) → Reads (named_worker_line named report.ends.items n) (worker_lines n)
   unfolding worker_lines
-  reads_workers n = reads_if (is_named named n) _ (end_lines (slice_get report.ends.items (processor_index n))) (λ at. reads_worker n (slice_get report.ends.items (processor_index n)) (left_true (names_processor n) (slice_index_or named (processor_index n) false) at))
+  reads_workers n = reads_if (is_named named n) _ (end_lines (slice_get report.ends.items (processor_index n))) (λ at. reads_worker n (slice_get report.ends.items (processor_index n)) (and_parts (names_processor n) (slice_index_or named (processor_index n) false) at).0)
 
   said : map parsed_line (lines_of (printed_report named report)) ≡ map (λ l. Some l) (((all_events ++ lines_below 0o100 worker_lines) ++ lines_below 0o100 (channel_lines report.channels)) ++ Other ∷ [])
   unfolding printed_report all_events

@@ -2,8 +2,8 @@
 use Rattle.std.proofs.Common.{◌≡◌, ◌∙◌, ◌≢◌, All, ℕ, zero, suc, ◌+◌, ◌^◌, ◌/◌, ◌%◌, ◌<◌, ◌≤◌, ◌-◌, ◌*◌, ◌⊎◌, inl, inr, length, Bool, true, false, List, [], ◌∷◌, ◌++◌, Option, Some, None, map, take, drop, refl, sym, ap, subst, arith, append_assoc, codes}
 use Rattle.std.specs.Prelude.{◌==◌, ◌&&◌, ◌↔◌, nat_lt, get_or, option_map, slice_get, slice_index_or, IfSome, IsTrue, if◌then◌else◌}
 use Rattle.std.specs.List.{cons_option, enumerate_from, filter, filter_map, flat_map}
-use Rattle.std.proofs.lemmas.Bool.{cases_lt, eq-eqb, le-ltb, lt-ltb, ne_eqb}
-use Rattle.std.proofs.lemmas.List.{append-nil}
+use Rattle.std.proofs.lemmas.Bool.{cases_lt, eq-eqb, false_from_ne_true, le-ltb, lt-ltb, ne_eqb}
+use Rattle.std.proofs.lemmas.List.{append-nil, same_from_push}
 use Rattle.std.proofs.lemmas.List.Elements.{All-append, All-cons, All-head, All-nil, All-tail, filter-append, filter_map-append}
 use Rattle.std.proofs.Math.Seq.{drop-append_seam, drop-nil}
 use Rattle.pp_channel.specs.ChannelNo.{names_channel}
@@ -28,7 +28,7 @@ use Rattle.pp_text.specs.TextLaw.{HistoryFits, ShowSameChannel}
 use Rattle.pp_report.proofs.AuthorLawLemmas.{only_openings}
 use Rattle.pp_report.proofs.EventLineLemmas.{enumerate_more}
 use Rattle.pp_text.proofs.HistoryLawLemmas.{one_history}
-use Rattle.pp_text.proofs.TextLawLemmas.{both_used, is_used, Above, above-append, above_less, above_decimal, above_event, above_octal, cut, octal_tells, decimal_tells, unlines, unlines-append, AreLines, are_lines-append, lines_told, lines_below, said_in_lines, are_lines_below, heading, none_below, one_among, one_is, same_event, named_digits, first_digit, channels, channel_body, channel_in_lines, plain_channels, unnamed, used_alike}
+use Rattle.pp_text.proofs.TextLawLemmas.{both_used, is_used, Above, above-append, above_less, above_decimal, above_event, above_octal, cut, octal_tells, decimal_tells, unlines, unlines-append, AreLines, are_lines-append, lines_told, lines_below, said_in_lines, are_lines_below, heading, none_below, one_among, same_event, named_digits, first_digit, channels, channel_body, channel_in_lines, plain_channels, used_alike}
 
 -- ---- the line of an event
 
@@ -274,7 +274,7 @@ lines_of : {Z : Type 0} → List Bool → Report Z → List (List ℕ)
 lines_of named report = lines_below 0o100 (events_lines report.ends.items report.channels) ++ (lines_below 0o100 (ends named report) ++ lines_below 0o100 (channels report.channels))
 
 pub unnamed_line : {Z : Type 0} (named : List Bool) (workers : List (Worker Z)) (n : ℕ) → (IsTrue (names_processor n) → ⊥) → named_worker_line named workers n ≡ []
-unnamed_line named workers n none = rw (unnamed (names_processor n) none) refl
+unnamed_line named workers n none = rw (false_from_ne_true (names_processor n) none) refl
 
 text_in_lines : {Z : Type 0} (named : List Bool) (report : Report Z) → printed_report named report ≡ unlines (lines_of named report)
 unfolding lines_of printed_report
@@ -364,7 +364,7 @@ unfolding one_of
 same_one n None None _ _ e = refl
 same_one n None (Some t) _ _ e = absurd cc
 same_one n (Some s) None _ _ e = absurd cc
-same_one n (Some s) (Some t) clear also e = ap Some (same_shown n s t clear also (one_is (end_body n s) (end_body n t) e))
+same_one n (Some s) (Some t) clear also e = ap Some (same_shown n s t clear also (same_from_push [] [] (end_body n s) (end_body n t) e).1)
 
 -- each worker that ended at a fault is at a numbered one
 abbrev pub HasNumberedEnds : {Z : Type 0} → Report Z → Type 0
@@ -401,7 +401,7 @@ tells_events {Y} {Z} named others one other c is fits also e =
 -- no processor is shown past the numbers of two digits
 none_shown : {Z : Type 0} (named : List Bool) (n : ℕ) (report : Report Z) → 0o100 ≤ n → shown_of named n report ≡ None
 none_shown {Z} named n report past =
-    ap (λ (b : Bool). if b then end_of n report else None) (unnamed (is_named named n) (λ is. let low = named_digits named n is in absurd (omega (arith, low, past))))
+    ap (λ (b : Bool). if b then end_of n report else None) (false_from_ne_true (is_named named n) (λ is. let low = named_digits named n is in absurd (omega (arith, low, past))))
 
 tells_end : {Y Z : Type 0} (named others : List Bool) (one : Report Y) (other : Report Z) (n : ℕ) → IfSome (shown_of named n one) IsClear → IfSome (shown_of others n other) IsClear
     → printed_report named one ≡ printed_report others other → shown_of named n one ≡ shown_of others n other

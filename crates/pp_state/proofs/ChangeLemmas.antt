@@ -92,11 +92,11 @@ abbrev pub changes : List ℕ → List ℕ → ℕ → List (ℕ × ℕ)
 changes before after count = flat_map (change before after) (range_with_len 0 count)
 
 changes_more : (before after : List ℕ) (place : ℕ) → differs before after place ≡ true → changes before after (place + 1) ≡ changes before after place ++ (place, get_or after place 0) ∷ []
-changes_more before after place e = range_flat (change before after) place ∙ ap (λ (xs : List (ℕ × ℕ)). changes before after place ++ xs) (cond-true (differs before after place) _ _ e)
+changes_more before after place e = sym (range_flat (change before after) 0 place place (omega arith)) ∙ ap (λ (xs : List (ℕ × ℕ)). changes before after place ++ xs) (cond-true (differs before after place) _ _ e)
 
 changes_same : (before after : List ℕ) (place : ℕ) → differs before after place ≡ false → changes before after (place + 1) ≡ changes before after place
 changes_same before after place e =
-    range_flat (change before after) place ∙ ap (λ (xs : List (ℕ × ℕ)). changes before after place ++ xs) (cond-false (differs before after place) _ _ e)
+    sym (range_flat (change before after) 0 place place (omega arith)) ∙ ap (λ (xs : List (ℕ × ℕ)). changes before after place ++ xs) (cond-false (differs before after place) _ _ e)
     ∙ append-nil (changes before after place)
 
 at_end : (place count : ℕ) → count ≡ 0 → place ≡ place + count
@@ -137,7 +137,7 @@ words_after before after place = cond (eqb (position_on_line before after place)
 
 words_before_more : (before after : List ℕ) (place : ℕ) → words_before before after (place + 1) ≡ words_before before after place ++ flat_map words_set (line_from before after place)
 words_before_more before after place =
-    ap (flat_map words_set) (range_flat (line_from before after) place)
+    ap (flat_map words_set) (sym (range_flat (line_from before after) 0 place place (omega arith)))
     ∙ flat_map-append words_set (flat_map (line_from before after) (range_with_len 0 place)) (line_from before after place)
 
 few_in_front : (before after : List ℕ) (place : ℕ) → position_on_line before after place < 8

@@ -8,7 +8,7 @@ use Rattle.std.proofs.lemmas.List.Concat.{flat_map-append}
 use mathlib.Core.Logic.{dite}
 use native.Mathlib.Decide.{dec_lt}
 use Rattle.pp_word.specs.Address.{place_count}
-use Rattle.pp_word.specs.GrowingLists.{range_append, range_more}
+use Rattle.pp_word.specs.GrowingLists.{range_append}
 use Rattle.pp_machine.specs.MachineState.{MachineState}
 use Rattle.pp_machine.specs.MachineStep.{central_after}
 use Rattle.pp_machine.specs.declared.need.Need.{Need}
@@ -25,14 +25,6 @@ nothing f a (suc n) none =
     let here : f a ≡ [] = subst (λ (i : ℕ). f i ≡ []) (omega arith) (none 0 (omega arith)) in
     ap (λ (text : List ℕ). text ++ flat_map f (range_with_len (a + 1) n)) here
     ∙ nothing f (a + 1) n (λ k below. subst (λ (i : ℕ). f i ≡ []) (omega arith) (none (suc k) (omega (arith, below))))
-
--- what is said of one number more
-pub one_more : (f : ℕ → List ℕ) (a k place : ℕ) → place ≡ a + k → flat_map f (range_with_len a k) ++ f place ≡ flat_map f (range_with_len a (k + 1))
-one_more f a k place is =
-    ap (λ (i : ℕ). flat_map f (range_with_len a k) ++ f i) is
-    ∙ ap (λ (text : List ℕ). flat_map f (range_with_len a k) ++ text) (sym (append-nil (f (a + k))))
-    ∙ sym (flat_map-append f (range_with_len a k) ((a + k) ∷ []))
-    ∙ ap (flat_map f) (sym (range_more a k))
 
 -- three stretches, one behind another
 three_stretches : (f : ℕ → List ℕ) (a b c : ℕ) → flat_map f (range_with_len 0 (a + (b + c))) ≡ flat_map f (range_with_len 0 a) ++ (flat_map f (range_with_len a b) ++ flat_map f (range_with_len (a + b) c))

@@ -2,15 +2,15 @@
 use Rattle.std.proofs.Common.{All, ◌≡◌, ◌∙◌, ◌≢◌, ℕ, zero, suc, ◌+◌, ◌*◌, ◌^◌, ◌/◌, ◌%◌, ◌<◌, ◌≤◌, Bool, true, false, List, [], ◌∷◌, ◌++◌, Option, Some, None, length, map, take, drop, refl, sym, ap, subst, add-one, arith, inl, inr, ◌⊎◌, append_assoc, codes}
 use Rattle.std.specs.Prelude.{◌==◌, ◌&&◌, ◌↔◌, nat_lt, get_or, IfSome, IsTrue, slice_index_or, if◌then◌else◌}
 use Rattle.std.specs.List.{filter, flat_map, last_or}
-use Rattle.std.proofs.lemmas.Bool.{cases_lt, eq-eqb, le-ltb, lt-ltb, ne_eqb}
+use Rattle.std.proofs.lemmas.Bool.{and_parts, cases_lt, eq-eqb, false_from_ne_true, le-ltb, lt-ltb, ne_eqb}
 use Rattle.std.proofs.Math.Bool.{and-false}
 use Rattle.std.proofs.lemmas.Grind.{flat_map-append}
-use Rattle.std.proofs.lemmas.List.{append-nil, length-append}
+use Rattle.std.proofs.lemmas.List.{append-nil, length-append, same_from_push}
 use Rattle.std.proofs.lemmas.List.Elements.{All-append, All-cons, All-head, All-nil, All-tail, filter-append}
 use Rattle.std.proofs.Math.Seq.{take-suc, take-append_seam, drop-append_seam}
 use Rattle.std.proofs.Math.Nat.{div-add-mod}
 use Rattle.pp_channel.specs.ChannelNo.{names_channel}
-use Rattle.pp_channel.specs.ChannelPlaces.{channel_fits}
+use Rattle.pp_channel.specs.ChannelPlaces as channel_places
 use Rattle.pp_channel.specs.History.{HasTwelveBitWord, active, waiting, last_stretch, history_on}
 use Rattle.pp_channel.specs.Session.{puts, takes}
 use Rattle.pp_channel.specs.declared.event.Event.{Event}
@@ -18,7 +18,7 @@ use Rattle.pp_channel.specs.declared.event.Event.TheVariants.{Activate, Disconne
 use Rattle.pp_machine.specs.MachineState.{MachineState, processor_of}
 use Rattle.pp_machine.specs.Processor.{Processor, HasFaultNumber}
 use Rattle.pp_machine.specs.PpNo.{names_processor, processor_index, is_named}
-use Rattle.pp_machine.specs.ProcessorPlaces.{processor_fits}
+use Rattle.pp_machine.specs.ProcessorPlaces as processor_places
 use Rattle.pp_machine.specs.declared.pp_state.PpState.{PpState}
 use Rattle.pp_machine.specs.declared.pp_state.PpState.TheVariants.{Running, Stopped, Fault}
 use Rattle.pp_machine.specs.declared.trace.Trace.{Trace}
@@ -255,8 +255,8 @@ same_tail e k told other same =
     let pp : octal 2 e.pp ≡ octal 2 k.pp = ap (λ t. take 2 (drop 2 t)) same in
     let channel : octal 2 e.channel ≡ octal 2 k.channel = ap (λ t. take 2 (drop 7 t)) same in
     let event : event_text e.event ≡ event_text k.event = ap (drop 10) same in (
-      octal_tells 2 e.pp k.pp (processor_fits e.pp told.pp) (processor_fits k.pp other.pp) pp,
-      octal_tells 2 e.channel k.channel (channel_fits e.channel told.channel) (channel_fits k.channel other.channel) channel,
+      octal_tells 2 e.pp k.pp (processor_places.number_fits e.pp told.pp) (processor_places.number_fits k.pp other.pp) pp,
+      octal_tells 2 e.channel k.channel (channel_places.number_fits e.channel told.channel) (channel_places.number_fits k.channel other.channel) channel,
       same_event e.event k.event told.word other.word event,
     )
 
@@ -459,12 +459,8 @@ plain_channels histories c =
 lines_of : List Bool → MachineState → List (List ℕ)
 lines_of named m = bodies m.trace ++ (lines_below 0o100 (processors named m) ++ lines_below 0o100 (channels m.histories))
 
-pub unnamed : (b : Bool) → (IsTrue b → ⊥) → b ≡ false
-unnamed true none = absurd (none refl)
-unnamed false none = refl
-
 unnamed_line : (named : List Bool) (m : MachineState) (n : ℕ) → (IsTrue (names_processor n) → ⊥) → named_processor_line named m n ≡ []
-unnamed_line named m n none = rw (unnamed (names_processor n) none) refl
+unnamed_line named m n none = rw (false_from_ne_true (names_processor n) none) refl
 
 text_in_lines : (named : List Bool) (m : MachineState) → printed named m ≡ unlines (lines_of named m)
 unfolding lines_of printed
@@ -568,9 +564,6 @@ same_channels named others one other c within e =
 
 -- ---- what a processor's line tells
 
-pub one_is : (l k : List ℕ) → l ∷ [] ≡ k ∷ [] → l ≡ k
-one_is l k e = cc
-
 same_state : (s t : PpState) → HasFaultNumber s → HasFaultNumber t → state_text s ≡ state_text t → s ≡ t
 same_state Running Running _ _ e = refl
 same_state Stopped Stopped _ _ e = refl
@@ -595,7 +588,7 @@ tells_processor named others one other n within is too shown also e =
     same_processors named others one other n within e in
     let line : processor_body n (processor_of n one) ∷ [] ≡ processor_body n (processor_of n other) ∷ [] =
     sym (ap (λ (b : Bool). if b then processor_body n (processor_of n one) ∷ [] else []) is) ∙ lines ∙ ap (λ (b : Bool). if b then processor_body n (processor_of n other) ∷ [] else []) too in
-    let same = same_processor n (processor_of n one) (processor_of n other) shown also (one_is _ _ line) in
+    let same = same_processor n (processor_of n one) (processor_of n other) shown also (same_from_push [] [] _ _ line).1 in
     record { p = same.0; a = same.1; state = same.2 }
 
 -- ---- what a channel's line tells
@@ -631,7 +624,7 @@ used_alike true c [] [] is e small also = record { unused = (λ e. e, λ e. e); 
 used_alike true c [] (y ∷ k) is e small also = absurd cc
 used_alike true c (x ∷ h) [] is e small also = absurd cc
 used_alike true c (x ∷ h) (y ∷ k) is e small also =
-    let line = one_is (channel_body c (x ∷ h)) (channel_body c (y ∷ k)) e in
+    let line = (same_from_push [] [] (channel_body c (x ∷ h)) (channel_body c (y ∷ k)) e).1 in
     let same = same_channel_text (active (x ∷ h)) (active (y ∷ k)) (waiting (x ∷ h)) (waiting (y ∷ k)) (full_is_active (x ∷ h)) (full_is_active (y ∷ k)) small also (ap (drop 5) line) in
     record { unused = (λ e. absurd cc, λ e. absurd cc); active = same.0; waiting = same.1 }
 
@@ -644,12 +637,8 @@ tells_channel named others one other c within is small also e =
 
 -- ---- the law
 
-pub left_true : (a b : Bool) → IsTrue (a && b) → IsTrue a
-left_true true b is = refl
-left_true false b is = is
-
 pub named_digits : (named : List Bool) (n : ℕ) → IsTrue (is_named named n) → n < 0o100
-named_digits named n is = processor_fits n (left_true (names_processor n) (slice_index_or named (processor_index n) false) is)
+named_digits named n is = processor_places.number_fits n (and_parts (names_processor n) (slice_index_or named (processor_index n) false) is).0
 
 -- which processors are named: those with a line
 same_name : (a b : Bool) (l k : List ℕ) → (if a then l ∷ [] else []) ≡ (if b then k ∷ [] else []) → a ≡ b
@@ -664,8 +653,8 @@ tells_names named others one other e n = elim (cases_lt n 0o100) [
   | inl within ↦
       same_name (is_named named n) (is_named others n) (processor_body n (processor_of n one)) (processor_body n (processor_of n other)) (same_processors named others one other n within e)
   | inr past ↦
-      unnamed (is_named named n) (λ is. let low = named_digits named n is in absurd (omega (arith, low, past)))
-      ∙ sym (unnamed (is_named others n) (λ is. let low = named_digits others n is in absurd (omega (arith, low, past))))
+      false_from_ne_true (is_named named n) (λ is. let low = named_digits named n is in absurd (omega (arith, low, past)))
+      ∙ sym (false_from_ne_true (is_named others n) (λ is. let low = named_digits others n is in absurd (omega (arith, low, past))))
 ]
 
 pub text_tells : (named others : List Bool) (one other : MachineState) → FitsItsText named one → FitsItsText others other → printed named one ≡ printed others other → AgreeOnText named others one other
@@ -676,7 +665,7 @@ text_tells named others one other fits also e =
       processors = λ n is.
           let too : IsTrue (is_named others n) = sym (names n) ∙ is in
           tells_processor named others one other n (named_digits named n is) is too (fits.processors n is) (also.processors n too) e;
-      channels = λ c is. tells_channel named others one other c (channel_fits c is) is (fits.channels c is) (also.channels c is) e;
+      channels = λ c is. tells_channel named others one other c (channel_places.number_fits c is) is (fits.channels c is) (also.channels c is) e;
     }
 
 -- ---- what is printed fits
@@ -694,11 +683,3 @@ events_go_on events i e within at =
     let more : take (i + 1) events ≡ take i events ++ e ∷ [] =
     ap (λ n. take n events) (add-one i) ∙ take-suc events i e within ∙ ap (λ x. take i events ++ x ∷ []) (sym at) in
     sym (ap (flat_map event_line) more ∙ (flat_map-append event_line (take i events) (e ∷ []) ∙ ap (λ l. flat_map event_line (take i events) ++ l) (append-nil (event_line e))))
-
--- what holds below a number, and at it
-pub below_goes_on : (P : ℕ → Type 0) (k : ℕ) → ((n : ℕ) → n < k → P n) → P k → (n : ℕ) → n < k + 1 → P n
-below_goes_on P k below here n within = by_order (cases_lt n k)
-  where
-    by_order : (n < k) ⊎ (k ≤ n) → P n
-    by_order (inl early) = below n early
-    by_order (inr late) = subst P (omega (arith, late, within)) here

@@ -59,8 +59,8 @@ channel_line c (e ∷ h) =
 
 -- ---- the whole text
 
--- what is printed of 0, of 1, .. and of count - 1, one after another
-unfoldable pub each_below : ℕ → (ℕ → List ℕ) → List ℕ
+-- what there is of 0, of 1, .. and of count - 1, one after another
+unfoldable pub each_below : {X : Type 0} → ℕ → (ℕ → List X) → List X
 each_below zero said = []
 each_below (suc k) said = each_below k said ++ said k
 

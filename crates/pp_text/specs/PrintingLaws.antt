@@ -45,28 +45,25 @@ pub prints_on : {W : Type 0} (contents : W → Option (List ℕ)) (a b c : TextW
 prints_on contents a b c xs ys text h k is =
     subst (Prints contents a c) is (prints_then contents a b c xs ys h k)
 
--- what is printed of no number
-pub each_below_zero : (said : ℕ → List ℕ) → each_below 0 said ≡ []
+-- what there is of no number
+pub each_below_zero : {X : Type 0} (said : ℕ → List X) → each_below 0 said ≡ []
 unfolding each_below
 each_below_zero said = refl
 
--- what is printed so far, and of one more number
-pub each_below_suc : (k : ℕ) (said : ℕ → List ℕ)
+-- what there is so far, and of one more number
+pub each_below_suc : {X : Type 0} (k : ℕ) (said : ℕ → List X)
     → each_below k said ++ said k ≡ each_below (k + 1) said
 unfolding each_below
 each_below_suc k said = rw (add-one) refl
 
--- what comes of 0, of 1, .. and of one more number
-pub range_flat : {X : Type 0} (f : ℕ → List X) (k : ℕ)
-    → flat_map f (range_with_len 0 (k + 1)) ≡ flat_map f (range_with_len 0 k) ++ f k
-range_flat {X} f k =
-    ap (flat_map f) (range_more 0 k)
-    ∙ flat_map-append f (range_with_len 0 k) ((0 + k) ∷ [])
-    ∙ ap (λ (ls : List X). flat_map f (range_with_len 0 k) ++ ls) (append-nil (f (0 + k)))
-    ∙ ap (λ (i : ℕ). flat_map f (range_with_len 0 k) ++ f i) (from_zero k)
-  where
-    from_zero : (k : ℕ) → 0 + k ≡ k
-    from_zero k = omega arith
+-- what comes of some numbers, and of one more
+pub range_flat : {X : Type 0} (f : ℕ → List X) (a k next : ℕ) → next ≡ a + k
+    → flat_map f (range_with_len a k) ++ f next ≡ flat_map f (range_with_len a (k + 1))
+range_flat {X} f a k next is =
+    ap (λ (i : ℕ). flat_map f (range_with_len a k) ++ f i) is
+    ∙ ap (λ (ls : List X). flat_map f (range_with_len a k) ++ ls) (sym (append-nil (f (a + k))))
+    ∙ sym (flat_map-append f (range_with_len a k) ((a + k) ∷ []))
+    ∙ ap (flat_map f) (sym (range_more a k))
 
 -- the lines of 0, of 1, .. and those of one more number
 pub prints_more : {W X : Type 0} (contents : W → Option (List ℕ)) (a b c : TextWriter W)
@@ -76,8 +73,8 @@ pub prints_more : {W X : Type 0} (contents : W → Option (List ℕ)) (a b c : T
     → Prints contents a c (flat_map line (flat_map f (range_with_len 0 (k + 1))))
 prints_more contents a b c line f k h step =
     prints_on contents a b c _ _ _ h step
-    (sym (ap (flat_map line) (range_flat f k)
-    ∙ flat_map-append line (flat_map f (range_with_len 0 k)) (f k)))
+    (sym (flat_map-append line (flat_map f (range_with_len 0 k)) (f k))
+    ∙ ap (flat_map line) (range_flat f 0 k k (omega arith)))
 
 -- the lines of all numbers below a count
 pub prints_all : {W X : Type 0} (contents : W → Option (List ℕ)) (a b : TextWriter W)
@@ -108,7 +105,8 @@ unfolding each_below
 each_is_flat zero f = refl
 each_is_flat (suc k) f =
     ap (λ (t : List ℕ). t ++ f k) (each_is_flat k f)
-    ∙ sym (ap (λ (n : ℕ). flat_map f (range_with_len 0 n)) (sym (add-one k)) ∙ range_flat f k)
+    ∙ range_flat f 0 k k (omega arith)
+    ∙ ap (λ (n : ℕ). flat_map f (range_with_len 0 n)) (add-one k)
 
 -- the line of the channel with this number, if there is one
 abbrev pub numbered_channel_line : List (List Event) → ℕ → List ℕ

@@ -1,4 +1,4 @@
-use Rattle.std.proofs.Common.{◌≡◌, ℕ, ◌<◌, All, arith, subst}
+use Rattle.std.proofs.Common.{◌≡◌, ℕ, ◌<◌, All, arith, subst, below_more}
 use Rattle.std.specs.Prelude.{IsTrue}
 use Rattle.std.specs.List.{flat_map}
 use Rattle.pp_word.specs.Tables.{tabulate}
@@ -9,7 +9,6 @@ use Rattle.pp_text.specs.TextWriter.{Prints}
 use Rattle.pp_report.specs.PrintedReport.{channel_events}
 use Rattle.pp_report.specs.ReportLaw.{FitsItsLine, told_events}
 use Rattle.pp_text.specs.PrintingLaws.{prints_nothing, prints_on, walk_zero, walk_more}
-use Rattle.pp_text.proofs.TextLawLemmas.{below_goes_on}
 use Rattle.pp_report.proofs.AuthorLemmas.{authors_here}
 use Rattle.pp_report.proofs.report_text.print_events.Goals as goal
 
@@ -26,7 +25,7 @@ loop-place-preserved g c workers are =
     c.index.ensures.place (omega (arith, c.index.ensures.below, c.requires)) c.index-authors-index.is c.channel_of.ensures are in (
       prints_on _ _ _ _ _ _ _ so_far.0 (rw (c.channel_of.ensures, number) at (c.print_history.ensures.text workers here))
           (walk_more (channel_events workers c.args.channels.now) channel_number c.loop-place.place),
-      below_goes_on (λ (k : ℕ). All FitsItsLine (told_events (channel_number k) workers (history_on (channel_number k) c.args.channels.now)))
+      below_more (λ (k : ℕ). All FitsItsLine (told_events (channel_number k) workers (history_on (channel_number k) c.args.channels.now)))
           c.loop-place.place so_far.1 (rw (c.channel_of.ensures, number) at (c.print_history.ensures.fits workers here)),
     )
 

@@ -1,14 +1,14 @@
-use Rattle.std.proofs.Common.{◌≡◌, ℕ, ◌<◌, subst, sym, arith}
+use Rattle.std.proofs.Common.{◌≡◌, ℕ, ◌<◌, subst, sym, arith, below_more}
+use Rattle.std.proofs.lemmas.Bool.{and_parts}
 use Rattle.std.specs.Prelude.{IfSome, IsTrue, option_map, slice_get}
 use Rattle.std.specs.List.{flat_map}
 use Rattle.pp_word.specs.Tables.{tabulate}
 use Rattle.pp_machine.specs.PpNo.{all_processors, is_named, names_processor, processor_count, processor_index, processor_number}
-use Rattle.pp_machine.specs.ProcessorPlaces.{processor_places}
+use Rattle.pp_machine.specs.ProcessorPlaces.{number_of_place, place_below}
 use Rattle.pp_text.specs.TextWriter.{Prints}
 use Rattle.pp_report.specs.PrintedReport.{named_worker_line}
 use Rattle.pp_report.specs.ReportLaw.{FitsItsEnd, shown_end}
 use Rattle.pp_text.specs.PrintingLaws.{prints_nothing, prints_on, walk_zero, walk_more}
-use Rattle.pp_text.proofs.TextLawLemmas.{below_goes_on, left_true}
 use Rattle.pp_report.proofs.report_text.print_workers.Goals as goal
 
 pub loop-place-init : goal.loop-place-init
@@ -18,7 +18,7 @@ pub loop-place-preserved : goal.loop-place-preserved
 loop-place-preserved g c = (
   prints_on _ _ _ _ _ _ _ c.loop-place.invariant.0 (rw c.at.ensures.number at c.print_named_worker.ensures.text)
       (walk_more (named_worker_line c.args.named.now c.args.workers.now) processor_number c.loop-place.place),
-  below_goes_on (λ (k : ℕ). IsTrue (is_named c.args.named.now (processor_number k)) → IfSome (option_map shown_end (slice_get c.args.workers.now (processor_index (processor_number k)))) FitsItsEnd)
+  below_more (λ (k : ℕ). IsTrue (is_named c.args.named.now (processor_number k)) → IfSome (option_map shown_end (slice_get c.args.workers.now (processor_index (processor_number k)))) FitsItsEnd)
       c.loop-place.place c.loop-place.invariant.1 (rw c.at.ensures.number at c.print_named_worker.ensures.fits),
 )
 
@@ -28,9 +28,9 @@ returns g c =
     let all : c.loop-place.place ≡ processor_count = omega arith in record {
       text = subst (λ (k : ℕ). Prints g.W.Write.contents c.args.text.now c.loop-place.text (flat_map (named_worker_line c.args.named.now c.args.workers.now) (tabulate k processor_number))) all c.loop-place.invariant.0;
       fits = λ n is.
-          let names = left_true (names_processor n) _ is in
-          let again = processor_places.number_of_place n names in
-          let within : processor_index n < c.loop-place.place = omega (arith, processor_places.place_below n names) in
+          let names = (and_parts (names_processor n) _ is).0 in
+          let again = number_of_place n names in
+          let within : processor_index n < c.loop-place.place = omega (arith, place_below n names) in
           subst (λ (k : ℕ). IfSome (option_map shown_end (slice_get c.args.workers.now (processor_index k))) FitsItsEnd) again
           (c.loop-place.invariant.1 (processor_index n) within (subst (λ (k : ℕ). IsTrue (is_named c.args.named.now k)) (sym again) is));
     }

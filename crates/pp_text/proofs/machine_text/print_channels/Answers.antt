@@ -1,4 +1,4 @@
-use Rattle.std.proofs.Common.{◌≡◌, ℕ, ◌<◌, subst, arith}
+use Rattle.std.proofs.Common.{◌≡◌, ℕ, ◌<◌, subst, arith, below_more}
 use Rattle.std.specs.List.{flat_map}
 use Rattle.pp_word.specs.Tables.{tabulate}
 use Rattle.pp_channel.specs.ChannelNo.{all_channels, channel_count, channel_index, channel_number}
@@ -8,7 +8,6 @@ use Rattle.pp_text.specs.TextLaw.{HistoryFits}
 use Rattle.pp_text.specs.TextWriter.{Prints}
 use Rattle.pp_text.specs.PrintedText.{used_channel_line}
 use Rattle.pp_text.specs.PrintingLaws.{prints_nothing, prints_on, walk_zero, walk_more}
-use Rattle.pp_text.proofs.TextLawLemmas.{below_goes_on}
 use Rattle.pp_text.proofs.machine_text.print_channels.Goals as goal
 
 pub loop-place-init : goal.loop-place-init
@@ -19,7 +18,7 @@ loop-place-preserved g c =
     let number = c.at-c.ensures.number in (
       prints_on _ _ _ _ _ _ _ c.loop-place.invariant.0 (rw (c.channel.ensures.value, number) at c.print_channel_line.ensures.text)
           (walk_more (used_channel_line c.args.machine.now.histories) channel_number c.loop-place.place),
-      below_goes_on (λ (k : ℕ). HistoryFits (history_on (channel_number k) c.args.machine.now.histories)) c.loop-place.place c.loop-place.invariant.1
+      below_more (λ (k : ℕ). HistoryFits (history_on (channel_number k) c.args.machine.now.histories)) c.loop-place.place c.loop-place.invariant.1
           (rw (c.channel.ensures.value, number) at c.print_channel_line.ensures.fits),
     )
 

@@ -1,15 +1,15 @@
-use Rattle.std.proofs.Common.{◌≡◌, ℕ, ◌<◌, subst, sym, arith}
+use Rattle.std.proofs.Common.{◌≡◌, ℕ, ◌<◌, subst, sym, arith, below_more}
+use Rattle.std.proofs.lemmas.Bool.{and_parts}
 use Rattle.std.specs.Prelude.{IsTrue}
 use Rattle.std.specs.List.{flat_map}
 use Rattle.pp_word.specs.Tables.{tabulate}
 use Rattle.pp_machine.specs.MachineState.{processor_of}
 use Rattle.pp_machine.specs.PpNo.{all_processors, is_named, names_processor, processor_count, processor_index, processor_number}
-use Rattle.pp_machine.specs.ProcessorPlaces.{processor_places}
+use Rattle.pp_machine.specs.ProcessorPlaces.{number_of_place, place_below}
 use Rattle.pp_text.specs.TextLaw.{ProcessorFits}
 use Rattle.pp_text.specs.TextWriter.{Prints}
 use Rattle.pp_text.specs.PrintedText.{named_processor_line}
 use Rattle.pp_text.specs.PrintingLaws.{prints_nothing, prints_on, walk_zero, walk_more}
-use Rattle.pp_text.proofs.TextLawLemmas.{below_goes_on, left_true}
 use Rattle.pp_text.proofs.machine_text.print_processors.Goals as goal
 
 pub loop-place-init : goal.loop-place-init
@@ -19,7 +19,7 @@ pub loop-place-preserved : goal.loop-place-preserved
 loop-place-preserved g c = (
   prints_on _ _ _ _ _ _ _ c.loop-place.invariant.0 (rw c.at.ensures.number at c.print_named_processor.ensures.text)
       (walk_more (named_processor_line c.args.named.now c.args.machine.now) processor_number c.loop-place.place),
-  below_goes_on (λ (k : ℕ). IsTrue (is_named c.args.named.now (processor_number k)) → ProcessorFits (processor_of (processor_number k) c.args.machine.now)) c.loop-place.place c.loop-place.invariant.1
+  below_more (λ (k : ℕ). IsTrue (is_named c.args.named.now (processor_number k)) → ProcessorFits (processor_of (processor_number k) c.args.machine.now)) c.loop-place.place c.loop-place.invariant.1
       (rw c.at.ensures.number at c.print_named_processor.ensures.fits),
 )
 
@@ -31,8 +31,8 @@ returns-clause-text g c =
 
 pub returns-clause-fits : goal.returns-clause-fits
 returns-clause-fits g c = λ n is.
-    let names = left_true (names_processor n) _ is in
-    let again = processor_places.number_of_place n names in
-    let within : processor_index n < c.loop-place.place = omega (arith, processor_places.place_below n names) in
+    let names = (and_parts (names_processor n) _ is).0 in
+    let again = number_of_place n names in
+    let within : processor_index n < c.loop-place.place = omega (arith, place_below n names) in
     subst (λ (k : ℕ). ProcessorFits (processor_of k c.args.machine.now)) again
     (c.loop-place.invariant.1 (processor_index n) within (subst (λ (k : ℕ). IsTrue (is_named c.args.named.now k)) (sym again) is))
