@@ -10,7 +10,7 @@ use Rattle.std.proofs.lemmas.List.Elements.{All-append, All-cons, All-head, All-
 use Rattle.std.proofs.Math.Seq.{take-suc, take-append_seam, drop-append_seam}
 use Rattle.std.proofs.Math.Nat.{div-add-mod}
 use Rattle.pp_channel.specs.ChannelNo.{names_channel}
-use Rattle.pp_channel.specs.ChannelPlaces as channel_places
+use Rattle.pp_channel.specs.ChannelPlaces.{channel_fits}
 use Rattle.pp_channel.specs.History.{HasTwelveBitWord, active, waiting, last_stretch, history_on}
 use Rattle.pp_channel.specs.Session.{puts, takes}
 use Rattle.pp_channel.specs.declared.event.Event.{Event}
@@ -18,7 +18,7 @@ use Rattle.pp_channel.specs.declared.event.Event.TheVariants.{Activate, Disconne
 use Rattle.pp_machine.specs.MachineState.{MachineState, processor_of}
 use Rattle.pp_machine.specs.Processor.{Processor, HasFaultNumber}
 use Rattle.pp_machine.specs.PpNo.{names_processor, processor_index, is_named}
-use Rattle.pp_machine.specs.ProcessorPlaces as processor_places
+use Rattle.pp_machine.specs.ProcessorPlaces.{processor_fits}
 use Rattle.pp_machine.specs.declared.pp_state.PpState.{PpState}
 use Rattle.pp_machine.specs.declared.pp_state.PpState.TheVariants.{Running, Stopped, Fault}
 use Rattle.pp_machine.specs.declared.trace.Trace.{Trace}
@@ -255,8 +255,8 @@ same_tail e k told other same =
     let pp : octal 2 e.pp ≡ octal 2 k.pp = ap (λ t. take 2 (drop 2 t)) same in
     let channel : octal 2 e.channel ≡ octal 2 k.channel = ap (λ t. take 2 (drop 7 t)) same in
     let event : event_text e.event ≡ event_text k.event = ap (drop 10) same in (
-      octal_tells 2 e.pp k.pp (processor_places.number_fits e.pp told.pp) (processor_places.number_fits k.pp other.pp) pp,
-      octal_tells 2 e.channel k.channel (channel_places.number_fits e.channel told.channel) (channel_places.number_fits k.channel other.channel) channel,
+      octal_tells 2 e.pp k.pp (processor_fits e.pp told.pp) (processor_fits k.pp other.pp) pp,
+      octal_tells 2 e.channel k.channel (channel_fits e.channel told.channel) (channel_fits k.channel other.channel) channel,
       same_event e.event k.event told.word other.word event,
     )
 
@@ -638,7 +638,7 @@ tells_channel named others one other c within is small also e =
 -- ---- the law
 
 pub named_digits : (named : List Bool) (n : ℕ) → IsTrue (is_named named n) → n < 0o100
-named_digits named n is = processor_places.number_fits n (and_parts (names_processor n) (slice_index_or named (processor_index n) false) is).0
+named_digits named n is = processor_fits n (and_parts (names_processor n) (slice_index_or named (processor_index n) false) is).0
 
 -- which processors are named: those with a line
 same_name : (a b : Bool) (l k : List ℕ) → (if a then l ∷ [] else []) ≡ (if b then k ∷ [] else []) → a ≡ b
@@ -665,7 +665,7 @@ text_tells named others one other fits also e =
       processors = λ n is.
           let too : IsTrue (is_named others n) = sym (names n) ∙ is in
           tells_processor named others one other n (named_digits named n is) is too (fits.processors n is) (also.processors n too) e;
-      channels = λ c is. tells_channel named others one other c (channel_places.number_fits c is) is (fits.channels c is) (also.channels c is) e;
+      channels = λ c is. tells_channel named others one other c (channel_fits c is) is (fits.channels c is) (also.channels c is) e;
     }
 
 -- ---- what is printed fits

@@ -6,7 +6,7 @@ use Rattle.pp_machine.specs.MachineState.{MachineState}
 use Rattle.pp_machine.specs.MachineStep.{stepped}
 use Rattle.pp_machine.specs.Processor.{Processor}
 use Rattle.pp_machine.specs.PpNo.{names_processor, processor_count, processor_index}
-use Rattle.pp_machine.specs.ProcessorPlaces.{named_below, place_below}
+use Rattle.pp_machine.specs.ProcessorPlaces.{processor_places}
 use Rattle.pp_machine.specs.Profile.{processor_in_turn}
 use Rattle.pp_machine.specs.RunLaws.{barrel_more}
 use Rattle.pp_ends.specs.Endings.{after_turns}
@@ -22,7 +22,7 @@ loop-turn-init g c =
       ran = c.run_telling-still.ensures.ran c.args.machine.now c.profile-profile.ensures c.in_ok-bare.ensures;
       on = omega arith;
       places = refl;
-      loops = λ n names. rw (get_or-replicate {A = Option Loop} processor_count (processor_index n) None None (place_below n names)) (λ turn i. omega (arith, i.from_on, i.before));
+      loops = λ n names. rw (get_or-replicate {A = Option Loop} processor_count (processor_index n) None None (processor_places.place_below n names)) (λ turn i. omega (arith, i.from_on, i.before));
     })
 
 pub loop-turn-preserved : goal.loop-turn-preserved
@@ -32,7 +32,7 @@ loop-turn-preserved g c =
     let n = c.in_turn-n.result in
     let is : n ≡ processor_in_turn m.profile turn = rw c.profile-profile.ensures at c.in_turn-n.ensures.is in
     let p = c.p-p.ensures ∙ ap (λ (pp : Processor). pp.p) (c.pp.ensures.value (after_turns turn m) c.loop-turn.invariant.ran) in
-    let names : IsTrue (names_processor n) = named_below n c.pp.ensures.within in
+    let names : IsTrue (names_processor n) = processor_places.named_below n c.pp.ensures.within in
     let on = c.loop-turn.invariant.on in
     record {
       ran = subst (λ (k : MachineState). StandsFor c.step_telling-moved.new.bare k)

@@ -2,7 +2,7 @@ use Rattle.std.proofs.Common.{◌≡◌, ◌++◌, List, subst, sym, ap, ◌∙�
 use Rattle.std.specs.Vec.{with_items}
 use Rattle.std.proofs.lemmas.List.{with_items_is}
 use Rattle.pp_machine.specs.Profile.{processor_in_turn}
-use Rattle.pp_machine.specs.ProcessorPlaces.{named_below}
+use Rattle.pp_machine.specs.ProcessorPlaces.{processor_places}
 use Rattle.pp_machine.specs.MachineState.{MachineState}
 use Rattle.pp_machine.specs.MachineStep.{stepped}
 use Rattle.pp_machine.specs.NeedAndEffect.{need}
@@ -30,7 +30,7 @@ loop-turn-preserved g c =
     let t = c.loop-turn.turn in
     let n = c.in_turn-n.result in
     let is : n ≡ processor_in_turn p t = rw (c.from.ensures, c.profile-profile.ensures) at c.in_turn-n.ensures.is in
-    let names = named_below n c.in_turn-n.ensures.place in
+    let names = processor_places.named_below n c.in_turn-n.ensures.place in
     let tables = c.loop-turn.tables in
     let now = c.loop-turn.machine in
     let need_is = c.wants-need.result in

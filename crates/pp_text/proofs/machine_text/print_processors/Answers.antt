@@ -5,7 +5,7 @@ use Rattle.std.specs.List.{flat_map}
 use Rattle.pp_word.specs.Tables.{tabulate}
 use Rattle.pp_machine.specs.MachineState.{processor_of}
 use Rattle.pp_machine.specs.PpNo.{all_processors, is_named, names_processor, processor_count, processor_index, processor_number}
-use Rattle.pp_machine.specs.ProcessorPlaces.{number_of_place, place_below}
+use Rattle.pp_machine.specs.ProcessorPlaces.{processor_places}
 use Rattle.pp_text.specs.TextLaw.{ProcessorFits}
 use Rattle.pp_text.specs.TextWriter.{Prints}
 use Rattle.pp_text.specs.PrintedText.{named_processor_line}
@@ -32,7 +32,7 @@ returns-clause-text g c =
 pub returns-clause-fits : goal.returns-clause-fits
 returns-clause-fits g c = λ n is.
     let names = (and_parts (names_processor n) _ is).0 in
-    let again = number_of_place n names in
-    let within : processor_index n < c.loop-place.place = omega (arith, place_below n names) in
+    let again = processor_places.number_of_place n names in
+    let within : processor_index n < c.loop-place.place = omega (arith, processor_places.place_below n names) in
     subst (λ (k : ℕ). ProcessorFits (processor_of k c.args.machine.now)) again
     (c.loop-place.invariant.1 (processor_index n) within (subst (λ (k : ℕ). IsTrue (is_named c.args.named.now k)) (sym again) is))
