@@ -4,6 +4,7 @@ use Rattle.std.specs.Prelude.{Bool, true, IsNone, IsSome, IsTrue, ◌↔◌, if�
 use Rattle.std.proofs.lemmas.List.{get_or_read, set-get_or}
 use Rattle.pp_channel.specs.ChannelNo.{channel_index}
 use Rattle.pp_channel.specs.declared.event.Event.{Event}
+use Rattle.pp_machine.specs.Headline.{IsMachine}
 use Rattle.pp_machine.specs.MachineState.{MachineState, history_of, processor_of}
 use Rattle.pp_machine.specs.MachineStep.{answer_to, counted, served, taken, stepped, step_outcome}
 use Rattle.pp_machine.specs.NeedAndEffect.{need, processor_after, outcome, is_held, if_running}
@@ -31,6 +32,16 @@ taken_by {before} {now} {new} {i} {pp} {after} n x view place own is new_is =
     ∙ ap (λ (m : MachineState). record m { processors = slice_set m.processors i after; turns = counted m.turns }) view
     ∙ ap (λ k. record now { processors = slice_set now.processors k after; turns = counted now.turns }) place
     ∙ ap (λ q. record now { processors = slice_set now.processors (processor_index n) q; turns = counted now.turns }) (is ∙ ap (λ p. processor_after p x) own)
+
+-- a machine with other processors, as many as it had, is a whole one
+pub with_processors : {m : MachineState} (processors : List Processor) → length processors ≡ length m.processors → IsMachine m → IsMachine (record m { processors = processors })
+with_processors processors many is = record {
+  processors = many ∙ is.processors;
+  channels = is.channels;
+  opened = is.opened;
+  central = is.central;
+  headline = is.headline;
+}
 
 never_held : (block : Option Block) → is_held block Local ≡ false
 never_held None = refl

@@ -12,7 +12,7 @@ use Rattle.pp_machine.specs.Profile.{has_channel, processors_in}
 use Rattle.pp_machine.specs.declared.answer.Answer.TheVariants as answers
 use Rattle.pp_machine.specs.declared.need.Need.TheVariants.{Local, Channel}
 use Rattle.pp_machine.proofs.MachineStepLemmas.{stepped_alone, outcome_alone}
-use Rattle.pp_machine.proofs.TakenLemmas.{own_processor, taken_by, same_machine}
+use Rattle.pp_machine.proofs.TakenLemmas.{own_processor, taken_by, same_machine, with_processors}
 use Rattle.pp_machine.proofs.machine.Machine.go_on.Goals.{in-Some+else-step_internal+else-tests_flags, in_default}
 use Rattle.pp_machine.proofs.machine.Machine.go_on.Goals as goal
 
@@ -24,13 +24,8 @@ step_internal-requires g c =
     subst (λ (pp : Processor). IsNext (Some c.in-Some.op) c.next_instruction-next.result.1 pp) (read ∙ sym lent) (rw c.in-Some.is at c.next_instruction-next.ensures)
 
 pub invariant_of-self : goal.invariant_of-self
-invariant_of-self g c = record {
-  processors = length-set c.self.inside.processors.items c.index-i.result c.step_internal.new.self ∙ c.self.invariant.processors;
-  channels = c.self.invariant.channels;
-  opened = c.self.invariant.opened;
-  central = c.self.invariant.central;
-  headline = c.self.invariant.headline;
-}
+invariant_of-self g c =
+    with_processors _ (length-set c.self.inside.processors.items c.index-i.result c.step_internal.new.self) c.self.invariant
 
 pub returns-then-step_internal-clause-ok : goal.returns-then-step_internal-clause-ok
 returns-then-step_internal-clause-ok g c =
@@ -56,13 +51,8 @@ tests_flags-requires g c =
     subst (λ (pp : Processor). IsNext (Some c.in-Some.op) c.next_instruction-next.result.1 pp) (read ∙ sym again) (rw c.in-Some.is at c.next_instruction-next.ensures)
 
 pub invariant_of-self-then-tests_flags : goal.invariant_of-self-then-tests_flags
-invariant_of-self-then-tests_flags g c = record {
-  processors = length-set c.self.inside.processors.items c.index-i.result c.step_internal.new.self ∙ c.self.invariant.processors;
-  channels = c.self.invariant.channels;
-  opened = c.self.invariant.opened;
-  central = c.self.invariant.central;
-  headline = c.self.invariant.headline;
-}
+invariant_of-self-then-tests_flags g c =
+    with_processors _ (length-set c.self.inside.processors.items c.index-i.result c.step_internal.new.self) c.self.invariant
 
 pub test_flags-requires-clause-next : goal.test_flags-requires-clause-next
 test_flags-requires-clause-next g c =
@@ -87,13 +77,8 @@ pub returns-then-tests_flags-clause-outcome : goal.returns-then-tests_flags-clau
 returns-then-tests_flags-clause-outcome g c = sym c.test_flags.ensures.outcome ∙ ap (step_outcome c.args.n) (same_machine c.index-i.result c.self.view_is c.index_mut.ensures.value c.if-step_internal.ensures.otherwise)
 
 pub invariant_of-self-else-tests_flags : goal.invariant_of-self-else-tests_flags
-invariant_of-self-else-tests_flags g c = record {
-  processors = length-set c.self.inside.processors.items c.index-i.result c.step_internal.new.self ∙ c.self.invariant.processors;
-  channels = c.self.invariant.channels;
-  opened = c.self.invariant.opened;
-  central = c.self.invariant.central;
-  headline = c.self.invariant.headline;
-}
+invariant_of-self-else-tests_flags g c =
+    with_processors _ (length-set c.self.inside.processors.items c.index-i.result c.step_internal.new.self) c.self.invariant
 
 pub step_external-requires-clause-place : goal.step_external-requires-clause-place
 step_external-requires-clause-place g c =

@@ -11,7 +11,7 @@ use Rattle.pp_machine.specs.declared.answer.Answer.{Answer}
 use Rattle.pp_machine.specs.declared.answer.Answer.TheVariants as answers
 use Rattle.pp_machine.specs.declared.need.Need.{Need}
 use Rattle.pp_machine.specs.declared.need.Need.TheVariants.{Channel, Read, Write}
-use Rattle.pp_machine.proofs.TakenLemmas.{own_processor, taken_by, stepped_for, outcome_for}
+use Rattle.pp_machine.proofs.TakenLemmas.{own_processor, taken_by, stepped_for, outcome_for, with_processors}
 use Rattle.pp_machine.proofs.machine.Machine.step_external.Goals as goal
 
 pub wants_next-requires : goal.wants_next-requires
@@ -22,25 +22,15 @@ pub give_local-outcome-requires-clause-next : goal.give_local-outcome-requires-c
 give_local-outcome-requires-clause-next g c = subst (λ (pp : Processor). IsNext c.args.next.now c.args.d pp) (sym (own_processor c.args.n c.self.view_is c.index-i.ensures.place (omega (arith, c.index-i.ensures.below, c.self.invariant.processors)) c.index_mut.ensures.value)) c.requires.next
 
 pub invariant_of-self : goal.invariant_of-self
-invariant_of-self g c = record {
-  processors = length-set c.self.inside.processors.items c.index-i.result c.give_local-outcome.new.self ∙ c.self.invariant.processors;
-  channels = c.self.invariant.channels;
-  opened = c.self.invariant.opened;
-  central = c.self.invariant.central;
-  headline = c.self.invariant.headline;
-}
+invariant_of-self g c =
+    with_processors _ (length-set c.self.inside.processors.items c.index-i.result c.give_local-outcome.new.self) c.self.invariant
 
 pub give_reply-outcome-requires-clause-next : goal.give_reply-outcome-requires-clause-next
 give_reply-outcome-requires-clause-next g c = subst (λ (pp : Processor). IsNext c.args.next.now c.args.d pp) (sym (own_processor c.args.n (c.self-in-Channel.view_is ∙ c.in_ok-reply-in-Channel.ensures.ok) c.index-i.ensures.place (omega (arith, c.index-i.ensures.below, c.self-in-Channel.invariant.processors)) c.index_mut-in-Channel.ensures.value)) c.requires.next
 
 pub invariant_of-self-in-Channel : goal.invariant_of-self-in-Channel
-invariant_of-self-in-Channel g c = record {
-  processors = length-set c.self-in-Channel.inside.processors.items c.index-i.result c.give_reply-outcome.new.self ∙ c.self-in-Channel.invariant.processors;
-  channels = c.self-in-Channel.invariant.channels;
-  opened = c.self-in-Channel.invariant.opened;
-  central = c.self-in-Channel.invariant.central;
-  headline = c.self-in-Channel.invariant.headline;
-}
+invariant_of-self-in-Channel g c =
+    with_processors _ (length-set c.self-in-Channel.inside.processors.items c.index-i.result c.give_reply-outcome.new.self) c.self-in-Channel.invariant
 
 pub give_central-requires-clause-next : goal.give_central-requires-clause-next
 give_central-requires-clause-next g c = subst (λ (pp : Processor). IsNext c.args.next.now c.args.d pp) (sym (own_processor c.args.n c.self.view_is c.index-i.ensures.place (omega (arith, c.index-i.ensures.below, c.self.invariant.processors)) c.index_mut-in-Read.ensures.value)) c.requires.next
@@ -52,13 +42,8 @@ give_central-requires-clause-fits g c =
     subst (λ (x : Need). IsTrue (fits x (answers.Read c.read-word.result))) (sym (ap need own ∙ needs)) refl
 
 pub invariant_of-self-in-Read : goal.invariant_of-self-in-Read
-invariant_of-self-in-Read g c = record {
-  processors = length-set c.self.inside.processors.items c.index-i.result c.give_central.new.self ∙ c.self.invariant.processors;
-  channels = c.self.invariant.channels;
-  opened = c.self.invariant.opened;
-  central = c.self.invariant.central;
-  headline = c.self.invariant.headline;
-}
+invariant_of-self-in-Read g c =
+    with_processors _ (length-set c.self.inside.processors.items c.index-i.result c.give_central.new.self) c.self.invariant
 
 pub give_written-requires-clause-next : goal.give_written-requires-clause-next
 give_written-requires-clause-next g c = subst (λ (pp : Processor). IsNext c.args.next.now c.args.d pp) (sym (own_processor c.args.n c.self.view_is c.index-i.ensures.place (omega (arith, c.index-i.ensures.below, c.self.invariant.processors)) c.index_mut-in-Write.ensures.value)) c.requires.next

@@ -14,7 +14,7 @@ use Rattle.pp_machine.specs.declared.answer.Answer.TheVariants as answers
 use Rattle.pp_machine.specs.declared.need.Need.{Need}
 use Rattle.pp_machine.specs.declared.need.Need.TheVariants.{Local, Channel}
 use Rattle.pp_machine.proofs.MachineStepLemmas.{stepped_alone, stepped_by_probe, outcome_alone, outcome_by_probe}
-use Rattle.pp_machine.proofs.TakenLemmas.{own_processor, taken_by, moved_alone, if_found, if_missing}
+use Rattle.pp_machine.proofs.TakenLemmas.{own_processor, taken_by, moved_alone, if_found, if_missing, with_processors}
 use Rattle.pp_machine.proofs.machine.Machine.test_flags.Goals as goal
 
 pub give_local-fault-requires-clause-next : goal.give_local-fault-requires-clause-next
@@ -29,13 +29,8 @@ give_local-fault-requires-clause-fits g c =
     subst (λ (x : Need). IsTrue (fits x answers.Local)) (sym local) refl
 
 pub invariant_of-self : goal.invariant_of-self
-invariant_of-self g c = record {
-  processors = length-set c.self.inside.processors.items c.index.result c.give_local-fault.new.self ∙ c.self.invariant.processors;
-  channels = c.self.invariant.channels;
-  opened = c.self.invariant.opened;
-  central = c.self.invariant.central;
-  headline = c.self.invariant.headline;
-}
+invariant_of-self g c =
+    with_processors _ (length-set c.self.inside.processors.items c.index.result c.give_local-fault.new.self) c.self.invariant
 
 pub returns-in_default-clause-stepped : goal.returns-in_default-clause-stepped
 returns-in_default-clause-stepped g c =
@@ -55,13 +50,8 @@ test_flags-requires-clause-fits g c =
     subst (λ (x : Need). IsTrue (fits x (answers.Channel (replies.Flags c.flags-flags.result)))) (sym probes) refl
 
 pub invariant_of-self-2 : goal.invariant_of-self-2
-invariant_of-self-2 g c = record {
-  processors = length-set c.self-2.inside.processors.items c.index-2.result c.test_flags.new.self ∙ c.self-2.invariant.processors;
-  channels = c.self-2.invariant.channels;
-  opened = c.self-2.invariant.opened;
-  central = c.self-2.invariant.central;
-  headline = c.self-2.invariant.headline;
-}
+invariant_of-self-2 g c =
+    with_processors _ (length-set c.self-2.inside.processors.items c.index-2.result c.test_flags.new.self) c.self-2.invariant
 
 pub returns-clause-stepped : goal.returns-clause-stepped
 returns-clause-stepped g c =
