@@ -29,13 +29,16 @@ impl Model for ChannelNo {
 
     ghost inverse = { λ n. record { place = channel_index n } };
 
-    ghost inverse_ok = { λ c names. ap (λ k. record { place = k }) (channel_places.place_again c.place names) };
+    ghost inverse_ok = { λ c names.
+        ap (λ k. record { place = k }) (channel_places.place_again c.place names) };
 }
 
 impl ChannelNo {
     /// The channel of this number, or nothing from 14 to 17 (octal) and from 34 on.
     #[tactic(auto, unfolding(crate::specs::ChannelNo::names_channel, // which numbers there are
-    crate::specs::ChannelNo::channel_number, pp_word::specs::GappedNumbers::is_number, pp_word::specs::GappedNumbers::number_of))]
+    crate::specs::ChannelNo::channel_number, // in order
+    pp_word::specs::GappedNumbers::is_number, // with a gap
+    pp_word::specs::GappedNumbers::number_of))]
     pub fn new(number: u8) -> Option<Self>
         ensures exists { IsSome result ↔ IsTrue (names_channel number) }
         ensures value { IfSome result (λ c. c ≡ number) }
@@ -50,7 +53,9 @@ impl ChannelNo {
 
     /// Its number.
     #[tactic(auto, unfolding(crate::specs::ChannelNo::names_channel, // which numbers there are
-    crate::specs::ChannelNo::channel_number, pp_word::specs::GappedNumbers::is_number, pp_word::specs::GappedNumbers::number_of))]
+    crate::specs::ChannelNo::channel_number, // in order
+    pp_word::specs::GappedNumbers::is_number, // with a gap
+    pp_word::specs::GappedNumbers::number_of))]
     pub fn get(self) -> u8
         ensures value { result ≡ self }
         ensures names { IsTrue (names_channel result) }

@@ -41,34 +41,23 @@ where four.deck has the lines
     };
 }
 
-/// A required option whose value is a number.
+/// An option whose value is a number.
 macro_rules! number {
-    ($name:literal, $range:expr) => {
+    (required: $required:literal, $name:literal, $range:expr) => {
         OptionForm {
             name: $name,
-            required: true,
+            required: $required,
             value: ValueForm::Number($range),
         }
     };
 }
 
-/// An option that may be left out, whose value is a number.
-macro_rules! optional_number {
-    ($name:literal, $range:expr) => {
+/// An option whose value is a text.
+macro_rules! text {
+    (required: $required:literal, $name:literal, $value:literal, $help:literal) => {
         OptionForm {
             name: $name,
-            required: false,
-            value: ValueForm::Number($range),
-        }
-    };
-}
-
-/// An option that may be left out, whose value is a text.
-macro_rules! optional_text {
-    ($name:literal, $value:literal, $help:expr) => {
-        OptionForm {
-            name: $name,
-            required: false,
+            required: $required,
             value: ValueForm::Text {
                 name: $value,
                 help: $help,
@@ -121,21 +110,15 @@ pub(crate) const EXAMPLE: &str = handoff_example!("barrel --turns 40");
 pub(crate) const FILE_HELP: &str = "The file to read; standard input if not given, or -";
 
 /// How many turns to run.
-const TURNS_OPTION: OptionForm = number!("turns", TURNS);
+const TURNS_OPTION: OptionForm = number!(required: true, "turns", TURNS);
 
 /// How many processors the machine has.
-const PROCESSORS_OPTION: OptionForm = optional_text!(
-    "processors",
-    "N",
-    "How many processors the machine has, 10 or 20 (decimal); 10 if not given"
-);
+const PROCESSORS_OPTION: OptionForm = text!(required: false, "processors", "N",
+        "How many processors the machine has, 10 or 20 (decimal); 10 if not given");
 
 /// The first place or address to print.
-const FIRST_OPTION: OptionForm = optional_text!(
-    "first",
-    "N",
-    "The first address to print (octal; 0 if not given)"
-);
+const FIRST_OPTION: OptionForm =
+    text!(required: false, "first", "N", "The first address to print (octal; 0 if not given)");
 
 /// `--turns N [--processors N]`
 const RUN_OPTIONS: &[OptionForm] = &[TURNS_OPTION, PROCESSORS_OPTION];
@@ -186,8 +169,8 @@ Where the deck has a line DEAD, the processors without a section wait for their 
 the channel of its own number, as at a dead start.",
         example: handoff_example!("threads --steps 100 --patience 1000000"),
         options: &[
-            number!("steps", STEPS),
-            number!("patience", PATIENCE),
+            number!(required: true, "steps", STEPS),
+            number!(required: true, "patience", PATIENCE),
             PROCESSORS_OPTION,
         ],
     },
@@ -242,18 +225,12 @@ machine does not have, and FAULT 4 an address past the end of central memory.",
         example: four_example!("steps --turns 40 --pp 0"),
         options: &[
             TURNS_OPTION,
-            optional_text!(
-                "pp",
-                "N,N,..",
-                "Print the steps of these processors only (octal)"
-            ),
-            optional_text!(
-                "ch",
-                "N,N,..",
-                "Print the steps that ask these channels only (octal)"
-            ),
-            optional_number!("from", FROM),
-            optional_number!("to", TO),
+            text!(required: false, "pp", "N,N,..",
+                "Print the steps of these processors only (octal)"),
+            text!(required: false, "ch", "N,N,..",
+                "Print the steps that ask these channels only (octal)"),
+            number!(required: false, "from", FROM),
+            number!(required: false, "to", TO),
             PROCESSORS_OPTION,
         ],
     },
@@ -306,20 +283,10 @@ are spaces). What goes wrong is one line on standard error.",
         example: four_example!("memory --turns 40 --pp 0"),
         options: &[
             TURNS_OPTION,
-            OptionForm {
-                name: "pp",
-                required: true,
-                value: ValueForm::Text {
-                    name: "N",
-                    help: "The processor (octal)",
-                },
-            },
+            text!(required: true, "pp", "N", "The processor (octal)"),
             FIRST_OPTION,
-            optional_text!(
-                "last",
-                "N",
-                "The last address to print (octal; 7777 if not given)"
-            ),
+            text!(required: false, "last", "N",
+                "The last address to print (octal; 7777 if not given)"),
             PROCESSORS_OPTION,
         ],
     },
@@ -341,11 +308,8 @@ where word.deck has the lines
         options: &[
             TURNS_OPTION,
             FIRST_OPTION,
-            optional_text!(
-                "last",
-                "N",
-                "The last address to print (octal; 377777 if not given)"
-            ),
+            text!(required: false, "last", "N",
+                "The last address to print (octal; 377777 if not given)"),
             PROCESSORS_OPTION,
         ],
     },
@@ -416,8 +380,8 @@ which the picture ends: --turns 999999 --from 5000 --to 6000.",
         example: handoff_example!("draw --turns 40"),
         options: &[
             TURNS_OPTION,
-            optional_number!("from", DRAWN_FROM),
-            optional_number!("to", TO),
+            number!(required: false, "from", DRAWN_FROM),
+            number!(required: false, "to", TO),
             PROCESSORS_OPTION,
         ],
     },
@@ -445,10 +409,7 @@ where handoff.trace has the lines
   000000 PP00 CH05 ACN
   000020 PP00 CH05 PUT 0007
   000021 PP01 CH05 TAK 0007",
-        options: &[optional_text!(
-            "opened",
-            "N,N,..",
-            "The channels that were open before the trace (octal)"
-        )],
+        options: &[text!(required: false, "opened", "N,N,..",
+            "The channels that were open before the trace (octal)")],
     },
 ];

@@ -11,7 +11,8 @@ use Rattle.pp_channel.specs.ChannelNo.{names_channel}
 use Rattle.pp_channel.specs.ChannelPlaces.{channel_places, named_high}
 use Rattle.pp_machine.specs.PpNo.{all_processors, processor_count, names_processor, processor_index, processor_number}
 
-pub processor_places : ArePlaces 0o12 processor_count names_processor processor_index processor_number
+pub processor_places : ArePlaces 0o12 processor_count names_processor
+    processor_index processor_number
 unfolding names_processor processor_index processor_number
 processor_places = places 0o12 6
 

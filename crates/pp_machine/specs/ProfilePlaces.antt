@@ -21,7 +21,8 @@ most_processors Twenty = omega arith
 pub processor_named : (p : Profile) (n : ℕ) → IsTrue (has_processor p n)
     → IsTrue (names_processor n)
 unfolding has_processor
-processor_named p n has = let most = most_processors p in processor_places.named_below n (grind (arith))
+processor_named p n has =
+    let most = most_processors p in processor_places.named_below n (grind (arith))
 
 -- a number that names none, no profile has
 pub unnamed_lacks : (p : Profile) (n : ℕ) → names_processor n ≡ false → has_processor p n ≡ false
@@ -35,7 +36,8 @@ unnamed_lacks p n none = by (has_processor p n) refl
 pub has_at : (p : Profile) (place : ℕ) → place < processor_count
     → has_processor p (processor_number place) ≡ nat_lt place (processors_in p)
 unfolding has_processor
-has_at p place within = ap (λ i. nat_lt i (processors_in p)) (processor_places.place_of_number place within)
+has_at p place within =
+    ap (λ i. nat_lt i (processors_in p)) (processor_places.place_of_number place within)
 
 -- the turn after whole rounds is one of the first round
 pub rest_within : (p : Profile) (turns : ℕ) → turns % processors_in p < processors_in p

@@ -29,13 +29,16 @@ impl Model for PpNo {
 
     ghost inverse = { λ n. record { place = processor_index n } };
 
-    ghost inverse_ok = { λ n names. ap (λ k. record { place = k }) (processor_places.place_again n.place names) };
+    ghost inverse_ok = { λ n names.
+        ap (λ k. record { place = k }) (processor_places.place_again n.place names) };
 }
 
 impl PpNo {
     /// The processor of this number, or nothing from 12 to 17 (octal) and from 32 on.
     #[tactic(auto, unfolding(crate::specs::PpNo::names_processor, // which numbers there are
-    crate::specs::PpNo::processor_number, pp_word::specs::GappedNumbers::is_number, pp_word::specs::GappedNumbers::number_of))]
+    crate::specs::PpNo::processor_number, // in order
+    pp_word::specs::GappedNumbers::is_number, // with a gap
+    pp_word::specs::GappedNumbers::number_of))]
     pub fn new(number: u8) -> Option<Self>
         ensures exists { IsSome result ↔ IsTrue (names_processor number) }
         ensures value { IfSome result (λ n. n ≡ number) }
@@ -50,7 +53,9 @@ impl PpNo {
 
     /// Its number.
     #[tactic(auto, unfolding(crate::specs::PpNo::names_processor, // which numbers there are
-    crate::specs::PpNo::processor_number, pp_word::specs::GappedNumbers::is_number, pp_word::specs::GappedNumbers::number_of))]
+    crate::specs::PpNo::processor_number, // in order
+    pp_word::specs::GappedNumbers::is_number, // with a gap
+    pp_word::specs::GappedNumbers::number_of))]
     pub fn get(self) -> u8
         ensures value { result ≡ self }
         ensures names { IsTrue (names_processor result) }

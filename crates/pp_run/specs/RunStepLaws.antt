@@ -105,7 +105,8 @@ seen_other {X} of n steps step other =
 
 number_at_place : (n i : ℕ) → i ≡ processor_index n → i < processor_count → processor_number i ≡ n
 number_at_place n i is low =
-    ap processor_number is ∙ processor_places.number_of_place n (processor_places.named_below n (omega arith))
+    ap processor_number is
+    ∙ processor_places.number_of_place n (processor_places.named_below n (omega arith))
 
 -- at its place
 pub counted_at : {X T : Type 0} (of : RunStep → X) (count : List X → T) (d : T) (counts : List T)
@@ -148,4 +149,5 @@ counted_more {X} {T} of count d counts steps step n i x are is within own right 
         get_or-set_other counts i place x d other ∙ ap (λ (ts : List T). get_or ts place d) are
         ∙ get_or-tabulate processor_count (λ place. before (processor_number place)) place d low
         ∙ ap count (sym (seen_other of (processor_number place) steps step
-        (λ e. other (sym (processor_places.place_of_number place low) ∙ ap processor_index (sym e ∙ own) ∙ sym is))))
+        (λ e. other (sym (processor_places.place_of_number place low)
+        ∙ ap processor_index (sym e ∙ own) ∙ sym is))))
