@@ -171,16 +171,12 @@ record StandsOn (t n k : ℕ) (m : MachineState) : Type 0 where
   rounds : (t + k * n) % processors_in m.profile ≡ 0
   alike : StandAlike (after_turns t m) (after_turns (t + k * n) m)
 
-alike_by : (t u v : ℕ) (m : MachineState) → u ≡ v → StandAlike (after_turns t m) (after_turns u m)
-    → StandAlike (after_turns t m) (after_turns v m)
-alike_by t u v m same a = subst (λ (k : ℕ). StandAlike (after_turns t m) (after_turns k m)) same a
-
 stands_on : (k t n : ℕ) (m : MachineState) → IsLawfulMachine m → Repeats t n m → StandsOn t n k m
 stands_on zero t n m l r =
     let same : t ≡ t + zero * n = omega arith in
     record {
       rounds = subst (λ (u : ℕ). u % processors_in m.profile ≡ 0) same r.first_rounds;
-      alike = alike_by t t (t + zero * n) m same (record { processors = refl; central = refl; channels = λ c. refl });
+      alike = subst (λ (u : ℕ). StandAlike (after_turns t m) (after_turns u m)) same (record { processors = refl; central = refl; channels = λ c. refl });
     }
 stands_on (suc k) t n m l r =
     let before = stands_on k t n m l r in
@@ -192,7 +188,7 @@ stands_on (suc k) t n m l r =
     (run_alike (barrel p n) (after_turns t m) (after_turns u m) (run_lawful (barrel p t) m l) (run_lawful (barrel p u) m l) before.alike) in
     record {
       rounds = subst (λ (v : ℕ). v % processors_in p ≡ 0) next (rounds_more p u n before.rounds r.rounds);
-      alike = alike_by t (u + n) (t + suc k * n) m next (record {
+      alike = subst (λ (v : ℕ). StandAlike (after_turns t m) (after_turns v m)) next (record {
         processors = again.processors ∙ r.alike.processors;
         central = again.central ∙ r.alike.central;
         channels = λ c. again.channels c ∙ r.alike.channels c;

@@ -16,6 +16,7 @@ use Rattle.pp_machine.specs.Run.{run, barrel}
 use Rattle.pp_machine.specs.RunLaws.{length-barrel, run-append}
 use Rattle.pp_machine.specs.declared.need.Need.{Need}
 use Rattle.pp_machine.specs.declared.profile.Profile.{Profile}
+use Rattle.pp_run.specs.RunStepLaws.{take_barrel, turn_of_barrel}
 use Rattle.pp_run.specs.Determinacy.{IsDeterminate, UsesAt, WritesAt, at_moment, need_at}
 use Rattle.pp_run.proofs.Moments.{moment_next, moment_each, mono, run_central, run_processors}
 use Rattle.pp_races.specs.Findings.{end_of, findings, findings_at_end, sharing_of}
@@ -103,34 +104,6 @@ pub record IsWatchedRun {A : Type 0} (p : Profile) (turns t : ℕ) (m now : Mach
   pub ran : now ≡ run (barrel p t) m
   pub kept : AreTables tables now (forgotten (watched (barrel p t) m unwatched))
   pub sound : (watched (barrel p t) m unwatched).findings ≡ [] → IsSound (barrel p turns) m t (watched (barrel p t) m unwatched)
-
--- ---- the turns of the barrel
-
-take_barrel : (p : Profile) (turns t : ℕ) → t ≤ turns → take t (barrel p turns) ≡ barrel p t
-take_barrel p zero t h =
-    let first : zero ≡ t = omega arith in
-    subst (λ (k : ℕ). take k [] ≡ barrel p k) first refl
-take_barrel p (suc turns) t h = elim (cases_lt t (suc turns)) [
-  | inl below ↦
-      let size = length-barrel p turns in
-      take-append-le t (barrel p turns) (processor_in_turn p turns ∷ []) (omega arith) ∙ take_barrel p turns t (omega arith)
-  | inr past ↦
-      let here : t ≡ suc turns = omega arith in
-      let size = length-barrel p (suc turns) in
-      take_all t (barrel p (suc turns)) (omega arith) ∙ ap (λ k. barrel p k) (sym here)
-]
-
-turn_of_barrel : (p : Profile) (turns t : ℕ) → t < turns → get_or (barrel p turns) t 0 ≡ processor_in_turn p t
-turn_of_barrel p zero t h = absurd (omega arith)
-turn_of_barrel p (suc turns) t h = elim (cases_lt t turns) [
-  | inl below ↦
-      let size = length-barrel p turns in
-      get_or_append_left (barrel p turns) (processor_in_turn p turns ∷ []) 0 t (omega arith) ∙ turn_of_barrel p turns t below
-  | inr past ↦
-      let here : turns ≡ t = omega arith in
-      let size = length-barrel p turns in
-      get_or_push (barrel p turns) (processor_in_turn p turns) 0 t (omega arith) ∙ ap (λ k. processor_in_turn p k) here
-]
 
 -- ---- the loop
 

@@ -1,9 +1,9 @@
 -- The steps of a run with one more step.
-use Rattle.std.proofs.Common.{◌≡◌, ◌≢◌, ℕ, suc, ◌+◌, ◌<◌, ◌≤◌, ◌⊎◌, inl, inr, Bool, true, false, cond, List, [], ◌∷◌, ◌++◌, append-nil, length, map, set, get_or, eqb, refl, sym, ap, ◌∙◌, add-one, arith}
+use Rattle.std.proofs.Common.{◌≡◌, ◌≢◌, ℕ, zero, suc, ◌+◌, ◌<◌, ◌≤◌, ◌⊎◌, inl, inr, Bool, true, false, cond, List, [], ◌∷◌, ◌++◌, append-nil, length, map, set, take, get_or, eqb, refl, sym, ap, ◌∙◌, add-one, arith}
 use Rattle.std.specs.Prelude.{count_by}
 use Rattle.std.specs.List.{filter}
-use Rattle.std.proofs.lemmas.Bool.{cases_eq, eq-eqb, ne_eqb, cond-true, cond-false}
-use Rattle.std.proofs.lemmas.List.{length-map, map-append, length-set, get_or-set_same, get_or-set_other}
+use Rattle.std.proofs.lemmas.Bool.{cases_eq, cases_lt, eq-eqb, ne_eqb, cond-true, cond-false}
+use Rattle.std.proofs.lemmas.List.{length-map, map-append, length-set, get_or-set_same, get_or-set_other, get_or-take, get_or_push, take-append-le, take_all}
 use Rattle.std.proofs.lemmas.List.Elements.{filter-append}
 use Rattle.std.proofs.lemmas.List.Sums.{count_by-le-length, length-filter, sum_by-cons}
 use Rattle.pp_word.specs.Tables.{get_or-tabulate, length-tabulate, tabulate_is}
@@ -49,6 +49,34 @@ barrel_steps_more p turn n m is =
 pub length-barrel_steps : (p : Profile) (turns : ℕ) (m : MachineState)
     → length (run_steps (barrel p turns) m) ≡ turns
 length-barrel_steps p turns m = length-run_steps (barrel p turns) m ∙ length-barrel p turns
+
+-- ---- the turns of the barrel
+
+-- the first of them
+pub take_barrel : (p : Profile) (turns t : ℕ) → t ≤ turns → take t (barrel p turns) ≡ barrel p t
+take_barrel p zero t low = ap (λ (k : ℕ). take k []) none ∙ ap (barrel p) (sym none)
+  where
+    none : t ≡ 0
+    none = omega (arith, low)
+take_barrel p (suc turns) t low = elim (cases_lt t (suc turns)) [
+  | inl below ↦
+      take-append-le t (barrel p turns) (processor_in_turn p turns ∷ [])
+      (omega (arith, below, length-barrel p turns))
+      ∙ take_barrel p turns t (omega (arith, below))
+  | inr past ↦
+      let all : t ≡ suc turns = omega (arith, low, past) in
+      take_all t (barrel p (suc turns)) (omega (arith, past, length-barrel p (suc turns)))
+      ∙ ap (barrel p) (sym all)
+]
+
+-- and each
+pub turn_of_barrel : (p : Profile) (turns t : ℕ) → t < turns
+    → get_or (barrel p turns) t 0 ≡ processor_in_turn p t
+turn_of_barrel p turns t before =
+    sym (get_or-take (t + 1) (barrel p turns) t 0 (omega arith))
+    ∙ ap (λ (ns : List ℕ). get_or ns t 0) (take_barrel p turns (t + 1) (omega (arith, before)))
+    ∙ ap (λ (k : ℕ). get_or (barrel p k) t 0) (add-one t)
+    ∙ get_or_push (barrel p t) (processor_in_turn p t) 0 t (length-barrel p t)
 
 -- ---- the steps of one processor
 

@@ -14,7 +14,7 @@ use Rattle.pp_steps.specs.Cursor.{each_cursor, no_cursor, past_step}
 use Rattle.pp_steps.specs.declared.cursor.Cursor.{Cursor}
 use Rattle.pp_word.specs.Tables.{length-tabulate}
 use Rattle.pp_steps.specs.StepsText.{kind_text, steps_text}
-use Rattle.pp_steps.proofs.ChosenSteps.{all_chosen, chosen_from, chosen_more, chosen_parts, few_chosen, next_chosen, none_left, step_in}
+use Rattle.pp_steps.proofs.ChosenSteps.{chosen_from, chosen_more, chosen_parts, few_chosen, next_chosen, none_left, step_in}
 use Rattle.pp_steps.proofs.TextOfSteps.{IsSoFar, everything, nothing_so_far, turn_told}
 use Rattle.pp_steps.proofs.CountedRuns.{made_few, made_more, none_made}
 use Rattle.pp_steps.proofs.RunCountLemmas.{times_grow}
@@ -22,20 +22,12 @@ use Rattle.pp_steps.proofs.steps_text.print_steps.Goals as goal
 
 pub loop-turn-init : goal.loop-turn-init
 loop-turn-init g c =
-    let p = c.args.machine.now.profile in
     let m = c.args.machine.now in
-    let choice = c.args.choice.now in
-    let all = chosen_steps choice (barrel p c.args.turns) m in
-    let come = sym (all_chosen choice p c.args.turns m) in
     record {
       before = c.requires.before;
       after = c.requires.after;
       followed = ap (replicate processor_count) c.new-cursors.ensures ∙ none_made past_step no_cursor;
-      printed = (
-        [],
-        prints_nothing _ _,
-        subst (λ (future : List RunStep). IsSoFar all [] future []) come (nothing_so_far all),
-      );
+      printed = ([], prints_nothing _ _, nothing_so_far (chosen_steps c.args.choice.now (barrel m.profile c.args.turns) m));
     }
 
 pub pass_step-kind-requires-clause-as_many : goal.pass_step-kind-requires-clause-as_many
