@@ -129,14 +129,12 @@ fn is_same_pp_state(one: PpState, other: PpState) -> bool
 fn is_same_block(one: &Option<Block>, other: &Option<Block>) -> bool
     ensures { IsTrue result ↔ (one.now ≡ other.now) }
 {
-    match one {
-        None => other.is_none(),
-        Some(block) => match other {
-            None => false,
-            Some(next) => {
-                block.place.get() == next.place.get() && is_same_kind(&block.kind, &next.kind)
-            }
-        },
+    match (one, other) {
+        (None, None) => true,
+        (Some(block), Some(next)) => {
+            block.place.get() == next.place.get() && is_same_kind(&block.kind, &next.kind)
+        }
+        (None, Some(_)) | (Some(_), None) => false,
     }
 }
 

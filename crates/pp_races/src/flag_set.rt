@@ -78,23 +78,11 @@ impl FlagSet {
     pub(crate) fn has(&self, flags: Flags) -> bool
         ensures { result ≡ has self.now flags }
     {
-        match flags {
-            Flags {
-                active: false,
-                full: false,
-            } => self.inactive,
-            Flags {
-                active: false,
-                full: true,
-            } => self.inactive_full,
-            Flags {
-                active: true,
-                full: false,
-            } => self.empty,
-            Flags {
-                active: true,
-                full: true,
-            } => self.full,
+        match (flags.active, flags.full) {
+            (false, false) => self.inactive,
+            (false, true) => self.inactive_full,
+            (true, false) => self.empty,
+            (true, true) => self.full,
         }
     }
 }

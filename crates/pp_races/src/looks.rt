@@ -36,23 +36,11 @@ impl Looks {
     pub(crate) fn at(&self, flags: Flags) -> Option<AskingStep>
         ensures { result ≡ look_at self.now flags }
     {
-        match flags {
-            Flags {
-                active: false,
-                full: false,
-            } => self.inactive,
-            Flags {
-                active: false,
-                full: true,
-            } => self.inactive_full,
-            Flags {
-                active: true,
-                full: false,
-            } => self.empty,
-            Flags {
-                active: true,
-                full: true,
-            } => self.full,
+        match (flags.active, flags.full) {
+            (false, false) => self.inactive,
+            (false, true) => self.inactive_full,
+            (true, false) => self.empty,
+            (true, true) => self.full,
         }
     }
 

@@ -44,15 +44,9 @@ fn same_words(one: &Pp, other: &Pp) -> bool
 fn same_profile(one: Profile, other: Profile) -> bool
     ensures { result ≡ same_profile one other }
 {
-    match one {
-        Profile::Ten => match other {
-            Profile::Ten => true,
-            Profile::Twenty => false,
-        },
-        Profile::Twenty => match other {
-            Profile::Ten => false,
-            Profile::Twenty => true,
-        },
+    match (one, other) {
+        (Profile::Ten, Profile::Ten) | (Profile::Twenty, Profile::Twenty) => true,
+        (Profile::Ten, Profile::Twenty) | (Profile::Twenty, Profile::Ten) => false,
     }
 }
 
