@@ -11,6 +11,7 @@ use Rattle.pp_races.specs.declared.flag_set.FlagSet.{FlagSet}
 use Rattle.pp_races.specs.declared.latest.Latest.{Latest}
 use Rattle.pp_races.specs.declared.low.Low.{Low}
 use Rattle.pp_races.specs.declared.span.Span.{Span}
+use Rattle.pp_races.specs.declared.trace_index.TraceIndex.{TraceIndex}
 
 -- no event
 abbrev pub no_span : Span
@@ -85,3 +86,7 @@ pub record IsIndex (trace : List Trace) (latest : List Latest) (short long : Lis
       → IsLatest c trace (slice_index_or latest (channel_index c) no_latest)
   pub of_short : AreSpans 128 trace short
   pub of_long : AreSpans 8192 trace long
+
+-- an index is that of a trace
+abbrev pub Indexes : {A : Type 0} → TraceIndex A → List Trace → Type 0
+Indexes index trace = IsIndex trace index.latest index.short.items index.long.items

@@ -2,7 +2,7 @@
 
 ghost use Rattle.std.specs.Prelude.{◌≡◌, ◌≤◌, drop, length, slice_get};
 ghost use Rattle.pp_races.specs.FlagSets.{has};
-ghost use Rattle.pp_races.specs.Spans.{IsIndex};
+ghost use Rattle.pp_races.specs.Spans.{Indexes};
 ghost use Rattle.pp_races.specs.Tables.{flags_through, missed_at};
 ghost use Rattle.pp_races.specs.Watch.{first_race, from_alike};
 
@@ -29,7 +29,7 @@ impl Low {
         c: ChannelNo,
         races: &FlagSet,
     ) -> Option<Trace>
-        requires { IsIndex trace.now index.now.latest index.now.short.items index.now.long.items }
+        requires { Indexes index.now trace.now }
         ensures { result ≡ first_race (has races.now) (missed_at c self.now trace.now) }
     {
         if !index.may_find(trace, self, c, races) {
@@ -54,7 +54,7 @@ impl Low {
         c: ChannelNo,
         alike: &FlagSet,
     ) -> Low
-        requires { IsIndex trace.now index.now.latest index.now.short.items index.now.long.items }
+        requires { Indexes index.now trace.now }
         ensures missed { missed_at c result trace.now
             ≡ from_alike (has alike.now) (missed_at c self.now trace.now) }
         ensures flags { flags_through c result.flags (drop result.from trace.now)
@@ -76,7 +76,7 @@ impl Low {
         c: ChannelNo,
         set: &FlagSet,
     ) -> Low
-        requires { IsIndex trace.now index.now.latest index.now.short.items index.now.long.items }
+        requires { Indexes index.now trace.now }
         ensures within { result.from ≤ length trace.now }
         ensures missed { missed_at c result trace.now
             ≡ from_alike (has set.now) (missed_at c self.now trace.now) }

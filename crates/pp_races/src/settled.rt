@@ -9,7 +9,7 @@ ghost use Rattle.pp_machine.specs.PpNo.{names_processor};
 ghost use Rattle.pp_machine.specs.declared.need.Need.{Need};
 ghost use Rattle.pp_races.specs.Findings.{end_by_need, end_of, is_running, same_profile, same_words, stays_running, turns_in_place};
 ghost use Rattle.pp_races.specs.Soundness.{TurnTestIsExact};
-ghost use Rattle.pp_races.specs.Spans.{IsIndex};
+ghost use Rattle.pp_races.specs.Spans.{Indexes};
 ghost use Rattle.pp_races.specs.Tables.{entry_count, AreLow};
 ghost use Rattle.pp_races.specs.Watch.{Watch, each_number};
 
@@ -96,8 +96,7 @@ fn find_asking<A: Allocator>(
     findings: &mut Vec<Finding, A>,
 ) -> Result<(), Memory>
     requires needs { need (processor_of n machine.now) ≡ Need.Channel c op.now }
-    requires index { IsIndex machine.now.trace index.now.latest index.now.short.items
-        index.now.long.items }
+    requires index { Indexes index.now machine.now.trace }
     requires low { length low.now ≡ entry_count }
     ensures { OnOk result ((w : Watch) → AreLow machine.now w low.now → findings.new.items
         ≡ findings.old.items ++ end_by_need (Need.Channel c op.now) n machine.now w) }
@@ -122,8 +121,7 @@ fn find_end<A: Allocator>(
     low: &[Low],
     findings: &mut Vec<Finding, A>,
 ) -> Result<(), Memory>
-    requires index { IsIndex machine.now.trace index.now.latest index.now.short.items
-        index.now.long.items }
+    requires index { Indexes index.now machine.now.trace }
     requires low { length low.now ≡ entry_count }
     ensures found { OnOk result ((w : Watch) → AreLow machine.now w low.now
         → findings.new.items ≡ findings.old.items ++ end_of machine.now w n) }
@@ -148,8 +146,7 @@ pub(crate) fn find_unsettled<A: Allocator>(
     low: &[Low],
     findings: &mut Vec<Finding, A>,
 ) -> Result<(), Memory>
-    requires index { IsIndex machine.now.trace index.now.latest index.now.short.items
-        index.now.long.items }
+    requires index { Indexes index.now machine.now.trace }
     requires low { length low.now ≡ entry_count }
     ensures found { OnOk result ((w : Watch) → AreLow machine.now w low.now
         → findings.new.items ≡ findings.old.items ++ each_number (end_of machine.now w)) }

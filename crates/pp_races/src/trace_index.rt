@@ -2,7 +2,7 @@
 
 ghost use Rattle.std.specs.Prelude.{◌≡◌, ◌<◌, ◌++◌, [], ◌∷◌, IfOk, IfSome, OnOk, false, length};
 ghost use Rattle.pp_races.specs.FlagSets.{has};
-ghost use Rattle.pp_races.specs.Spans.{AreSpans, GoesOnFrom, IsIndex};
+ghost use Rattle.pp_races.specs.Spans.{AreSpans, GoesOnFrom, Indexes};
 ghost use Rattle.pp_races.specs.Tables.{missed_at};
 ghost use Rattle.pp_races.specs.Watch.{from_alike};
 
@@ -32,8 +32,7 @@ impl<A: Allocator> TraceIndex<A> {
     pub(crate) fn of(alloc: A, trace: &[Trace], events: usize) -> Result<TraceIndex<A>, Memory>
     where
         A: Copy,
-        ensures { IfOk result (λ index. IsIndex trace.now
-            index.latest index.short.items index.long.items) }
+        ensures { IfOk result (λ index. Indexes index trace.now) }
     {
         let all = trace.len().saturating_add(events);
         let mut index = TraceIndex {
@@ -49,9 +48,8 @@ impl<A: Allocator> TraceIndex<A> {
 
     /// Takes in an event that follows this trace.
     pub(crate) fn push(&mut self, trace: &[Trace], made: &Trace) -> Result<(), Memory>
-        requires { IsIndex trace.now self.old.latest self.old.short.items self.old.long.items }
-        ensures { OnOk result (IsIndex (trace.now ++ made.now ∷ [])
-            self.new.latest self.new.short.items self.new.long.items) }
+        requires { Indexes self.old trace.now }
+        ensures { OnOk result (Indexes self.new (trace.now ++ made.now ∷ [])) }
     {
         let after = flags_after(&made.event);
         let place = made.channel.index();
@@ -64,7 +62,7 @@ impl<A: Allocator> TraceIndex<A> {
 
     /// Whether an event of the channel from a place on may have found one of a set of flags.
     pub(crate) fn may_find(&self, trace: &[Trace], low: &Low, c: ChannelNo, set: &FlagSet) -> bool
-        requires { IsIndex trace.now self.now.latest self.now.short.items self.now.long.items }
+        requires { Indexes self.now trace.now }
         ensures { result ≡ false → from_alike (has set.now) (missed_at c low.now trace.now) ≡ [] }
     {
         let _trace = trace;
@@ -82,8 +80,7 @@ impl<A: Allocator> TraceIndex<A> {
         c: ChannelNo,
         set: &FlagSet,
     ) -> Option<Low>
-        requires index { IsIndex trace.now
-            self.now.latest self.now.short.items self.now.long.items }
+        requires index { Indexes self.now trace.now }
         requires within { low.now.from < length trace.now }
         ensures { IfSome result (λ next. GoesOnFrom c set.now trace.now low.now next) }
     {

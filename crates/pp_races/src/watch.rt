@@ -11,7 +11,7 @@ ghost use Rattle.pp_machine.specs.PpNo.{names_processor};
 ghost use Rattle.pp_machine.specs.declared.need.Need.{Need};
 ghost use Rattle.pp_races.specs.OtherFlags.{waits_at};
 ghost use Rattle.pp_races.specs.Soundness.{AsksLawfulChannel};
-ghost use Rattle.pp_races.specs.Spans.{IsIndex};
+ghost use Rattle.pp_races.specs.Spans.{Indexes};
 ghost use Rattle.pp_races.specs.Tables.{entry_count, entry_place, closing_findings, looks_after_event, looks_of, AreClosed, AreUses, AreWatched};
 ghost use Rattle.pp_races.specs.Watch.{Watch, asked, each_number, looked, made, race_after, race_before, watched_need};
 
@@ -68,12 +68,10 @@ fn take_look<A: Allocator>(
 ) -> Result<(), Memory>
     requires needs { need (processor_of n machine.now) ≡ Need.Channel c op.now }
     requires none { event_of op.now (history_of c machine.now) ≡ None }
-    requires index { IsIndex machine.now.trace index.now.latest index.now.short.items
-        index.now.long.items }
+    requires index { Indexes index.now machine.now.trace }
     requires low { length low.old ≡ entry_count }
     requires looks { length looks.old ≡ entry_count }
-    ensures index { OnOk result (IsIndex (stepped n machine.now).trace
-        index.now.latest index.now.short.items index.now.long.items) }
+    ensures index { OnOk result (Indexes index.now (stepped n machine.now).trace) }
     ensures watched { OnOk result ((w : Watch)
         → AreWatched machine.now w low.old looks.old findings.old.items
         → AreWatched (stepped n machine.now) (looked n c op.now machine.now w)
@@ -154,12 +152,10 @@ fn take_event<A: Allocator>(
 ) -> Result<(), Memory>
     requires needs { need (processor_of n machine.now) ≡ Need.Channel c op.now }
     requires event { event_of op.now (history_of c machine.now) ≡ Some event.now }
-    requires index { IsIndex machine.now.trace index.old.latest index.old.short.items
-        index.old.long.items }
+    requires index { Indexes index.old machine.now.trace }
     requires low { length low.old ≡ entry_count }
     requires looks { length looks.old ≡ entry_count }
-    ensures index { OnOk result (IsIndex (stepped n machine.now).trace
-        index.new.latest index.new.short.items index.new.long.items) }
+    ensures index { OnOk result (Indexes index.new (stepped n machine.now).trace) }
     ensures watched { OnOk result ((w : Watch)
         → AreWatched machine.now w low.old looks.old findings.old.items
         → AreWatched (stepped n machine.now) (made n c op.now event.now machine.now w)
@@ -198,13 +194,11 @@ fn take_asked<A: Allocator>(
     findings: &mut Vec<Finding, A>,
 ) -> Result<(), Memory>
     requires needs { need (processor_of n machine.now) ≡ Need.Channel c op.now }
-    requires index { IsIndex machine.now.trace index.old.latest index.old.short.items
-        index.old.long.items }
+    requires index { Indexes index.old machine.now.trace }
     requires low { length low.old ≡ entry_count }
     requires looks { length looks.old ≡ entry_count }
     ensures sound { AsksLawfulChannel (Need.Channel c op.now) machine.now }
-    ensures index { OnOk result (IsIndex (stepped n machine.now).trace
-        index.new.latest index.new.short.items index.new.long.items) }
+    ensures index { OnOk result (Indexes index.new (stepped n machine.now).trace) }
     ensures watched { OnOk result ((w : Watch)
         → AreWatched machine.now w low.old looks.old findings.old.items
         → AreWatched (stepped n machine.now)
@@ -235,13 +229,11 @@ pub(crate) fn take_step<A: Allocator>(
     findings: &mut Vec<Finding, A>,
 ) -> Result<(), Memory>
     requires needs { asked.now ≡ need (processor_of n machine.now) }
-    requires index { IsIndex machine.now.trace index.old.latest index.old.short.items
-        index.old.long.items }
+    requires index { Indexes index.old machine.now.trace }
     requires low { length low.old ≡ entry_count }
     requires looks { length looks.old ≡ entry_count }
     ensures sound { AsksLawfulChannel asked.now machine.now }
-    ensures index { OnOk result (IsIndex (stepped n machine.now).trace
-        index.new.latest index.new.short.items index.new.long.items) }
+    ensures index { OnOk result (Indexes index.new (stepped n machine.now).trace) }
     ensures watched { OnOk result ((w : Watch)
         → AreWatched machine.now w low.old looks.old findings.old.items
         → AreWatched (stepped n machine.now) (watched_need asked.now n machine.now w)
