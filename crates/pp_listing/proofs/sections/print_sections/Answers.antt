@@ -23,6 +23,4 @@ loop-place-preserved g c =
 
 pub returns : goal.returns
 unfolding all_processors
-returns g c =
-    let all : c.loop-place.place ≡ processor_count = omega arith in
-    subst (λ (k : ℕ). Prints g.W.Write.contents c.args.text.now c.loop-place.text (flat_map text_line (flat_map (named_section c.args.named.now c.args.machine.now) (tabulate k processor_number)))) all c.loop-place.invariant
+returns g c = let all : c.loop-place.place ≡ processor_count = omega arith in rw all at c.loop-place.invariant

@@ -26,7 +26,7 @@ pub returns : goal.returns
 unfolding all_channels
 returns g c =
     let all : c.loop-place.place ≡ channel_count = omega arith in record {
-      text = subst (λ (k : ℕ). Prints g.W.Write.contents c.args.text.now c.loop-place.text (flat_map (used_channel_line c.args.channels.now) (tabulate k channel_number))) all c.loop-place.invariant.0;
+      text = rw all at c.loop-place.invariant.0;
       fits = λ n is.
           let within : channel_index n < c.loop-place.place = omega (arith, channel_places.place_below n is) in
           subst (λ (k : ℕ). HistoryFits (history_on k c.args.channels.now)) (channel_places.number_of_place n is) (c.loop-place.invariant.1 (channel_index n) within);

@@ -26,7 +26,7 @@ pub returns : goal.returns
 unfolding all_processors
 returns g c =
     let all : c.loop-place.place ≡ processor_count = omega arith in record {
-      text = subst (λ (k : ℕ). Prints g.W.Write.contents c.args.text.now c.loop-place.text (flat_map (named_worker_line c.args.named.now c.args.workers.now) (tabulate k processor_number))) all c.loop-place.invariant.0;
+      text = rw all at c.loop-place.invariant.0;
       fits = λ n is.
           let names = (and_parts (names_processor n) _ is).0 in
           let again = processor_places.number_of_place n names in

@@ -1,14 +1,13 @@
-use Rattle.std.proofs.Common.{◌≡◌, ℕ, subst, arith}
-use Rattle.std.specs.List.{flat_map}
+use Rattle.std.proofs.Common.{◌≡◌, arith}
 use Rattle.pp_word.specs.Tables.{tabulate}
 use Rattle.pp_machine.specs.PpNo.{all_processors, processor_count, processor_number}
-use Rattle.pp_text.specs.TextWriter.{Prints}
-use Rattle.pp_text.specs.PrintingLaws.{prints_nothing, prints_on, walk_zero, walk_more}
+use Rattle.pp_text.specs.PrintingLaws.{prints_nothing, prints_on, walk_more}
 use Rattle.pp_state.specs.StateText.{standing_line}
 use Rattle.pp_state.proofs.whole_text.print_processors.Goals as goal
 
 pub loop-place-init : goal.loop-place-init
-loop-place-init g c = rw (walk_zero (standing_line c.args.shown.now c.args.machine.now c.args.held.now) processor_number) (prints_nothing _ _)
+unfolding tabulate
+loop-place-init g c = prints_nothing _ _
 
 pub loop-place-preserved : goal.loop-place-preserved
 loop-place-preserved g c =
@@ -17,6 +16,4 @@ loop-place-preserved g c =
 
 pub returns : goal.returns
 unfolding all_processors
-returns g c =
-    let all : c.loop-place.place ≡ processor_count = omega arith in
-    subst (λ (k : ℕ). Prints g.W.Write.contents c.args.text.now c.loop-place.text (flat_map (standing_line c.args.shown.now c.args.machine.now c.args.held.now) (tabulate k processor_number))) all c.loop-place.invariant
+returns g c = let all : c.loop-place.place ≡ processor_count = omega arith in rw all at c.loop-place.invariant

@@ -24,9 +24,7 @@ loop-place-preserved g c =
 
 pub returns-clause-text : goal.returns-clause-text
 unfolding all_channels
-returns-clause-text g c =
-    let all : c.loop-place.place ≡ channel_count = omega arith in
-    subst (λ (k : ℕ). Prints g.W.Write.contents c.args.text.now c.loop-place.text (flat_map (used_channel_line c.args.machine.now.histories) (tabulate k channel_number))) all c.loop-place.invariant.0
+returns-clause-text g c = let all : c.loop-place.place ≡ channel_count = omega arith in rw all at c.loop-place.invariant.0
 
 pub returns-clause-fits : goal.returns-clause-fits
 returns-clause-fits g c = λ n is.

@@ -25,9 +25,7 @@ loop-place-preserved g c = (
 
 pub returns-clause-text : goal.returns-clause-text
 unfolding all_processors
-returns-clause-text g c =
-    let all : c.loop-place.place ≡ processor_count = omega arith in
-    subst (λ (k : ℕ). Prints g.W.Write.contents c.args.text.now c.loop-place.text (flat_map (named_processor_line c.args.named.now c.args.machine.now) (tabulate k processor_number))) all c.loop-place.invariant.0
+returns-clause-text g c = let all : c.loop-place.place ≡ processor_count = omega arith in rw all at c.loop-place.invariant.0
 
 pub returns-clause-fits : goal.returns-clause-fits
 returns-clause-fits g c = λ n is.
