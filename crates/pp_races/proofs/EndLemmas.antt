@@ -1,5 +1,5 @@
 -- What is found at the end of a run.
-use Rattle.std.proofs.Common.{◌≡◌, ℕ, ◌+◌, Bool, true, false, IsTrue, List, [], ◌∷◌, ◌++◌, get_or, Option, None, refl, sym, ap, ap₂, ◌∙◌, append-nil, append_assoc, add-one}
+use Rattle.std.proofs.Common.{◌≡◌, ℕ, ◌+◌, Bool, true, false, IsTrue, List, [], ◌∷◌, ◌++◌, get_or, Option, None, refl, sym, ap, ap₂, ◌∙◌, append-nil, append_assoc}
 use Rattle.std.specs.Prelude.{not, if◌then◌else◌}
 use Rattle.pp_word.specs.Tables.{tabulate, tabulate_same}
 use Rattle.pp_channel.specs.Answer.{flags_of}

@@ -1,6 +1,6 @@
 -- What is kept of a run as it goes, to find the steps that may race with others: of each processor
 -- and channel the events of others that it may not have seen yet, each with the flags before it.
-use Rattle.std.specs.Prelude.{ℕ, zero, suc, Bool, false, not, ◌||◌, ◌&&◌, ◌==◌, List, [], ◌∷◌, ◌++◌, Option, Some, None, is_some, find, option_map, if◌then◌else◌}
+use Rattle.std.specs.Prelude.{ℕ, Bool, false, not, ◌||◌, ◌&&◌, ◌==◌, List, [], ◌∷◌, ◌++◌, Option, Some, None, is_some, find, option_map, if◌then◌else◌}
 use Rattle.std.specs.Option.{option_or}
 use Rattle.pp_word.specs.Address.{next_place}
 use Rattle.pp_channel.specs.Answer.{event_of, flags_of, flags_after}

@@ -1,11 +1,8 @@
 use Rattle.std.proofs.Common.{◌≡◌, ℕ, ◌<◌, subst, arith, below_more}
-use Rattle.std.specs.List.{flat_map}
-use Rattle.pp_word.specs.Tables.{tabulate}
 use Rattle.pp_channel.specs.ChannelNo.{all_channels, channel_count, channel_index, channel_number}
 use Rattle.pp_channel.specs.ChannelPlaces.{channel_places}
 use Rattle.pp_channel.specs.History.{history_on}
 use Rattle.pp_text.specs.TextLaw.{HistoryFits}
-use Rattle.pp_text.specs.TextWriter.{Prints}
 use Rattle.pp_text.specs.PrintedText.{used_channel_line}
 use Rattle.pp_text.specs.PrintingLaws.{prints_nothing, prints_on, walk_zero, walk_more}
 use Rattle.pp_report.proofs.report_text.print_channels.Goals as goal

@@ -1,9 +1,8 @@
-use Rattle.std.proofs.Common.{◌≡◌, ℕ, sym, ap, ◌∙◌, subst, arith}
+use Rattle.std.proofs.Common.{◌≡◌, sym, ap, ◌∙◌, arith}
 use Rattle.std.specs.List.{flat_map}
 use Rattle.std.proofs.lemmas.List.Concat.{flat_map-append}
 use Rattle.pp_word.specs.Tables.{tabulate}
 use Rattle.pp_machine.specs.PpNo.{all_processors, processor_count, processor_number}
-use Rattle.pp_text.specs.TextWriter.{Prints}
 use Rattle.pp_text.specs.PrintingLaws.{prints_nothing, prints_on, walk_zero, walk_more}
 use Rattle.pp_listing.specs.ListedLine.{deck_line}
 use Rattle.pp_state.specs.Changes.{changed_section}
