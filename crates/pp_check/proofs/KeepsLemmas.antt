@@ -224,8 +224,3 @@ numbered_here number c e = ap (λ (b : Bool). if b then Some e else None) (eq-eq
 pub judged_by : (opened : List Bool) (lines : List TraceLine) (line : TraceLine) (judge : Judge) (r : Result (Unit {0}) TraceFlaw) → judge.last_turn ≡ last_turn (lines ++ line ∷ []) → Happens opened lines line judge r → IsJudged opened lines line judge r
 judged_by opened lines line judge (Ok done) same k = record { kept = k; last_turn = same }
 judged_by opened lines line judge (Err flaw) same k = k
-
--- a line without bytes
-pub no_bytes : (line : List ℕ) → length line ≡ 0 → line ≡ []
-no_bytes [] none = refl
-no_bytes (byte ∷ line) none = absurd (omega (arith, none))

@@ -1,10 +1,11 @@
 -- Steps of what prints a listing.
-use Rattle.std.proofs.Common.{◌≡◌, ◌≢◌, ℕ, zero, suc, ◌+◌, ◌%◌, ◌<◌, ◌≤◌, ◌⊎◌, Bool, true, false, cond, List, [], ◌∷◌, ◌++◌, length, drop, get_or, eqb, Some, None, ◌^◌, codes, refl, sym, ap, ◌∙◌, append_assoc, arith, inl, inr}
+use Rattle.std.proofs.Common.{◌≡◌, ◌≢◌, ℕ, ◌+◌, ◌%◌, ◌<◌, ◌≤◌, ◌⊎◌, Bool, true, false, cond, List, [], ◌∷◌, ◌++◌, length, drop, get_or, eqb, Some, None, ◌^◌, codes, refl, sym, ap, ◌∙◌, append_assoc, arith, inl, inr}
 use Rattle.std.specs.Prelude.{slice_get}
 use Rattle.std.specs.List.{flat_map, range_with_len}
 use Rattle.std.proofs.lemmas.Bool.{eq-eqb, ne_eqb, cond-true, cond-false, cases_lt}
 use Rattle.std.proofs.lemmas.List.{append-nil, drop_all, drop_more, length-drop}
 use Rattle.std.proofs.lemmas.List.Concat.{flat_map-append}
+use Rattle.std.proofs.lemmas.Option.{get_or_from_slice_get}
 use Rattle.pp_word.specs.Address.{place_count, next_place}
 use Rattle.pp_machine.specs.PpNo.{all_processors}
 use Rattle.pp_machine.specs.declared.pp_state.PpState.{PpState}
@@ -132,16 +133,11 @@ central_word_some central a w is ne =
     ∙ sym (append-nil (text_line (bare (central_words a (get_or central a 0 ∷ [])))))
     ∙ sym (ap (λ (b : Bool). flat_map text_line (cond b [] (bare (central_words a (get_or central a 0 ∷ [])) ∷ []))) not)
 
-get_some : (xs : List ℕ) (i w : ℕ) → Some w ≡ slice_get xs i → get_or xs i 0 ≡ w
-get_some [] i w e = absurd (cc)
-get_some (x ∷ xs) zero w e = cc
-get_some (x ∷ xs) (suc i) w e = get_some xs i w e
-
 address_is : (a t : ℕ) → a < 2 ^ 18 → t ≡ a % 2 ^ 18 → t ≡ a
 address_is a t lt e = omega (arith, lt, e)
 
 pub central_read : (central : List ℕ) (a t w : ℕ) → a < 2 ^ 18 → t ≡ a % 2 ^ 18 → Some w ≡ slice_get central t → get_or central a 0 ≡ w
-central_read central a t w lt is e = ap (λ (i : ℕ). get_or central i 0) (sym (address_is a t lt is)) ∙ get_some central t w e
+central_read central a t w lt is e = ap (λ (i : ℕ). get_or central i 0) (sym (address_is a t lt is)) ∙ get_or_from_slice_get central t w 0 (sym e)
 
 pub central_past : (central : List ℕ) (a t : ℕ) → a < 2 ^ 18 → t ≡ a % 2 ^ 18 → None ≡ slice_get central t → get_or central a 0 ≡ 0
 central_past central a t lt is e = ap (λ (i : ℕ). get_or central i 0) (sym (address_is a t lt is)) ∙ no_central_word central t e

@@ -1,4 +1,5 @@
 -- A report of threads is what one list of steps leaves.
+use mathlib.Core.List.{append-eq-nil_iff}
 use Rattle.std.proofs.Common.{◌≡◌, ℕ, zero, suc, ◌+◌, ◌<◌, ◌≤◌, Bool, true, cond, ◌&&◌, List, [], ◌∷◌, ◌++◌, length, take, drop, get_or, map, Option, refl, sym, ap, ◌∙◌, subst, inl, inr, ⊎_elim, arith}
 use Rattle.std.specs.Prelude.{◌==◌, slice_get, Some, IsTrue, All}
 use Rattle.std.specs.List.{cons_option, flat_map, range_with_len, sum_by}
@@ -201,17 +202,13 @@ workings {A} p others size steps order (load ∷ loads) (end ∷ ends) (made ∷
     }
 
 -- where a machine starts
-no_front : {X : Type 0} (xs ys : List X) → xs ++ ys ≡ [] → xs ≡ []
-no_front [] ys is = refl
-no_front (x ∷ xs) ys is = absurd cc
-
 started : (c : ℕ) (m : MachineState) (channels : List (List Event)) → HasNotRun m → length channels ≡ channel_count → IsPrefix (opening_history c m) (history_on c channels) → history_of c m ≡ opening_history c m
 started c m channels new each begins =
     ⊎_elim
     (λ (below : channel_index c < channel_count). new.histories c (channel_places.named_below c below))
     (λ (past : channel_count ≤ channel_index c).
     let none = get_or_past channels (channel_index c) [] (omega (arith, past, each)) in
-    get_or_past m.histories (channel_index c) [] (omega (arith, past, new.channels)) ∙ sym (no_front (opening_history c m) begins.0 (begins.1 ∙ none)))
+    get_or_past m.histories (channel_index c) [] (omega (arith, past, new.channels)) ∙ sym (append-eq-nil_iff.0 (begins.1 ∙ none)).0)
     (cases_lt (channel_index c) channel_count)
 
 -- each step of a list moves its processor, by place

@@ -4,7 +4,7 @@ use Rattle.std.specs.Prelude.{◌⊎◌, IsTrue, slice_get}
 use Rattle.std.specs.List.{cons_option, last_or, filter_map}
 use Rattle.std.specs.Option.{option_map, option_or, option_to_list}
 use Rattle.std.proofs.lemmas.Bool.{both_ways, eq-eqb}
-use Rattle.std.proofs.lemmas.List.{append-nil, length-append}
+use Rattle.std.proofs.lemmas.List.{append-nil, length-append, same_from_push}
 use Rattle.pp_channel.specs.AnswerLaws.{shown_makes_none}
 use Rattle.pp_word.specs.LastElements.{last_or-push}
 use Rattle.pp_line.specs.LineLog.{LogState, empty_log, appended, looked, with_seen, is_look_at, IsMonotone}
@@ -127,9 +127,6 @@ logged_as : (c number : ℕ) (what : Seen) (done : List Entry) (look : Option En
 logged_as c number (Did e) done look before after room b s held is = logged_did c number (Did e) done before after room s is
 logged_as c number (Saw f) done look before after room b s held is = logged_saw c number (Saw f) done look before after room b s held is
 
-heads : {X : Type 0} (x y : X) → (x ∷ []) ≡ (y ∷ []) → x ≡ y
-heads x y e = cc
-
 none_held : (log : LogState) → IsHeldAt [] log → ⊥
 none_held log h = let only = h.only in absurd cc
 
@@ -149,7 +146,7 @@ logged_none number done (Some look) before after b held is = absurd (held b.kept
 -- a single sight is at the channel at which the log ends with a look
 held_at_channel : (c : ℕ) (what : Seen) (log : LogState) → IsHeldAt (record { channel = c; what = what } ∷ []) log → IsTrue (is_look_at c (last_or None log.entries))
 held_at_channel c what log h =
-    let same : record { channel = c; what = what } ≡ record { channel = h.channel; what = h.what } = heads _ _ h.only in
+    let same : record { channel = c; what = what } ≡ record { channel = h.channel; what = h.what } = (same_from_push [] [] _ _ h.only).1 in
     subst (λ (k : ℕ). IsTrue (is_look_at k (last_or None log.entries))) (sym (ap (λ (s : OfChannel Seen). s.channel) same)) h.looked
 
 logged : (number : ℕ) (ss : List (OfChannel Seen)) (done : List Entry) (look : Option Entry) (before after : LogState) → 1 ≤ before.room → HasEntries done look before → (before.kept ≡ false → IsHeldAt ss before) → IsNoted number ss before after

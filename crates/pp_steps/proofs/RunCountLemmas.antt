@@ -3,6 +3,7 @@ use Rattle.std.proofs.Common.{◌≡◌, ℕ, zero, suc, ◌+◌, ◌≤◌, Boo
 use Rattle.std.specs.Prelude.{if◌then◌else◌}
 use Rattle.std.specs.List.{fold, prefix_len}
 use Rattle.std.proofs.lemmas.List.{drop-drop, get_or-drop}
+use Rattle.std.proofs.lemmas.Bool.{and_parts}
 use Rattle.pp_channel.specs.declared.flags.Flags.{Flags}
 use Rattle.pp_steps.specs.HeldRuns.{HeldSpells, current_spell, goes_on, is_held_with, last_of, no_spells, same_flag, with_step}
 use Rattle.pp_steps.specs.StepsText.{line_kind}
@@ -21,13 +22,8 @@ same_sym false false = refl
 
 same_is : (a b : Bool) → same_flag a b ≡ true → a ≡ b
 same_is true true e = refl
-same_is true false e = absurd (cc)
-same_is false true e = absurd (cc)
 same_is false false e = refl
-
-both : (a b : Bool) → (a && b) ≡ true → (a ≡ true) × (b ≡ true)
-both true b e = (refl, e)
-both false b e = absurd (cc)
+same_is a b e = absurd (cc)
 
 same_twice : (a b : Bool) → (same_flag a a && same_flag b b) ≡ true
 same_twice true true = refl
@@ -44,7 +40,7 @@ with_other f g = rw (same_sym f.active g.active, same_sym f.full g.full) refl
 
 pub with_same : (f g : Flags) → is_held_with g (Held f) ≡ true → g ≡ f
 with_same f g e =
-    let (active, full) = both (same_flag g.active f.active) (same_flag g.full f.full) e in
+    let (active, full) = and_parts (same_flag g.active f.active) (same_flag g.full f.full) e in
     let first : record { active = g.active; full = g.full } ≡ record { active = f.active; full = g.full } = ap (λ (a : Bool). record { active = a; full = g.full }) (same_is g.active f.active active) in
     first ∙ ap (λ (b : Bool). record { active = f.active; full = b }) (same_is g.full f.full full)
 
