@@ -2,7 +2,7 @@ use Rattle.std.proofs.Common.{◌≡◌, ℕ, ◌<◌, subst, sym, arith, below_
 use Rattle.std.proofs.lemmas.Bool.{and_parts}
 use Rattle.std.specs.Prelude.{IfSome, IsTrue, option_map, slice_get}
 use Rattle.pp_machine.specs.PpNo.{all_processors, is_named, names_processor, processor_count, processor_index, processor_number}
-use Rattle.pp_machine.specs.ProcessorPlaces.{number_of_place, place_below}
+use Rattle.pp_machine.specs.ProcessorPlaces.{processor_places}
 use Rattle.pp_report.specs.PrintedReport.{named_worker_line}
 use Rattle.pp_report.specs.ReportLaw.{FitsItsEnd, shown_end}
 use Rattle.pp_text.specs.PrintingLaws.{prints_nothing, prints_on, walk_zero, walk_more}
@@ -26,8 +26,8 @@ returns g c =
       text = rw all at c.loop-place.invariant.0;
       fits = λ n is.
           let names = (and_parts (names_processor n) _ is).0 in
-          let again = number_of_place n names in
-          let within : processor_index n < c.loop-place.place = omega (arith, place_below n names) in
+          let again = processor_places.number_of_place n names in
+          let within : processor_index n < c.loop-place.place = omega (arith, processor_places.place_below n names) in
           subst (λ (k : ℕ). IfSome (option_map shown_end (slice_get c.args.workers.now (processor_index k))) FitsItsEnd) again
           (c.loop-place.invariant.1 (processor_index n) within (subst (λ (k : ℕ). IsTrue (is_named c.args.named.now k)) (sym again) is));
     }
