@@ -7,9 +7,9 @@ Each function answers with the text that the command of its name prints, or rais
 ... 0100 1405 0300     * LDN 5, stop
 ... START 0100
 ... '''
->>> print(ppsim.state(deck, turns=20), end="")
-PP00 P=0101 A=000005 STOPPED UJN 0101
->>> ppsim.state("PP 12", turns=20)
+>>> print(ppsim.barrel(deck, turns=20), end="")
+PP00 P=0101 A=000005 STOPPED
+>>> ppsim.barrel("PP 12", turns=20)
 Traceback (most recent call last):
 ppsim.Fault: deck fault 5 at line 1
 """
