@@ -98,10 +98,5 @@ fn report<R: Print>(rt: &R, name: &str, case: &Case, difference: &str) -> anyhow
 
 /// Whether the page shows this command.
 fn is_shown(cases: &[Case], command: &str) -> bool {
-    for case in cases {
-        if case.command.as_str() == command {
-            return true;
-        }
-    }
-    false
+    cases.iter().any(|case| case.command.as_str() == command)
 }
