@@ -6,7 +6,7 @@ ghost use Rattle.pp_machine.specs.Profile.{processor_in_turn};
 
 use pp_machine::{PpNo, Profile};
 
-/// The processor whose turn it is in the barrel after so many turns (decimal).
+/// The processor whose turn it is in the barrel after `turn` turns (decimal).
 #[tactic(auto, using(pp_machine::specs::ProfilePlaces::rest_within, // each place has a processor
 pp_machine::specs::ProfilePlaces::most_processors))]
 pub fn in_turn(profile: Profile, turn: u64) -> PpNo

@@ -4,13 +4,13 @@ ghost use Rattle.std.specs.Prelude.{◌≡◌, map};
 ghost use Rattle.pp_runner.specs.Report.{ReportFitsInMemory};
 ghost use Rattle.pp_sim.specs.Program.{IsDone, IsDoneOnFile, IsPrinted, IsRun, IsReported, status_of};
 
-use crate::streams::write_whole;
-use crate::text_fault::TextFault;
+use crate::text_fault::{TextFault, answer_to};
 use crate::texts::check_text::check_text;
 use crate::texts::deck_text::deck_text;
 use crate::texts::threads_text::threads_text;
 use clap::Error;
 use pp_command::{LineFault, Work, read_words};
+use pp_text::write_whole;
 use std::alloc::{Allocator, Global};
 use std::fs::{self, Files};
 use std::io::{Read, Write};
@@ -147,7 +147,7 @@ fn show_refusal<O: Write, E: Write>(
 fn show_help<O: Write, E: Write>(help: &[u8], output: &mut O, error: &mut E) -> u8
     ensures { IsPrinted help.now result (O.contents output.old) (O.contents output.new) }
 {
-    tell_answer(write_whole(output, help), error)
+    tell_answer(answer_to(write_whole(output, help)), error)
 }
 
 /// The status of what was done, or failed, which is reported.

@@ -12,7 +12,7 @@ use pp_machine::{Cut, Machine, PROCESSORS};
 use pp_run::run_counting_steps;
 use std::alloc::Allocator;
 
-/// Runs so many turns of the barrel (decimal), as `Machine::run_barrel` does, and says of each
+/// Runs `turns` turns of the barrel (decimal), as `Machine::run_barrel` does, and says of each
 /// processor, in the order of the barrel, how many of its last steps in a row were held.
 pub fn run_counting_held<A: Allocator>(
     machine: &mut Machine<A>,

@@ -7,6 +7,6 @@ pub(crate) enum LineKind {
     NoLine,
     /// That of a step that moved the processor.
     OneStep,
-    /// That of so many held steps in a row, this one the first (decimal).
+    /// That of this number of held steps in a row, this one the first (decimal).
     HeldSteps(u32),
 }

@@ -60,7 +60,7 @@ pub(crate) fn print_step_line<A: Allocator, W: Write>(
     text.print(b"\n");
 }
 
-/// Prints the line of so many held steps in a row of a processor:
+/// Prints the line of held steps in a row of a processor, and their number:
 /// `000031 PP01 0201 7105 0300  IAM 0300,05   A=000004 HELD CH05 ACTIVE EMPTY x1` and a line feed.
 pub(crate) fn print_held_line<A: Allocator, W: Write>(
     text: &mut TextWriter<W>,
@@ -130,7 +130,7 @@ fn print_places<W: Write>(text: &mut TextWriter<W>, old: &Pp, new: &Pp, stores: 
     }
 }
 
-/// The same for so many places from a first on.
+/// The same for `count` places from `first` on.
 fn print_range<W: Write>(text: &mut TextWriter<W>, old: &Pp, new: &Pp, first: u32, count: u32)
     requires { first + count ≤ place_count }
     ensures { Prints W.contents text.old text.new

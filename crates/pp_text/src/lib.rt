@@ -35,4 +35,4 @@ pub use state_text::{
     processor_heading, processor_name,
 };
 pub use text_writer::TextWriter;
-pub use write_fault::{WriteFault, write_bytes};
+pub use write_fault::{WriteFault, write_whole};

@@ -11,7 +11,7 @@ pub struct WriteFault;
 
 /// Writes all of these bytes, in as many calls as it takes. An error ends it, and so does a call
 /// that takes nothing; no call is retried.
-pub fn write_bytes<W: Write>(writer: &mut W, bytes: &[u8]) -> Result<(), WriteFault>
+pub(crate) fn write_bytes<W: Write>(writer: &mut W, bytes: &[u8]) -> Result<(), WriteFault>
     ensures { IsWritten bytes.now result (W.contents writer.old) (W.contents writer.new) }
 {
     let mut done = 0;
@@ -23,4 +23,12 @@ pub fn write_bytes<W: Write>(writer: &mut W, bytes: &[u8]) -> Result<(), WriteFa
         }
     }
     Ok(())
+}
+
+/// Writes all of a text, and flushes the writer.
+pub fn write_whole<W: Write>(writer: &mut W, text: &[u8]) -> Result<(), WriteFault>
+    ensures { IsWritten text.now result (W.contents writer.old) (W.contents writer.new) }
+{
+    write_bytes(writer, text)?;
+    writer.flush().map_err(|_| WriteFault)
 }
