@@ -1,12 +1,16 @@
 //! What single instructions do.
 
-ghost use Rattle.std.specs.Prelude.{◌≡◌, None};
+ghost use Rattle.std.specs.Prelude.{◌≡◌, ◌==◌, None};
+ghost use Rattle.pp_word.specs.Bits.{logical_difference, logical_product, selective_clear, shift};
+ghost use Rattle.pp_word.specs.OnesComplement.{sum, difference};
 ghost use Rattle.pp_machine.specs.Processor.{IsFaultNumber};
 ghost use Rattle.pp_machine.specs.Effect.{goes_on, goes_to, faults, jumps_or_stops, jumps_where, branches_where, calls, is_negative, leads_to_itself, loads, loads_word, adds_word, subtracts_word, differs_from_word, stores_word, replaces, replaces_by_sum, replaces_by_one_more, replaces_by_one_less};
 
 use crate::pp::Pp;
 use crate::pp_state::PpState;
-use pp_word::{Word6, Word12, Word18, add18, next, relative, sub18, xor18};
+use pp_word::{
+    Word6, Word12, Word18, add18, and18, clear18, next, relative, shift18, sub18, xor18,
+};
 
 /// The uppermost bit of A: 1 in a negative number.
 const SIGN: u32 = 0o400_000;
@@ -85,6 +89,13 @@ impl Pp {
         self.p = next(target);
     }
 
+    /// A is zero; negative zero is not.
+    pub(super) fn is_zero(&self) -> bool
+        ensures { result ≡ (self.now.a == 0) }
+    {
+        self.a.get() == 0
+    }
+
     #[tactic(auto, using(crate::proofs::SignLemmas::uppermost_place))]
     pub(super) fn is_negative(&self) -> bool
         ensures { result ≡ is_negative self.now }
@@ -100,6 +111,48 @@ impl Pp {
         self.go_on(words);
     }
 
+    /// A value is added to A.
+    pub(super) fn add(&mut self, value: Word18, words: u8)
+        ensures { self.new ≡ loads self.old (sum self.old.a value) words }
+    {
+        self.load(add18(self.a, value), words);
+    }
+
+    /// A value is subtracted from A.
+    pub(super) fn subtract(&mut self, value: Word18, words: u8)
+        ensures { self.new ≡ loads self.old (difference self.old.a value) words }
+    {
+        self.load(sub18(self.a, value), words);
+    }
+
+    /// A becomes its logical difference from a value.
+    pub(super) fn differ(&mut self, value: Word18, words: u8)
+        ensures { self.new ≡ loads self.old (logical_difference self.old.a value) words }
+    {
+        self.load(xor18(self.a, value), words);
+    }
+
+    /// A becomes its logical product with a value.
+    pub(super) fn mask(&mut self, value: Word18, words: u8)
+        ensures { self.new ≡ loads self.old (logical_product self.old.a value) words }
+    {
+        self.load(and18(self.a, value), words);
+    }
+
+    /// SCN.
+    pub(super) fn clear(&mut self, d: Word6)
+        ensures { self.new ≡ loads self.old (selective_clear self.old.a d) 1 }
+    {
+        self.load(clear18(self.a, Word18::from(d)), 1);
+    }
+
+    /// SHN.
+    pub(super) fn shift(&mut self, d: Word6)
+        ensures { self.new ≡ loads self.old (shift self.old.a d) 1 }
+    {
+        self.load(shift18(self.a, d), 1);
+    }
+
     /// A becomes the word at a place.
     pub(super) fn load_word(&mut self, place: Word12, words: u8)
         ensures { self.new ≡ loads_word self.old place words }
@@ -111,21 +164,21 @@ impl Pp {
     pub(super) fn add_word(&mut self, place: Word12, words: u8)
         ensures { self.new ≡ adds_word self.old place words }
     {
-        self.load(add18(self.a, Word18::from(self.get(place))), words);
+        self.add(Word18::from(self.get(place)), words);
     }
 
     /// The word at a place is subtracted from A.
     pub(super) fn subtract_word(&mut self, place: Word12, words: u8)
         ensures { self.new ≡ subtracts_word self.old place words }
     {
-        self.load(sub18(self.a, Word18::from(self.get(place))), words);
+        self.subtract(Word18::from(self.get(place)), words);
     }
 
     /// A becomes its logical difference from the word at a place.
     pub(super) fn differ_from_word(&mut self, place: Word12, words: u8)
         ensures { self.new ≡ differs_from_word self.old place words }
     {
-        self.load(xor18(self.a, Word18::from(self.get(place))), words);
+        self.differ(Word18::from(self.get(place)), words);
     }
 
     /// The word at a place becomes the low twelve bits of A.

@@ -1,7 +1,7 @@
 //! Instructions that need nothing from outside.
 
 ghost use Rattle.std.specs.Prelude.{◌≡◌, IsTrue, None, false, true};
-ghost use Rattle.pp_machine.specs.NextStep.{ends, is_internal};
+ghost use Rattle.pp_machine.specs.NextStep.{is_internal};
 ghost use Rattle.pp_machine.specs.InstructionTable.{instruction};
 ghost use Rattle.pp_machine.specs.NeedAndEffect.{answered};
 ghost use Rattle.pp_machine.specs.Replay.{fits};
@@ -11,9 +11,7 @@ use crate::answer::Answer;
 use crate::block::BlockKind;
 use crate::pp::Pp;
 use crate::pp_state::{EXCHANGE_JUMP, NO_CENTRAL_PROCESSOR, NO_SUCH_CHANNEL, PpState};
-use pp_word::{
-    Opcode, Word6, Word12, Word18, add18, and18, clear18, complement18, shift18, sub18, xor18,
-};
+use pp_word::{Opcode, Word6, Word12, Word18, complement18};
 
 impl Pp {
     /// IAM: the start of a block that comes in from channel d.
@@ -38,38 +36,63 @@ impl Pp {
         }
     }
 
-    /// An instruction that needs nothing from outside, in the order of the octal codes.
-    #[inline(always)]
+    /// An instruction that needs nothing from outside, whatever its kind. It is compiled once, and
+    /// what the barrel knows of a step need not be in memory for it.
+    #[inline(never)]
     pub(super) fn run_local(&mut self, op: Opcode, d: Word6)
         requires running { self.old.state ≡ PpState.Running }
         requires free { self.old.block ≡ None }
         requires fits { fits (need_of (instruction op self.old d)) Answer.Local ≡ true }
-        ensures answered { self.new ≡ answered (instruction op self.old d) self.old Answer.Local }
-        ensures running { IsTrue (is_internal op) → ends op d ≡ false
-            → self.new.state ≡ PpState.Running }
-        ensures free { IsTrue (is_internal op) → self.new.block ≡ None }
+        ensures { self.new ≡ answered (instruction op self.old d) self.old Answer.Local }
+    {
+        match op {
+            Opcode::CRD | Opcode::CWD => unreachable!(),
+            Opcode::CRM => self.start_central_in(self.indirect(d)),
+            Opcode::CWM => self.start_central_out(self.indirect(d)),
+            Opcode::IAM => self.start_input(d),
+            Opcode::OAM => self.start_output(d),
+            Opcode::AJM
+            | Opcode::IJM
+            | Opcode::FJM
+            | Opcode::EJM
+            | Opcode::IAN
+            | Opcode::OAN
+            | Opcode::ACN
+            | Opcode::DCN
+            | Opcode::FAN
+            | Opcode::FNC => self.fault(NO_SUCH_CHANNEL),
+            _ => self.run_internal(op, d),
+        }
+    }
+
+    /// An instruction of the codes 00 to 57 (octal), in their order.
+    #[inline(always)]
+    pub(super) fn run_internal(&mut self, op: Opcode, d: Word6)
+        requires internal { IsTrue (is_internal op) }
+        requires free { self.old.block ≡ None }
+        ensures { self.new ≡ answered (instruction op self.old d) self.old Answer.Local }
     {
         match op {
             Opcode::PSN => self.go_on(1),
             Opcode::LJM => self.go_to(self.index(d)),
             Opcode::RJM => self.call(self.index(d)),
             Opcode::UJN => self.jump_or_stop(d),
-            Opcode::ZJN => self.jump_where(self.a.get() == 0, d),
-            Opcode::NJN => self.jump_where(self.a.get() != 0, d),
+            Opcode::ZJN => self.jump_where(self.is_zero(), d),
+            Opcode::NJN => self.jump_where(!self.is_zero(), d),
             Opcode::PJN => self.jump_where(!self.is_negative(), d),
             Opcode::MJN => self.jump_where(self.is_negative(), d),
-            Opcode::SHN => self.load(shift18(self.a, d), 1),
-            Opcode::LMN => self.load(xor18(self.a, Word18::from(d)), 1),
-            Opcode::LPN => self.load(and18(self.a, Word18::from(d)), 1),
-            Opcode::SCN => self.load(clear18(self.a, Word18::from(d)), 1),
+            Opcode::SHN => self.shift(d),
+            Opcode::LMN => self.differ(Word18::from(d), 1),
+            Opcode::LPN => self.mask(Word18::from(d), 1),
+            Opcode::SCN => self.clear(d),
             Opcode::LDN => self.load(Word18::from(d), 1),
             Opcode::LCN => self.load(complement18(Word18::from(d)), 1),
-            Opcode::ADN => self.load(add18(self.a, Word18::from(d)), 1),
-            Opcode::SBN => self.load(sub18(self.a, Word18::from(d)), 1),
+            Opcode::ADN => self.add(Word18::from(d), 1),
+            Opcode::SBN => self.subtract(Word18::from(d), 1),
             Opcode::LDC => self.load(self.constant(d), 2),
-            Opcode::ADC => self.load(add18(self.a, self.constant(d)), 2),
-            Opcode::LPC => self.load(and18(self.a, self.constant(d)), 2),
-            Opcode::LMC => self.load(xor18(self.a, self.constant(d)), 2),
+            Opcode::ADC => self.add(self.constant(d), 2),
+            Opcode::LPC => self.mask(self.constant(d), 2),
+            Opcode::LMC => self.differ(self.constant(d), 2),
             Opcode::PSN24 => self.go_on(1),
             Opcode::PSN25 => self.go_on(1),
             Opcode::EXN => self.fault(EXCHANGE_JUMP),
@@ -98,34 +121,7 @@ impl Pp {
             Opcode::RAM => self.replace_by_sum(self.index(d), 2),
             Opcode::AOM => self.replace_by_one_more(self.index(d), 2),
             Opcode::SOM => self.replace_by_one_less(self.index(d), 2),
-            Opcode::CRD => unreachable!(),
-            Opcode::CRM => self.start_central_in(self.indirect(d)),
-            Opcode::CWD => unreachable!(),
-            Opcode::CWM => self.start_central_out(self.indirect(d)),
-            Opcode::AJM => self.fault(NO_SUCH_CHANNEL),
-            Opcode::IJM => self.fault(NO_SUCH_CHANNEL),
-            Opcode::FJM => self.fault(NO_SUCH_CHANNEL),
-            Opcode::EJM => self.fault(NO_SUCH_CHANNEL),
-            Opcode::IAN => self.fault(NO_SUCH_CHANNEL),
-            Opcode::IAM => self.start_input(d),
-            Opcode::OAN => self.fault(NO_SUCH_CHANNEL),
-            Opcode::OAM => self.start_output(d),
-            Opcode::ACN => self.fault(NO_SUCH_CHANNEL),
-            Opcode::DCN => self.fault(NO_SUCH_CHANNEL),
-            Opcode::FAN => self.fault(NO_SUCH_CHANNEL),
-            Opcode::FNC => self.fault(NO_SUCH_CHANNEL),
+            _ => unreachable!(),
         }
-    }
-
-    /// The same, as a call of its own: so the instructions of this kind are compiled once, and what
-    /// the barrel knows of a step need not be in memory for it.
-    #[inline(never)]
-    pub(super) fn run_local_apart(&mut self, op: Opcode, d: Word6)
-        requires running { self.old.state ≡ PpState.Running }
-        requires free { self.old.block ≡ None }
-        requires fits { fits (need_of (instruction op self.old d)) Answer.Local ≡ true }
-        ensures { self.new ≡ answered (instruction op self.old d) self.old Answer.Local }
-    {
-        self.run_local(op, d);
     }
 }

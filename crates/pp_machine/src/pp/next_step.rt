@@ -100,7 +100,7 @@ impl Pp {
         if !is_internal(op) {
             return false;
         }
-        self.run_local(op, d);
+        self.run_internal(op, d);
         true
     }
 
@@ -165,7 +165,7 @@ impl Pp {
         ensures outcome { result ≡ outcome self.old Answer.Local }
     {
         match next {
-            Some(op) => self.run_local_apart(*op, d),
+            Some(op) => self.run_local(*op, d),
             // Each word of a block needs a channel or central memory.
             None => match self.block {
                 None => {}
