@@ -205,8 +205,7 @@ pub fn decode(word: Word12) -> (Opcode, Word6)
 /// The operation of a code.
 fn opcode_at(code: u8) -> Opcode
     requires { code < 2 ^ 6 }
-    ensures operation { result ≡ opcode_at code }
-    ensures code { code_of result ≡ code }
+    ensures { result ≡ opcode_at code }
 {
     match code {
         0o00 => Opcode::PSN,
