@@ -1,5 +1,5 @@
 -- From what clap ensures of a parse to what the words ask for.
-use Rattle.std.proofs.Common.{◌≡◌, ◌∙◌, ℕ, ◌-◌, ◌<◌, ◌≤◌, ap₂, arith, Bool, true, false, not, IsTrue, List, [], Option, Some, None, option_map, sym, subst, refl, inl, inr, codes}
+use Rattle.std.proofs.Common.{◌≡◌, ◌∙◌, ℕ, ◌+◌, ◌-◌, ◌<◌, ◌≤◌, add-one, ap₂, arith, drop, drop-cons, fold, get_or, length, map, Bool, true, false, not, IsTrue, List, [], Option, Some, None, option_map, sym, subst, refl, inl, inr, codes}
 use Rattle.std.specs.Prelude.{Box, ◌≢◌, is_some}
 use Rattle.std.specs.Box.{box_value}
 use Rattle.clap.specs.Words.{App, HasKind, IsAmong, Kinds, Text, Row, HasMatchesOf, fault_of, is_simple, is_simple_and_free, found_of, kind_of, rows_of, subcommand_of, subcommand_rows, subcommand_rows_of, subcommand_name_of}
@@ -70,6 +70,12 @@ pub met_none : (words : List Text) (app : App) (m : ArgMatches) → app ≡ ppsi
 met_none words app m is h e =
     let met = subst (λ a. HasMatchesOf a words m) is h in
     sym (met simple).1 ∙ none_of (out-ArgMatches m).subcommand e
+
+-- ---- options and commands, one by one
+
+pub add_next : {X E Y : Type 0} (add : X → Y → X) (of : E → Y) (x next : X) (forms : List E) (i : ℕ) (d : E) → i < length forms → next ≡ add x (of (get_or forms i d))
+    → fold add x (map of (drop i forms)) ≡ fold add next (map of (drop (i + 1) forms))
+add_next add of x next forms i d lt e = rw (e, drop-cons forms i d lt, add-one i) refl
 
 -- ---- options that say one window alone
 

@@ -98,7 +98,7 @@ fn file_argument<'a>(alloc: Global) -> Arg<'a>
 /// A command with these options as well.
 fn with_options<'a>(
     alloc: Global,
-    command: Command<'a>,
+    mut command: Command<'a>,
     options: &[OptionForm],
 ) -> Result<Command<'a>, AllocError>
     requires { (fields_of command).has_globals ≡ false }
@@ -106,11 +106,10 @@ fn with_options<'a>(
         ≡ fold with_rule (app_of command.entry) (map rule_of_form options.now)) }
     ensures local { IfOk result (λ c. (fields_of c).has_globals ≡ false) }
 {
-    let Some((first, rest)) = options.split_first() else {
-        return Ok(command);
-    };
-    let command = command.arg(option_of(alloc, first))?;
-    with_options(alloc, command, rest)
+    for form in options {
+        command = command.arg(option_of(alloc, form))?;
+    }
+    Ok(command)
 }
 
 /// A command of this form.
@@ -129,18 +128,16 @@ fn command_of<'a>(alloc: Global, form: &CommandForm) -> Result<Command<'a>, Allo
 /// An app with these commands as well.
 fn with_commands<'a>(
     alloc: Global,
-    app: Command<'a>,
+    mut app: Command<'a>,
     forms: &[CommandForm],
 ) -> Result<Command<'a>, AllocError>
     ensures { IfOk result (λ c. app_of c
         ≡ with_commands (app_of app.entry) (map app_of_form forms.now)) }
 {
-    let Some((first, rest)) = forms.split_first() else {
-        return Ok(app);
-    };
-    let command = command_of(alloc, first)?;
-    let app = app.subcommand(command)?;
-    with_commands(alloc, app, rest)
+    for form in forms {
+        app = app.subcommand(command_of(alloc, form)?)?;
+    }
+    Ok(app)
 }
 
 /// The program's name, its version and its help, without a command.

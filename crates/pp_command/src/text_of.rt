@@ -1,6 +1,6 @@
 //! Which text of a deck is asked for, and how a command line asks for it.
 
-ghost use Rattle.std.specs.Prelude.{codes};
+ghost use Rattle.std.specs.Prelude.{◌≢◌, codes};
 ghost use Rattle.pp_command.specs.CommandLine.{AsksForText, Finds, ReadsTurns, value_in};
 
 use crate::option_values::{
@@ -85,39 +85,62 @@ const PLACES: u32 = 0o10000;
 /// How many words central memory has at most.
 const MOST_CENTRAL_WORDS: u32 = 0o400000;
 
-/// The text of a deck that a command asks for, if its numbers are in range. All but `list` make a
-/// run of some turns.
-#[tactic(auto, using(crate::proofs::CommandLemmas::no_turns))]
+/// The text of a deck that a command asks for, if its numbers are in range.
 pub(crate) fn text_of(name: &str, matches: &ArgMatches<'_>, profile: Profile) -> Option<TextOf>
     ensures { Finds (AsksForText name.now (value_in matches.now) profile) result }
 {
-    if name == "list" {
-        return Some(TextOf::List);
+    match name {
+        "list" => Some(TextOf::List),
+        "draw" => drawn_text_of(matches, profile),
+        _ => run_text_of(name, matches, profile),
     }
+}
+
+/// The text of a deck that a command asks for which makes a run, and draws none.
+fn run_text_of(name: &str, matches: &ArgMatches<'_>, profile: Profile) -> Option<TextOf>
+    requires list { name.now ≢ codes "list" }
+    requires draw { name.now ≢ codes "draw" }
+    ensures { Finds (AsksForText name.now (value_in matches.now) profile) result }
+{
     let turns = turns_of(matches)?;
     match name {
         "barrel" => Some(TextOf::Barrel(turns)),
         "dump" => Some(TextOf::Dump(turns)),
         "state" => Some(TextOf::State(turns)),
+        "races" => Some(TextOf::Races(turns)),
+        "ends" => Some(TextOf::Ends(turns)),
         "sessions" => Some(TextOf::Sessions {
             turns,
             words: is_flagged(matches, "words"),
         }),
-        "races" => Some(TextOf::Races(turns)),
-        "ends" => Some(TextOf::Ends(turns)),
-        "memory" => Some(TextOf::Memory {
-            turns,
-            processor: processor_of(matches, profile)?,
-            bounds: bounds_of(matches, PLACES)?,
-        }),
-        "central" => Some(TextOf::Central {
-            turns,
-            bounds: bounds_of(matches, MOST_CENTRAL_WORDS)?,
-        }),
+        "memory" => memory_text_of(matches, profile, turns),
+        "central" => central_text_of(matches, profile, turns),
         "steps" => steps_text_of(matches, profile, turns),
-        "draw" => drawn_text_of(matches, profile),
         _ => None,
     }
+}
+
+/// The text of a deck that `memory` asks for, of a run of this many turns.
+fn memory_text_of(matches: &ArgMatches<'_>, profile: Profile, turns: u32) -> Option<TextOf>
+    requires { ReadsTurns (value_in matches.now) turns }
+    ensures { Finds (AsksForText (codes "memory") (value_in matches.now) profile) result }
+{
+    let processor = processor_of(matches, profile)?;
+    let bounds = bounds_of(matches, PLACES)?;
+    Some(TextOf::Memory {
+        turns,
+        processor,
+        bounds,
+    })
+}
+
+/// The text of a deck that `central` asks for, of a run of this many turns.
+fn central_text_of(matches: &ArgMatches<'_>, profile: Profile, turns: u32) -> Option<TextOf>
+    requires { ReadsTurns (value_in matches.now) turns }
+    ensures { Finds (AsksForText (codes "central") (value_in matches.now) profile) result }
+{
+    let bounds = bounds_of(matches, MOST_CENTRAL_WORDS)?;
+    Some(TextOf::Central { turns, bounds })
 }
 
 /// The text of a deck that `steps` asks for, of a run of this many turns.
