@@ -139,9 +139,9 @@ fn unrecorded_histories<A: Allocator + Copy>(
 }
 
 /// Puts the event of an entry at its number, in the history of its channel.
-fn put_entry<A: Allocator>(histories: &mut [EventsByNumber<A>], entry: &Entry)
-    requires { length histories.old ≡ channel_count }
-    ensures { histories.new ≡ with_entry histories.old entry.now }
+fn put_entry<A: Allocator>(histories: &mut Vec<EventsByNumber<A>, A>, entry: &Entry)
+    requires { length histories.old.items ≡ channel_count }
+    ensures { histories.new.items ≡ with_entry histories.old.items entry.now }
 {
     match entry.what {
         Seen::Did(event) => histories[entry.channel.index()].put(entry.number, event),
