@@ -9,7 +9,7 @@ use Rattle.pp_machine.specs.Processor.{Processor, no_processor, IsAtRest}
 use Rattle.pp_machine.specs.PpNo.{processor_count, processor_index}
 use Rattle.pp_machine.specs.Profile.{processors_in, processor_in_turn}
 use Rattle.pp_machine.specs.declared.profile.Profile.{Profile}
-use Rattle.pp_machine.specs.Rounds.{RestBetween, PassesOverRest, whole_rounds}
+use Rattle.pp_machine.specs.Rounds.{RestBetween, PassesOverRest, IsCut, whole_rounds}
 use Rattle.pp_machine.specs.Run.{run, barrel}
 use Rattle.pp_machine.proofs.MachineStepLemmas.{stepped_at_rest}
 use Rattle.pp_machine.proofs.ProfileLemmas.{index_in_turn, in_round, more_rounds, fewer_rounds}
@@ -183,7 +183,7 @@ whole_so_far p zero rounds turns within whole = omega arith
 whole_so_far p (suc done) rounds turns within whole = ap (λ k. suc done * k) (whole (omega (arith, within)))
 
 -- fewer turns than are asked for
-pub within_after : (rounds more all turns done : ℕ) (m n : MachineState) → n ≡ run (whole_rounds m.profile rounds) m → done ≡ rounds * processors_in m.profile
+within_after : (rounds more all turns done : ℕ) (m n : MachineState) → n ≡ run (whole_rounds m.profile rounds) m → done ≡ rounds * processors_in m.profile
     → turns < more * processors_in n.profile → rounds + more ≤ all → done + turns < all * processors_in m.profile
 within_after rounds more all turns done m n before counted less within =
     let p = m.profile in
@@ -199,5 +199,14 @@ event_after rounds turn done m n o before counted made =
     let here : processor_in_turn n.profile turn ≡ processor_in_turn p (done + turn) =
     ap (λ q. processor_in_turn q turn) (profile_after (whole_rounds p rounds) m n before) ∙ sym (in_round p rounds turn) ∙ ap (λ k. processor_in_turn p (k + turn)) (sym counted) in
     subst (λ k. IsSome (step_event k o)) here made
+
+-- a cut run behind whole rounds
+pub cut_after : (rounds more all turns done : ℕ) (m n o : MachineState) → n ≡ run (whole_rounds m.profile rounds) m → done ≡ rounds * processors_in m.profile
+    → IsCut (more * processors_in n.profile) turns n o → rounds + more ≤ all → IsCut (all * processors_in m.profile) (done + turns) m o
+cut_after rounds more all turns done m n o before counted cut within = record {
+  ran = turns_after rounds turns done m n o before counted cut.ran;
+  within = within_after rounds more all turns done m n before counted cut.within within;
+  at_event = event_after rounds turns done m n o before counted cut.at_event;
+}
 
 pub ruleset passes = (passes_from_end, passes_from_running, passes_from_rest, passes_from_start)

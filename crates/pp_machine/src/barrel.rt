@@ -37,7 +37,7 @@ impl<A: Allocator> Machine<A> {
     ghost use Rattle.pp_machine.specs.Headline.{HoldsOnEachChannel};
     ghost use Rattle.pp_machine.specs.MachineStep.{step_event};
     ghost use Rattle.pp_machine.specs.Profile.{processors_in, processor_in_turn};
-    ghost use Rattle.pp_machine.specs.Rounds.{whole_rounds};
+    ghost use Rattle.pp_machine.specs.Rounds.{whole_rounds, IsCut};
     ghost use Rattle.pp_machine.specs.declared.profile.Profile.{Profile};
     ghost use Rattle.pp_machine.specs.MachineState.{MachineState};
     ghost use Rattle.pp_machine.specs.Run.{run, barrel};
@@ -81,11 +81,8 @@ impl<A: Allocator> Machine<A> {
     fn run_rounds(&mut self, rounds: u32) -> Result<(), u64>
         requires { HoldsOnEachChannel self.old }
         ensures ok { OnOk result (self.new ≡ run (whole_rounds self.old.profile rounds) self.old) }
-        ensures cut { IfErr result (λ done. self.new
-            ≡ run (barrel self.old.profile done) self.old) }
-        ensures within { IfErr result (λ done. done < rounds * processors_in self.old.profile) }
-        ensures cut_at_event { IfErr result (λ done.
-            IsSome (step_event (processor_in_turn self.old.profile done) self.new)) }
+        ensures cut { IfErr result (λ done.
+            IsCut (rounds * processors_in self.old.profile) done self.old self.new) }
         ensures headline { HoldsOnEachChannel self.new }
     {
         let round = self.round();
@@ -139,11 +136,8 @@ impl<A: Allocator> Machine<A> {
     fn run_by_turns(&mut self, rounds: u32) -> Result<(), u64>
         requires { HoldsOnEachChannel self.old }
         ensures ok { OnOk result (self.new ≡ run (whole_rounds self.old.profile rounds) self.old) }
-        ensures cut { IfErr result (λ done. self.new
-            ≡ run (barrel self.old.profile done) self.old) }
-        ensures within { IfErr result (λ done. done < rounds * processors_in self.old.profile) }
-        ensures cut_at_event { IfErr result (λ done.
-            IsSome (step_event (processor_in_turn self.old.profile done) self.new)) }
+        ensures cut { IfErr result (λ done.
+            IsCut (rounds * processors_in self.old.profile) done self.old self.new) }
         ensures headline { HoldsOnEachChannel self.new }
     {
         let round = self.round();
@@ -175,11 +169,7 @@ impl<A: Allocator> Machine<A> {
         requires sound { HoldsOnEachChannel self.old }
         ensures ok { OnOk result (self.new ≡ run
             (barrel self.old.profile (rounds * turns)) self.old) }
-        ensures cut { IfErr result (λ done. self.new
-            ≡ run (barrel self.old.profile done) self.old) }
-        ensures within { IfErr result (λ done. done < rounds * turns) }
-        ensures cut_at_event { IfErr result (λ done.
-            IsSome (step_event (processor_in_turn self.old.profile done) self.new)) }
+        ensures cut { IfErr result (λ done. IsCut (rounds * turns) done self.old self.new) }
         ensures headline { HoldsOnEachChannel self.new }
     {
         let mut left = rounds;
@@ -194,20 +184,13 @@ impl<A: Allocator> Machine<A> {
 
     /// Makes the first `turns` turns of a round of the barrel, and passes over the processors at
     /// rest that `next` gives. If memory is refused, returns how many steps were done.
-    #[tactic(auto, using(crate::specs::RunLaws::barrel_more, // one turn more
-    crate::proofs::RunLemmas::some_event, // a turn with an event
-    crate::proofs::RoundLemmas::rest_to, // processors at rest
-    crate::proofs::RoundLemmas::passes_over_stepped))]
+    #[tactic(auto, using(crate::proofs::RoundLemmas::rest_to))]
     fn run_round(&mut self, turns: usize, next: &[usize; PROCESSORS + 1]) -> Result<(), usize>
         requires round { turns ≤ processors_in self.old.profile }
         requires passes { PassesOverRest next.now self.old.processors }
         requires sound { HoldsOnEachChannel self.old }
         ensures ok { OnOk result (self.new ≡ run (barrel self.old.profile turns) self.old) }
-        ensures cut { IfErr result (λ done. self.new
-            ≡ run (barrel self.old.profile done) self.old) }
-        ensures within { IfErr result (λ done. done < turns) }
-        ensures cut_at_event { IfErr result (λ done.
-            IsSome (step_event (processor_in_turn self.old.profile done) self.new)) }
+        ensures cut { IfErr result (λ done. IsCut turns done self.old self.new) }
         ensures passes { PassesOverRest next.now self.new.processors }
         ensures headline { HoldsOnEachChannel self.new }
     {

@@ -1,25 +1,16 @@
-use Rattle.std.proofs.Common.{◌*◌, ◌<◌, ap, subst, ◌∙◌, arith}
+use Rattle.std.proofs.Common.{◌*◌, ap, subst, ◌∙◌, arith}
 use Rattle.pp_machine.specs.Profile.{processors_in}
+use Rattle.pp_machine.specs.Rounds.{IsCut}
 use Rattle.pp_machine.specs.Run.{run, barrel}
-use Rattle.pp_machine.proofs.RoundLemmas.{counted_rounds, round_later, rounds_after, turns_after, within_after, event_after}
+use Rattle.pp_machine.proofs.RoundLemmas.{counted_rounds, round_later, rounds_after, cut_after}
 use Rattle.pp_machine.proofs.machine.Machine.run_by_turns.Goals as goal
 
 pub returns-in-Err-clause-cut : goal.returns-in-Err-clause-cut
 returns-in-Err-clause-cut g c =
     let counted = counted_rounds c.args.self.now.profile c.from.result c.from-in-Err.result c.loop-done.done c.round-round.result c.from.ensures c.from-in-Err.ensures c.round-round.ensures in
-    turns_after c.loop-done.done c.in-Err.before (c.from.result * c.from-in-Err.result) c.args.self.now c.loop-done.self c.run_passing.new.self c.loop-done.invariant.ran counted c.in-Err.ensures.cut
-
-pub returns-in-Err-clause-within : goal.returns-in-Err-clause-within
-returns-in-Err-clause-within g c =
-    let counted = counted_rounds c.args.self.now.profile c.from.result c.from-in-Err.result c.loop-done.done c.round-round.result c.from.ensures c.from-in-Err.ensures c.round-round.ensures in
     let round = round_later c.loop-done.done c.round-round.result c.args.self.now c.loop-done.self c.loop-done.invariant.ran c.round-round.ensures in
-    let within : c.in-Err.before < c.min-further.result * processors_in c.loop-done.self.profile = subst (λ k. c.in-Err.before < c.min-further.result * k) round c.in-Err.ensures.within in
-    within_after c.loop-done.done c.min-further.result c.args.rounds c.in-Err.before (c.from.result * c.from-in-Err.result) c.args.self.now c.loop-done.self c.loop-done.invariant.ran counted within (omega arith)
-
-pub returns-in-Err-clause-cut_at_event : goal.returns-in-Err-clause-cut_at_event
-returns-in-Err-clause-cut_at_event g c =
-    let counted = counted_rounds c.args.self.now.profile c.from.result c.from-in-Err.result c.loop-done.done c.round-round.result c.from.ensures c.from-in-Err.ensures c.round-round.ensures in
-    event_after c.loop-done.done c.in-Err.before (c.from.result * c.from-in-Err.result) c.args.self.now c.loop-done.self c.run_passing.new.self c.loop-done.invariant.ran counted c.in-Err.ensures.cut_at_event
+    let cut : IsCut (c.min-further.result * processors_in c.loop-done.self.profile) c.in-Err.before c.loop-done.self c.run_passing.new.self = subst (λ k. IsCut (c.min-further.result * k) c.in-Err.before c.loop-done.self c.run_passing.new.self) round c.in-Err.ensures.cut in
+    cut_after c.loop-done.done c.min-further.result c.args.rounds c.in-Err.before (c.from.result * c.from-in-Err.result) c.args.self.now c.loop-done.self c.run_passing.new.self c.loop-done.invariant.ran counted cut (omega arith)
 
 pub loop-done-preserved : goal.loop-done-preserved
 loop-done-preserved g c =

@@ -1,4 +1,4 @@
-use Rattle.std.proofs.Common.{◌≡◌, ℕ, ◌*◌, ◌+◌, ◌-◌, ◌≤◌, refl, sym, ap, subst, ◌∙◌, arith}
+use Rattle.std.proofs.Common.{◌≡◌, ℕ, ◌*◌, ◌+◌, ◌-◌, ◌≤◌, ◌<◌, refl, sym, ap, subst, ◌∙◌, arith}
 use Rattle.pp_machine.specs.Profile.{processors_in}
 use Rattle.pp_machine.specs.Run.{run, barrel}
 use Rattle.pp_machine.proofs.RoundLemmas.{event_after, profile_after, turns_after, whole_so_far}
@@ -6,6 +6,9 @@ use Rattle.pp_machine.proofs.machine.Machine.run_passing.Goals as goal
 
 one_round_more : (done turns : ℕ) → done * turns + turns ≡ (done + 1) * turns
 one_round_more done turns = grind (arith)
+
+turns_left : (done rounds turns before : ℕ) → done < rounds → before < turns → done * turns + before < rounds * turns
+turns_left done rounds turns before fewer within = grind (arith)
 
 pub run_round-requires-clause-round : goal.run_round-requires-clause-round
 run_round-requires-clause-round g c =
@@ -19,17 +22,12 @@ returns-in-Err-clause-cut g c =
     let done = c.args.rounds - c.loop-left.left in
     let whole = whole_so_far m.profile done c.args.rounds c.args.turns (omega arith) c.requires.whole in
     let ran = c.loop-left.invariant.ran ∙ ap (λ k. run (barrel m.profile k) m) whole in
-    let counted = ap (λ k. k * c.from-in-Err.result) c.from.ensures ∙ ap (λ k. done * k) c.from-in-Err.ensures ∙ whole in
-    turns_after done c.in-Err.before (c.from.result * c.from-in-Err.result) m c.loop-left.self c.run_round.new.self ran counted c.in-Err.ensures.cut
-
-pub returns-in-Err-clause-cut_at_event : goal.returns-in-Err-clause-cut_at_event
-returns-in-Err-clause-cut_at_event g c =
-    let m = c.args.self.now in
-    let done = c.args.rounds - c.loop-left.left in
-    let whole = whole_so_far m.profile done c.args.rounds c.args.turns (omega arith) c.requires.whole in
-    let ran = c.loop-left.invariant.ran ∙ ap (λ k. run (barrel m.profile k) m) whole in
-    let counted = ap (λ k. k * c.from-in-Err.result) c.from.ensures ∙ ap (λ k. done * k) c.from-in-Err.ensures ∙ whole in
-    event_after done c.in-Err.before (c.from.result * c.from-in-Err.result) m c.loop-left.self c.run_round.new.self ran counted c.in-Err.ensures.cut_at_event
+    let so_far : c.from.result * c.from-in-Err.result ≡ done * c.args.turns = ap (λ k. k * c.from-in-Err.result) c.from.ensures ∙ ap (λ k. done * k) c.from-in-Err.ensures in
+    record {
+      ran = turns_after done c.in-Err.before (c.from.result * c.from-in-Err.result) m c.loop-left.self c.run_round.new.self ran (so_far ∙ whole) c.in-Err.ensures.cut.ran;
+      within = rw so_far (turns_left done c.args.rounds c.args.turns c.in-Err.before (omega arith) c.in-Err.ensures.cut.within);
+      at_event = event_after done c.in-Err.before (c.from.result * c.from-in-Err.result) m c.loop-left.self c.run_round.new.self ran (so_far ∙ whole) c.in-Err.ensures.cut.at_event;
+    }
 
 pub loop-left-preserved : goal.loop-left-preserved
 loop-left-preserved g c =

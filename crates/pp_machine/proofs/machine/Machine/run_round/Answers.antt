@@ -1,11 +1,13 @@
-use Rattle.std.proofs.Common.{arith, ◌≡◌, ◌<◌, ap, sym, subst, ◌∙◌, get_or}
+use Rattle.std.proofs.Common.{arith, refl, ◌≡◌, ◌<◌, ap, sym, subst, ◌∙◌, get_or}
+use Rattle.std.specs.Prelude.{IsSome}
 use Rattle.pp_machine.specs.MachineState.{MachineState}
-use Rattle.pp_machine.specs.MachineStep.{stepped}
+use Rattle.pp_machine.specs.MachineStep.{stepped, step_event}
 use Rattle.pp_machine.specs.PpNo.{processor_index}
 use Rattle.pp_machine.specs.Profile.{processor_in_turn, processors_in}
 use Rattle.pp_machine.specs.Rounds.{PassesOverRest}
 use Rattle.pp_machine.specs.Run.{run, barrel}
 use Rattle.pp_machine.proofs.RoundLemmas.{passes_over_stepped, profile_after}
+use Rattle.pp_machine.proofs.RunLemmas.{some_event}
 use Rattle.pp_machine.proofs.ProfileLemmas.{in_turn_at}
 use Rattle.pp_machine.specs.RunLaws.{barrel_more}
 use Rattle.pp_machine.proofs.machine.Machine.run_round.Goals as goal
@@ -30,4 +32,17 @@ loop-self-preserved g c =
       within = omega arith;
       passes = subst P (sym ok) (passes_over_stepped c.args.next.now (processor_in_turn p running) c.pass_to-in-loop-self.new.self (subst (λ pps. PassesOverRest c.args.next.now pps) (sym c.pass_to-in-loop-self.ensures.processors) c.loop-self.invariant.passes));
       headline = c.step_in_barrel.ensures.headline;
+    }
+
+pub returns-in_default-clause-cut : goal.returns-in_default-clause-cut
+returns-in_default-clause-cut g c =
+    let running = get_or c.args.next.now c.loop-self.place 0 in
+    let p = c.args.self.now.profile in
+    let turn : processor_in_turn p running ≡ c.at.result = in_turn_at p running (omega arith) ∙ sym c.at.ensures.number in
+    let same : c.step_in_barrel.new.self ≡ c.pass_to-in-loop-self.new.self = c.in_default.ensures.unchanged_after_memory in
+    let made : IsSome (step_event c.at.result c.pass_to-in-loop-self.new.self) = some_event _ c.step_in_barrel.result (rw c.in_default.is refl) c.step_in_barrel.ensures.no_event in
+    record {
+      ran = same ∙ c.pass_to-in-loop-self.ensures.ran p c.args.self.now (omega arith) c.loop-self.invariant.ran;
+      within = omega arith;
+      at_event = rw (turn, same) made;
     }

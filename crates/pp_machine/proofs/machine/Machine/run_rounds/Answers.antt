@@ -1,5 +1,5 @@
 use Rattle.std.proofs.Common.{◌*◌, ◌+◌, arith}
-use Rattle.pp_machine.proofs.RoundLemmas.{counted_rounds, rounds_after, turns_after, within_after, event_after}
+use Rattle.pp_machine.proofs.RoundLemmas.{counted_rounds, rounds_after, cut_after}
 use Rattle.pp_machine.proofs.machine.Machine.run_rounds.Goals as goal
 
 pub returns-in-Err-clause-cut : goal.returns-in-Err-clause-cut
@@ -7,21 +7,8 @@ returns-in-Err-clause-cut g c =
     let m = c.args.self.now in
     let done = c.loop-done.done + c.run_quiet_rounds-quiet.result in
     let ran = rounds_after c.loop-done.done c.run_quiet_rounds-quiet.result m c.loop-done.self c.run_quiet_rounds-quiet.new.self c.loop-done.invariant.ran c.run_quiet_rounds-quiet.ensures.ran in
-    turns_after done c.in-Err.before (c.from.result * c.from-in-Err.result) m c.run_quiet_rounds-quiet.new.self c.run_by_turns.new.self ran (counted_rounds m.profile c.from.result c.from-in-Err.result done c.round-round.result c.from.ensures c.from-in-Err.ensures c.round-round.ensures) c.in-Err.ensures.cut
-
-pub returns-in-Err-clause-within : goal.returns-in-Err-clause-within
-returns-in-Err-clause-within g c =
-    let m = c.args.self.now in
-    let done = c.loop-done.done + c.run_quiet_rounds-quiet.result in
-    let ran = rounds_after c.loop-done.done c.run_quiet_rounds-quiet.result m c.loop-done.self c.run_quiet_rounds-quiet.new.self c.loop-done.invariant.ran c.run_quiet_rounds-quiet.ensures.ran in
-    within_after done c.min-further.result c.args.rounds c.in-Err.before (c.from.result * c.from-in-Err.result) m c.run_quiet_rounds-quiet.new.self ran (counted_rounds m.profile c.from.result c.from-in-Err.result done c.round-round.result c.from.ensures c.from-in-Err.ensures c.round-round.ensures) c.in-Err.ensures.within (omega arith)
-
-pub returns-in-Err-clause-cut_at_event : goal.returns-in-Err-clause-cut_at_event
-returns-in-Err-clause-cut_at_event g c =
-    let m = c.args.self.now in
-    let done = c.loop-done.done + c.run_quiet_rounds-quiet.result in
-    let ran = rounds_after c.loop-done.done c.run_quiet_rounds-quiet.result m c.loop-done.self c.run_quiet_rounds-quiet.new.self c.loop-done.invariant.ran c.run_quiet_rounds-quiet.ensures.ran in
-    event_after done c.in-Err.before (c.from.result * c.from-in-Err.result) m c.run_quiet_rounds-quiet.new.self c.run_by_turns.new.self ran (counted_rounds m.profile c.from.result c.from-in-Err.result done c.round-round.result c.from.ensures c.from-in-Err.ensures c.round-round.ensures) c.in-Err.ensures.cut_at_event
+    let counted = counted_rounds m.profile c.from.result c.from-in-Err.result done c.round-round.result c.from.ensures c.from-in-Err.ensures c.round-round.ensures in
+    cut_after done c.min-further.result c.args.rounds c.in-Err.before (c.from.result * c.from-in-Err.result) m c.run_quiet_rounds-quiet.new.self c.run_by_turns.new.self ran counted c.in-Err.ensures.cut (omega arith)
 
 pub loop-done-preserved-then-quiet-window : goal.loop-done-preserved-then-quiet-window
 loop-done-preserved-then-quiet-window g c =
