@@ -63,7 +63,10 @@ pub fn read_deck<A: Allocator + Copy>(
         return Err(OUT_OF_MEMORY);
     };
     read_lines(&mut reading, text)?;
-    reading.into_deck().map_err(|_| OUT_OF_MEMORY)
+    let Ok(deck) = reading.into_deck() else {
+        return Err(OUT_OF_MEMORY);
+    };
+    Ok(deck)
 }
 
 /// No line is at fault if memory was refused.

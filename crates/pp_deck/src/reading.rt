@@ -59,7 +59,6 @@ impl<A: Allocator> Reading<A> {
     }
 
     /// The deck, once all lines are read: at dead start the processors that it does not name wait.
-    #[tactic(auto, using(crate::proofs::DeadStartLemmas::unnamed_within))]
     pub(crate) fn into_deck(self) -> Result<Deck<A>, Memory>
     where
         A: Clone,

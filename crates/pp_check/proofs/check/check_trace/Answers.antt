@@ -54,3 +54,11 @@ lines-preserved c =
       passed = omega (arith, lengths, c.lines.invariant.passed);
       events = omega (arith, lengths, c.lines.invariant.events, c.in_default.ensures.room);
     }
+
+pub read-requires-clause-kept : goal.read-requires-clause-kept
+read-requires-clause-kept c = (c.args.opened.now, (_, c.lines.invariant.read.keeps.kept))
+
+pub lines-smaller : goal.lines-smaller
+lines-smaller c =
+    let lengths = rw c.in-Some.is at c.first_line.ensures.lengths in
+    omega (arith, lengths)
