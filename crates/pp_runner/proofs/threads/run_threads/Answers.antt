@@ -1,4 +1,4 @@
-use Rattle.std.proofs.Common.{rules, ◌≡◌, ◌≤◌, ◌∙◌, ℕ, ◌+◌, ◌*◌, vec_len, List, ◌∷◌, ◌++◌, length, map, take, sym, ap, subst, arith}
+use Rattle.std.proofs.Common.{◌≡◌, ◌≤◌, ◌∙◌, ℕ, ◌+◌, ◌*◌, vec_len, List, ◌∷◌, ◌++◌, length, map, take, sym, ap, subst, arith}
 use Rattle.std.specs.Prelude.{All}
 use Rattle.std.specs.List.{filter, flat_map}
 use Rattle.std.proofs.lemmas.List.{length-take-le}
@@ -69,7 +69,7 @@ returns g c =
     let known : IsRecordedBy (all_joined first lines).log.entries (all_joined first lines).view.seen channels = closed.known.all_known (omega (arith, shares, whole, each, many, c.in_ok-first.ensures.first.shares, c.in_ok-first.ensures.first.whole)) in
     let opening : ℕ → List Event = λ k. opening_history k c.args.machine.now in
     let given = c.in_ok-workers.ensures in
-    let sized : size ≡ length c.args.machine.now.central = search rules in
+    let sized : size ≡ length c.args.machine.now.central = c.size.ensures.value ∙ ap length c.central.ensures in
     let same : logs_of ws ≡ flat_map (λ l. l.log.entries) lines = flat_map-map (λ w. w.log.items) worker_of logs ∙ same_logs crew logs c.in_ok-logs.ensures.logs in
     let seen : All (λ l. (k : ℕ) → seen_on k l.view.seen ≤ length (history_on k channels)) lines = All-weaker (λ (l : LineState). SeesAtLeast l (all_joined first lines)) (λ (l : LineState). (k : ℕ) → seen_on k l.view.seen ≤ length (history_on k channels))
     (λ l less k. let all = known.counted k in let here = less k in omega (arith, all, here)) lines c.in_ok-logs.ensures.nothing_forgotten in
@@ -105,7 +105,7 @@ run_first-requires-after_bounds g c κs within = record {
   each = c.turns-turns.ensures.sound.processors;
   count = let most = most_processors c.args.machine.now.profile in omega (arith, most, c.in_ok-first.ensures.each_processor, c.in_ok-first.lines.ok.0);
   some = let some = some_processors c.args.machine.now.profile in omega (arith, some, c.in_ok-first.ensures.each_processor, c.in_ok-first.lines.ok.0);
-  central = ap (λ (l : LineState). length l.view.central) c.of-family.ensures ∙ (ap length c.in_ok-first.ensures.first.central ∙ sym (search rules));
+  central = ap (λ (l : LineState). length l.view.central) c.of-family.ensures ∙ (ap length c.in_ok-first.ensures.first.central ∙ sym (c.size.ensures.value ∙ ap length c.central.ensures));
   fresh = subst (λ (family : LineState). All (IsSplitFrom family (2 * c.args.limits.steps + 1)) c.in_ok-first.lines.items) (sym c.of-family.ensures)
       (subst (λ (steps : ℕ). All (IsSplitFrom c.in_ok-first.first (2 * steps + 1)) c.in_ok-first.lines.items) c.steps.ensures.value c.in_ok-first.ensures.fresh);
 }
