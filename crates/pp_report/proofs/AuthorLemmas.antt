@@ -1,16 +1,19 @@
 -- Authors of events, log after log, and the lines that name them.
-use Rattle.std.proofs.Common.{◌≡◌, ◌∙◌, ℕ, ◌+◌, ◌<◌, ◌≤◌, Bool, true, false, cond, List, [], ◌∷◌, ◌++◌, length, take, Option, Some, None, option_map, slice_index_or, refl, sym, ap, subst, arith, add-one}
-use Rattle.pp_line.specs.Merge.{times_logged}
+use Rattle.std.proofs.Common.{◌≡◌, ◌∙◌, ℕ, ◌+◌, ◌<◌, ◌≤◌, Bool, true, false, cond, ◌||◌, List, [], ◌∷◌, ◌++◌, length, take, Option, Some, None, option_map, slice_index_or, refl, sym, ap, subst, arith, add-one}
+use Rattle.pp_line.specs.Merge.{logs_event, times_logged}
 use Rattle.std.specs.Prelude.{IsTrue, nat_lt}
-use Rattle.std.specs.List.{position, position_from}
+use Rattle.std.specs.List.{count_by, position, position_from}
 use Rattle.std.proofs.Math.Seq.{take-suc}
 use Rattle.std.proofs.lemmas.Iterator.Adapters.{position_from-zero}
+use Rattle.std.proofs.lemmas.Bool.{lt-ltb}
+use Rattle.std.proofs.Math.Bool.{or-false, or-true}
 use Rattle.std.proofs.lemmas.List.{get_or_default, length-take-le}
-use Rattle.pp_channel.specs.ChannelNo.{channel_index, names_channel}
+use Rattle.std.proofs.lemmas.List.Sums.{count_by_more_no, count_by_more_yes}
+use Rattle.pp_channel.specs.ChannelNo.{channel_count, channel_index, names_channel}
 use Rattle.pp_channel.specs.History.{history_on}
-use Rattle.pp_report.specs.Types.{Event, Worker}
+use Rattle.pp_report.specs.Types.{Entry, Event, Worker}
 use Rattle.pp_machine.specs.PpNo.{processor_count, processor_number}
-use Rattle.pp_report.specs.Authors.{AreAuthors, AreAuthorsOn, or_known}
+use Rattle.pp_report.specs.Authors.{AreAuthors, AreAuthorsOn, AreMarked, authors_on, or_known}
 use Rattle.pp_report.specs.PrintedReport.{author_place}
 
 -- where the first does not pass, the search goes on behind it
@@ -55,6 +58,40 @@ author_push {Z} c number place workers worker before after author l few at by wa
     let same : author ≡ processor_number place = by in
     now ∙ (ap (λ known. or_known known (test worker) author) was ∙ (ap (or_known (option_map processor_number (author_place c (take place workers) number)) (test worker)) same
     ∙ (sym (or_told_map processor_number (author_place c (take place workers) number) (test worker) place) ∙ sym (ap (option_map processor_number) found))))
+
+unmarked : (known : Option ℕ) (author : ℕ) → known ≡ or_known known false author
+unmarked (Some n) author = refl
+unmarked None author = refl
+
+-- marked once more
+marked_again : (known : Option ℕ) (was told now : Bool) (author : ℕ) → now ≡ (was || told) → or_known (or_known known was author) told author ≡ or_known known now author
+marked_again (Some n) was told now author e = refl
+marked_again None true told now author e = ap (λ t. or_known None t author) (sym e)
+marked_again None false told now author e = ap (λ t. or_known None t author) (sym e)
+
+-- whether a log records an event, by one entry more
+some_more : {X : Type 0} (test : X → Bool) (xs : List X) (i : ℕ) (x : X) (passes : Bool) → test x ≡ passes → i < length xs → x ≡ slice_index_or xs i x
+    → nat_lt 0 (count_by test (take (i + 1) xs)) ≡ (nat_lt 0 (count_by test (take i xs)) || passes)
+some_more test xs i x true e inside is =
+    let n = count_by test (take i xs) in
+    ap (nat_lt 0) (count_by_more_yes test xs i x inside (ap test (sym is) ∙ e)) ∙ (lt-ltb 0 (n + 1) (omega arith) ∙ sym (or-true (nat_lt 0 n)))
+some_more test xs i x false e inside is = ap (nat_lt 0) (count_by_more_no test xs i x inside (ap test (sym is) ∙ e)) ∙ sym (or-false (nat_lt 0 (count_by test (take i xs))))
+
+-- none marked
+pub marked_none : (author : ℕ) (authors : List (List (Option ℕ))) → length authors ≡ channel_count → AreMarked author (λ c number. nat_lt 0 (times_logged c number [])) authors authors
+marked_none author authors each = record { each_channel = each; each_event = λ c. refl; marked = λ c number names below. unmarked (slice_index_or (authors_on c authors) number None) author }
+
+-- those that a log records, by one entry more
+pub marked_more : (author : ℕ) (log : List Entry) (i : ℕ) (entry : Entry) (before mid after : List (List (Option ℕ))) → i < length log → entry ≡ slice_index_or log i entry
+    → AreMarked author (λ c number. nat_lt 0 (times_logged c number (take i log))) before mid → AreMarked author (λ c number. logs_event c number entry) mid after
+    → AreMarked author (λ c number. nat_lt 0 (times_logged c number (take (i + 1) log))) before after
+marked_more author log i entry before mid after inside is was more = record {
+  each_channel = more.each_channel;
+  each_event = λ c. more.each_event c ∙ was.each_event c;
+  marked = λ c number names below. more.marked c number names (omega (arith, was.each_event c, below))
+      ∙ (ap (λ known. or_known known (logs_event c number entry) author) (was.marked c number names below)
+      ∙ marked_again (slice_index_or (authors_on c before) number None) _ (logs_event c number entry) _ author (some_more (logs_event c number) log i entry (logs_event c number entry) refl inside is));
+}
 
 -- the authors on one channel, of those on all
 pub authors_here : {Z : Type 0} (c place : ℕ) (workers : List (Worker Z)) (histories : List (List Event)) (all : List (List (Option ℕ))) (h : List Event) (here : List (Option ℕ)) → IsTrue (names_channel c)
