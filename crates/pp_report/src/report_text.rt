@@ -40,7 +40,10 @@ pub fn write_report<A: Allocator + Copy, W: Write>(
     let Ok(authors) = authors(alloc, report.ends.as_slice(), &report.channels) else {
         return Err(ReportFault::Memory);
     };
-    print_report(writer, report, &authors, named).map_err(|_| ReportFault::Write)
+    let Ok(()) = print_report(writer, report, &authors, named) else {
+        return Err(ReportFault::Write);
+    };
+    Ok(())
 }
 
 /// Prints the text of a report whose authors are known.
