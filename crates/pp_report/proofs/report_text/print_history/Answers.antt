@@ -1,10 +1,12 @@
 use Rattle.std.proofs.Common.{◌<◌, ◌∙◌, List, All, length, rules, subst}
+use Rattle.std.specs.List.{enumerate_from, flat_map}
 use Rattle.std.proofs.lemmas.List.{take_all}
 use Rattle.pp_channel.specs.declared.event.Event.{Event}
 use Rattle.pp_text.specs.PrintingLaws.{prints_nothing, prints_on}
+use Rattle.pp_text.specs.TextWriter.{Prints}
 use Rattle.pp_report.proofs.EventLineLemmas.{lines_go_on}
 use Rattle.pp_report.proofs.ReportLawLemmas.{tellings_go_on}
-use Rattle.pp_report.specs.PrintedReport.{author_place}
+use Rattle.pp_report.specs.PrintedReport.{author_place, numbered_event_line}
 use Rattle.pp_report.specs.ReportLaw.{FitsItsLine, told_events}
 use Rattle.pp_report.proofs.report_text.print_history.Goals as goal
 
@@ -31,3 +33,9 @@ returns-clause-fits g c workers are =
     subst (λ (h : List Event). All FitsItsLine (told_events c.args.c workers h))
     (take_all c.loop-number.number c.args.channel.now (rw c.history-event-items.ensures.value at c.loop-number-test.false))
     (c.loop-number.invariant workers are).1
+
+pub returns-clause-text : goal.returns-clause-text
+returns-clause-text g c workers are =
+    subst (λ (h : List Event). Prints g.W.Write.contents c.args.text.now c.loop-number.text (flat_map (numbered_event_line c.args.c workers) (enumerate_from 0 h)))
+    (take_all c.loop-number.number c.args.channel.now (rw c.history-event-items.ensures.value at c.loop-number-test.false))
+    (c.loop-number.invariant workers are).0
