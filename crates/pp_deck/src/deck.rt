@@ -10,6 +10,7 @@ use crate::central_size::central_size;
 use crate::deck_fault::{DeckCode, DeckFault};
 use crate::lines::Lines;
 use crate::reading::Reading;
+use pp_channel::Memory;
 use pp_machine::{Machine, PROCESSORS, Profile};
 use std::alloc::Allocator;
 
@@ -63,10 +64,10 @@ pub fn read_deck<A: Allocator + Copy>(
         return Err(OUT_OF_MEMORY);
     };
     read_lines(&mut reading, text)?;
-    let Ok(deck) = reading.into_deck() else {
-        return Err(OUT_OF_MEMORY);
-    };
-    Ok(deck)
+    match reading.into_deck() {
+        Ok(deck) => Ok(deck),
+        Err(Memory) => Err(OUT_OF_MEMORY),
+    }
 }
 
 /// No line is at fault if memory was refused.

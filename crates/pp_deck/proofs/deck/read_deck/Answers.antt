@@ -9,7 +9,7 @@ means : (p : Profile) (text : List ℕ) → length text ≤ 1048576 → position
 unfolding deck_meaning
 means p text short none = grind (arith, short, none)
 
-pub returns-clause-ok : goal.returns-clause-ok
-returns-clause-ok g c =
+pub returns-in-Ok-into_deck-clause-ok : goal.returns-in-Ok-into_deck-clause-ok
+returns-in-Ok-into_deck-clause-ok g c =
     means c.args.profile c.args.text.now c.if-text-gt-LONGEST_TEXT.false (sym c.first_foreign.ensures ∙ c.in_default.is)
     ∙ rw c.in-Ok.ensures.profile at c.in_ok-read_lines.ensures.ok ∙ ap Ok (sym c.in-Ok-into_deck.ensures)
