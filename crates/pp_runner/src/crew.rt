@@ -1,6 +1,6 @@
 //! Runs the workers concurrently, one thread each.
 
-ghost use Rattle.std.specs.Prelude.{◌≡◌, ◌+◌, ◌*◌, ◌<◌, ◌++◌, ◌∷◌, [], take, vec_len, IfOk};
+ghost use Rattle.std.specs.Prelude.{◌+◌, ◌*◌, ◌<◌, take, vec_len, IfOk};
 ghost use denote.Param.Send.{IsSync, IsSend, Frees};
 ghost use Rattle.pp_runner.specs.Crew.{IsEnded, AreEnded, AreReady};
 ghost use Rattle.pp_runner.specs.Labour.{IsUnused};
@@ -36,23 +36,6 @@ impl<A: Allocator> Promise<(Ended<A>, Line<A>)> for EndOf<A> {
     ghost kept_by = { λ p ended. IsEnded p.load.value p.size p.steps p.line.value ended.0 ended.1 };
 }
 
-impl<A: Allocator> EndOf<A> {
-    /// The promise of a worker that begins with this processor and this line.
-    fn of(site: &Site<A>, load: &Pp, line: &Line<A>) -> EndOf<A>
-        ensures load { result.load.value ≡ load.now }
-        ensures line { result.line.value ≡ line.now }
-        ensures size { result.size ≡ site.now.size }
-        ensures steps { result.steps ≡ site.now.limits.steps }
-    {
-        EndOf {
-            load: Snapshot::of(load),
-            line: Snapshot::of(line),
-            size: site.size,
-            steps: site.limits.steps(),
-        }
-    }
-}
-
 /// Runs the workers of the barrel's first processors at once, one on each line. The first works in
 /// this thread.
 #[cycle(crew)]
@@ -70,19 +53,19 @@ pub fn run_first<R: Threads + Wait + Sync, G: Gate + Sync, A: Allocator + Copy +
         (vec_len lines) machine.now.processors) site.now.size site.now.limits.steps
         (2 * site.now.limits.steps + 1) family.value crew.items) }
 {
+    if lines.len() > 1 {
+        return beside(rt, site, gate, machine, family, lines);
+    }
     let Some(line) = lines.pop() else {
         unreachable!()
     };
-    if !lines.is_empty() {
-        return beside(rt, site, gate, machine, family, lines, line);
-    }
-    let number = PpNo::at(0);
+    let number = PpNo::at(lines.len());
     let mut crew = Vec::new(site.alloc);
     crew.push(work(site, gate, number, machine.pp(number), line))?;
     Ok(crew)
 }
 
-/// Runs the worker on the last line in a thread of its own, beside those on the others.
+/// Runs the worker on the last line in a thread of its own, beside those before it.
 #[cycle(crew)]
 fn beside<R: Threads + Wait + Sync, G: Gate + Sync, A: Allocator + Copy + Send + Sync>(
     rt: &R,
@@ -90,14 +73,13 @@ fn beside<R: Threads + Wait + Sync, G: Gate + Sync, A: Allocator + Copy + Send +
     gate: &G,
     machine: &Machine<A>,
     family: Snapshot<Line<A>>,
-    others: Vec<Line<A>, A>,
-    last: Line<A>,
+    lines: Vec<Line<A>, A>,
 ) -> Result<Crew<A>, RunFault>
-    requires others { 0 < vec_len others }
+    requires several { 1 < vec_len lines }
     requires ready { AreReady machine.now site.now.size (2 * site.now.limits.steps + 1)
-        family.value (others.items ++ last ∷ []) }
+        family.value lines.items }
     ensures { IfOk result (λ crew. AreEnded (take
-        (vec_len others + 1) machine.now.processors) site.now.size site.now.limits.steps
+        (vec_len lines) machine.now.processors) site.now.size site.now.limits.steps
         (2 * site.now.limits.steps + 1) family.value crew.items) }
 {
     thread::scope(
@@ -105,26 +87,38 @@ fn beside<R: Threads + Wait + Sync, G: Gate + Sync, A: Allocator + Copy + Send +
         rt,
         |scope| -> Result<Crew<A>, RunFault>
             requires { IsSync R.row × IsSync G.row × IsSend A.row × IsSync A.row
-                × Frees A.Allocator A.dealloc_token × (0 < vec_len others)
+                × Frees A.Allocator A.dealloc_token × (1 < vec_len lines)
                 × AreReady machine.now site.now.size (2 * site.now.limits.steps + 1) family.value
-                (others.items ++ last ∷ []) }
+                lines.items }
             ensures { IfOk result (λ crew. AreEnded
-                (take (vec_len others + 1) machine.entry.now.processors) site.entry.now.size
+                (take (vec_len lines) machine.entry.now.processors) site.entry.now.size
                 site.entry.now.limits.steps (2 * site.entry.now.limits.steps + 1) family.value
                 crew.items) }
         {
+            let mut others = lines;
+            let Some(line) = others.pop() else {
+                unreachable!()
+            };
             let number = PpNo::at(others.len());
             let load = machine.pp(number);
+            let promise = EndOf {
+                load: Snapshot::of(load),
+                line: Snapshot::of(&line),
+                size: site.size,
+                steps: site.limits.steps(),
+            };
             let child = scope.spawn_with(
-                EndOf::of(site, load, &last),
+                promise,
                 move || -> (Ended<A>, Line<A>)
-                    requires { IsUnused site.now.size site.now.limits.steps last }
+                    requires { IsUnused site.now.size site.now.limits.steps line }
                     ensures { IsEnded load.entry.now site.entry.now.size
-                        site.entry.now.limits.steps last result.0 result.1 }
-                { work(site, gate, number, load, last) },
+                        site.entry.now.limits.steps line result.0 result.1 }
+                { work(site, gate, number, load, line) },
             )?;
-            let mut crew = run_first(rt, site, gate, machine, family, others)?;
-            crew.push(child.join(rt))?;
+            let others = run_first(rt, site, gate, machine, family, others);
+            let last = child.join(rt);
+            let mut crew = others?;
+            crew.push(last)?;
             Ok(crew)
         },
     )
