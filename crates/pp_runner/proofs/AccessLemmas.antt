@@ -27,7 +27,7 @@ use Rattle.pp_machine.specs.Processor.{Processor}
 use Rattle.pp_machine.specs.Replay.{OfChannel, contribution, fits, given_count, replayed}
 use Rattle.pp_machine.specs.ReplayLaws.{Gives, Gives-counted}
 use Rattle.pp_runner.specs.Accesses.{accesses_by, AreAccessesOf}
-use Rattle.pp_runner.specs.Labour.{HasActed, HasMade, HasLooked, IsAnswered, IsNoted}
+use Rattle.pp_runner.specs.Labour.{HasMade, HasLooked, IsAnswered, IsNoted}
 use Rattle.pp_runner.specs.WorkerReport.{IsBySize}
 
 -- the word that an operation found last has the number of its answer
@@ -207,22 +207,7 @@ write_answer size a w true before after by_size is =
     beside is.0 (Access.Write a w is.0 ∷ []) refl by_size refl refl (ap (λ l. l.log) is.1) (ap (λ l. l.view.program_orders) is.1) (ap (λ l. l.view.written) is.1)
 write_answer size a w false before after by_size is = still refl by_size refl refl is
 
--- what each did
-pub read_acts : (a : ℕ) (found : Option ℕ) (before after : LineState) → IfSome found (λ word. after ≡ record before { view = reads before.view a word }) → IfNone found (after ≡ before)
-    → HasActed (Need.Read a) before (Answer.Read found) after
-read_acts a (Some word) before after is same = is
-read_acts a None before after is same = same
-
-pub write_acts : (a w : ℕ) (written : Bool) (before after : LineState) → MatchBool written ((number : ℕ) × (after ≡ record before { view = writes before.view a w number })) (after ≡ before)
-    → HasActed (Need.Write a w) before (Answer.Wrote written) after
-write_acts a w true before after is = is
-write_acts a w false before after is = is
-
 -- nothing was asked
-pub local_acts : (n : Need) (line : LineState) → (n ≡ Need.Nothing) ⊎ (n ≡ Need.Local) → HasActed n line Answer.Local line
-local_acts n line (inl is) = rw is refl
-local_acts n line (inr is) = rw is refl
-
 pub local_answer : (size : ℕ) (n : Need) (line : LineState) → (n ≡ Need.Nothing) ⊎ (n ≡ Need.Local) → IsAnswered size n Answer.Local line line
 local_answer size n line (inl is) = rw is (still refl tt refl refl refl)
 local_answer size n line (inr is) = rw is (still refl tt refl refl refl)

@@ -1,6 +1,6 @@
 -- A line after a call: it is the same line, later.
-use Rattle.std.proofs.Common.{◌≡◌, ℕ, Bool, true, false, suc, ◌<◌, ◌≤◌, ◌==◌, ◌+◌, ◌-◌, ◌*◌, List, [], ◌∷◌, ◌++◌, All, None, Option, Some, inl, inr, length, map, refl, sym, ap, ◌∙◌, subst, append_assoc, arith}
-use Rattle.std.specs.Prelude.{◌⊎◌, if◌then◌else◌, is_some, slice_set, IfNone, IfSome, MatchBool}
+use Rattle.std.proofs.Common.{◌≡◌, ℕ, Bool, true, false, suc, ◌<◌, ◌≤◌, ◌==◌, ◌+◌, ◌-◌, ◌*◌, List, [], ◌∷◌, ◌++◌, All, Some, length, map, refl, sym, ap, ◌∙◌, subst, append_assoc, arith}
+use Rattle.std.specs.Prelude.{if◌then◌else◌, is_some, slice_set}
 use Rattle.std.specs.List.{flat_map}
 use Rattle.std.proofs.lemmas.Grind.{flat_map-append}
 use Rattle.std.proofs.lemmas.Bool.{eq-eqb}
@@ -16,9 +16,7 @@ use Rattle.pp_line.specs.LineLog.{LogState, with_seen, seen_on}
 use Rattle.pp_channel.specs.Answer.{flags_shown}
 use Rattle.pp_line.specs.LineState.{LineState, IsActed, IsAnsweredBy, IsWornOut, number_after}
 use Rattle.pp_channel.specs.History.{history_on}
-use Rattle.pp_line.specs.LineView.{reads, writes}
-use Rattle.pp_line.specs.Order.{extended}
-use Rattle.pp_runner.specs.Types.{Access, ChanOp, Did, Entry, Event, FoundWord, Need, Numbered, Reply, Saw, Seen}
+use Rattle.pp_runner.specs.Types.{ChanOp, Did, Entry, Event, FoundWord, Numbered, Reply, Saw, Seen}
 use Rattle.pp_machine.specs.NeedAndEffect.{need}
 use Rattle.pp_machine.specs.Processor.{Processor}
 use Rattle.pp_runner.proofs.ReplyLemmas.{line_reply_fits, sight_of}
@@ -123,32 +121,6 @@ operated_not line = record { finds = []; each = All-nil AreFoundByOne; number = 
 -- no try yet
 pub operated_none : (each : ℕ) (line : LineState) → HasOperated (0 * each) line line
 operated_none each line = subst (λ (n : ℕ). HasOperated n line line) (sym (zero-mul each)) (operated_not line)
-
--- a read or a write of central memory: the same line, which has found no word of a channel
-pub record IsQuiet (line after : LineState) : Type 0 where
-  pub same_line : IsSameLine line after
-  pub operated : HasOperated 0 line after
-
-quiet : (line : LineState) (more : List Access) (written : List ℕ) → IsQuiet line (record line { view = record line.view { program_orders = extended line.view.program_orders more; written = written } })
-quiet line more written = record {
-  same_line = record { shares = refl; whole = refl; table = refl; central = refl; program_orders = length-extended line.view.program_orders more; seen = λ happened has. record { countable = has.countable; seen = has.seen }; none_older = λ happened has none. none };
-  operated = record { finds = []; each = All-nil AreFoundByOne; number = refl; found = sym (append-nil line.view.found) };
-}
-
-still_quiet : (line : LineState) → IsQuiet line line
-still_quiet line = record { same_line = same_line_still line; operated = operated_not line }
-
-pub read_quiet : (a : ℕ) (found : Option ℕ) (line after : LineState) → IfSome found (λ word. after ≡ record line { view = reads line.view a word }) → IfNone found (after ≡ line) → IsQuiet line after
-read_quiet a (Some word) line after is same = subst (IsQuiet line) (sym is) (quiet line (Access.Read a word ∷ []) line.view.written)
-read_quiet a None line after is same = subst (IsQuiet line) (sym same) (still_quiet line)
-
-pub write_quiet : (a w : ℕ) (written : Bool) (line after : LineState) → MatchBool written ((number : ℕ) × (after ≡ record line { view = writes line.view a w number })) (after ≡ line) → IsQuiet line after
-write_quiet a w true line after is = subst (IsQuiet line) (sym is.1) (quiet line (Access.Write a w is.0 ∷ []) (line.view.written ++ is.0 ∷ []))
-write_quiet a w false line after is = subst (IsQuiet line) (sym is) (still_quiet line)
-
-pub local_operates : (n : Need) → (n ≡ Need.Nothing) ⊎ (n ≡ Need.Local) → operations n ≡ 0
-local_operates n (inl is) = ap operations is
-local_operates n (inr is) = ap operations is
 
 -- some operations, and then some more
 pub operated_twice : (n m : ℕ) (line mid after : LineState) → HasOperated n line mid → HasOperated m mid after → HasOperated (n + m) line after

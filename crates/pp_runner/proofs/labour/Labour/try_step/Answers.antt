@@ -1,7 +1,7 @@
-use Rattle.std.proofs.Common.{◌≡◌, ℕ, List, length, refl, sym, ◌∙◌, subst, arith}
+use Rattle.std.proofs.Common.{◌≡◌, ℕ, List, length, refl, sym, ◌∙◌, subst, arith, rules}
 use Rattle.pp_machine.specs.NeedAndEffect.{need}
 use Rattle.pp_runner.specs.Types.{Answer, Need}
-use Rattle.pp_runner.specs.Labour.{IsAtWork, IsAnswered, HasOperated, operations}
+use Rattle.pp_runner.specs.Labour.{IsAtWork, IsAnswered}
 use Rattle.pp_runner.proofs.LabourLemmas.{work_moved, work_held, work_worn}
 use Rattle.pp_runner.proofs.labour.Labour.try_step.Goals as goal
 
@@ -15,7 +15,7 @@ returns-in-Held g c =
     c.requires.work (omega (arith, c.args.self.now.answers.ok.0, c.requires.steps_left)) told (c.give.ensures.held_by_channel c.in-Held.is) same in record {
       work = held.work;
       same_line = c.ask-told.ensures.same_line;
-      operated = subst (λ (n : Need). HasOperated (operations n) c.args.self.now.line c.ask-told.new.line) c.wants.ensures.need c.ask-told.ensures.operated;
+      operated = search rules;
       tries = refl;
       moved = λ is. absurd cc;
       held = λ is. (same, refl, held.was);
