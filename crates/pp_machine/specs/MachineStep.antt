@@ -1,10 +1,11 @@
 -- One step of one processor of a machine: one trip through the slot of the barrel.
 -- (Manual 60100000, part on peripheral and control processors: a processor works on its own memory,
 -- exchanges words with data channels, reads and writes central memory; Thornton, on the barrel.)
-use Rattle.std.specs.Prelude.{ℕ, ◌+◌, ◌-◌, ◌^◌, min, List, ◌++◌, length, map, nat_lt, Option, None, slice_get, slice_set, option_to_list}
+use Rattle.std.specs.Prelude.{◌≡◌, ℕ, ◌+◌, ◌-◌, ◌^◌, min, List, ◌++◌, length, map, nat_lt, Option, None, IsNone, Result, IfOk, IsOk, OnErr, OnOk, slice_get, slice_set, option_to_list}
 use Rattle.pp_channel.specs.Answer.{event_of, reply_to, history_after}
 use Rattle.pp_channel.specs.ChannelNo.{channel_index}
 use Rattle.pp_channel.specs.declared.event.Event.{Event}
+use Rattle.pp_channel.specs.declared.memory.Memory.{Memory}
 use Rattle.pp_machine.specs.MachineState.{MachineState, processor_of, history_of}
 use Rattle.pp_machine.specs.NeedAndEffect.{need, processor_after, outcome}
 use Rattle.pp_machine.specs.PpNo.{processor_index}
@@ -77,3 +78,11 @@ step_outcome n m = outcome (processor_of n m) (answer_to (need (processor_of n m
 -- the event that the step makes
 unfoldable pub step_event : ℕ → MachineState → Option Event
 step_event n m = event_for (need (processor_of n m)) m
+
+-- a step of processor n that was made, or for which memory was refused: then the machine is as it
+-- was; and only a step that makes an event takes memory
+pub record IsStep (n : ℕ) (answer : Result Outcome Memory) (old new : MachineState) : Type 0 where
+  pub ok : OnOk answer (new ≡ stepped n old)
+  pub outcome : IfOk answer (λ o. o ≡ step_outcome n old)
+  pub refused : OnErr answer (new ≡ old)
+  pub no_event : IsNone (step_event n old) → IsOk answer

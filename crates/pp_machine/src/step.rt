@@ -26,15 +26,12 @@ use std::alloc::Allocator;
 impl<A: Allocator> Machine<A> {
     ghost use Rattle.pp_machine.specs.Headline.{HoldsOnEachChannel};
     ghost use Rattle.pp_machine.specs.MachineState.{processor_of};
-    ghost use Rattle.pp_machine.specs.MachineStep.{answer_to, counted, event_for, served, stepped, step_event, step_outcome};
+    ghost use Rattle.pp_machine.specs.MachineStep.{IsStep, answer_to, counted, event_for, served, stepped, step_outcome};
 
     /// One step of a processor; a step that makes no event takes no memory.
     #[tactic(auto, using(crate::proofs::MachineStepLemmas::steps))]
     pub fn step(&mut self, n: PpNo) -> Result<Outcome, Memory>
-        ensures ok { OnOk result (self.new ≡ stepped n self.old) }
-        ensures outcome { IfOk result (λ o. o ≡ step_outcome n self.old) }
-        ensures unchanged_after_memory { OnErr result (self.new ≡ self.old) }
-        ensures no_event { IsNone (step_event n self.old) → IsOk result }
+        ensures step { IsStep n result self.old self.new }
         ensures at_rest { IsAtRest (processor_of n self.old)
             → self.new ≡ record self.old { turns = counted self.old.turns } }
         ensures held { IfOk result (λ o. o ≡ Outcome.Held
@@ -58,10 +55,7 @@ impl<A: Allocator> Machine<A> {
     crate::specs::MachineStep::step_event, // its event
     crate::specs::MachineStep::step_outcome))]
     fn step_by_need(&mut self, n: PpNo) -> Result<Outcome, Memory>
-        ensures ok { OnOk result (self.new ≡ stepped n self.old) }
-        ensures outcome { IfOk result (λ o. o ≡ step_outcome n self.old) }
-        ensures unchanged_after_memory { OnErr result (self.new ≡ self.old) }
-        ensures no_event { IsNone (step_event n self.old) → IsOk result }
+        ensures step { IsStep n result self.old self.new }
         ensures headline { HoldsOnEachChannel self.new }
     {
         let i = n.index();
@@ -93,10 +87,7 @@ impl<A: Allocator> Machine<A> {
     #[tactic(auto, using(crate::proofs::MachineStepLemmas::steps_at_rest))]
     pub(crate) fn step_in_barrel(&mut self, n: PpNo) -> Result<Outcome, Memory>
         requires place { processor_index n < processors_in self.old.profile }
-        ensures ok { OnOk result (self.new ≡ stepped n self.old) }
-        ensures outcome { IfOk result (λ o. o ≡ step_outcome n self.old) }
-        ensures unchanged_after_memory { OnErr result (self.new ≡ self.old) }
-        ensures no_event { IsNone (step_event n self.old) → IsOk result }
+        ensures step { IsStep n result self.old self.new }
         ensures headline { HoldsOnEachChannel self.new }
     {
         match self.processors[n.index()].state() {
@@ -121,10 +112,7 @@ impl<A: Allocator> Machine<A> {
     fn go_on(&mut self, n: PpNo) -> Result<Outcome, Memory>
         requires place { processor_index n < processors_in self.old.profile }
         requires running { (processor_of n self.old).state ≡ PpState.Running }
-        ensures ok { OnOk result (self.new ≡ stepped n self.old) }
-        ensures outcome { IfOk result (λ o. o ≡ step_outcome n self.old) }
-        ensures unchanged_after_memory { OnErr result (self.new ≡ self.old) }
-        ensures no_event { IsNone (step_event n self.old) → IsOk result }
+        ensures step { IsStep n result self.old self.new }
         ensures headline { HoldsOnEachChannel self.new }
     {
         let i = n.index();
@@ -172,10 +160,7 @@ impl<A: Allocator> Machine<A> {
     fn step_external(&mut self, n: PpNo, next: &Option<Opcode>, d: Word6) -> Result<Outcome, Memory>
         requires place { processor_index n < processors_in self.old.profile }
         requires next { IsNext next.now d (processor_of n self.old) }
-        ensures ok { OnOk result (self.new ≡ stepped n self.old) }
-        ensures outcome { IfOk result (λ o. o ≡ step_outcome n self.old) }
-        ensures unchanged_after_memory { OnErr result (self.new ≡ self.old) }
-        ensures no_event { IsNone (step_event n self.old) → IsOk result }
+        ensures step { IsStep n result self.old self.new }
         ensures headline { HoldsOnEachChannel self.new }
     {
         let i = n.index();

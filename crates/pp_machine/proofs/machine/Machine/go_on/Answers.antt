@@ -1,10 +1,10 @@
 use Rattle.std.proofs.Common.{◌≡◌, ◌<◌, Some, length, arith, refl, sym, ap, ◌∙◌, subst}
-use Rattle.std.specs.Prelude.{IfOk, OnOk, if◌then◌else◌}
+use Rattle.std.specs.Prelude.{if◌then◌else◌}
 use Rattle.std.proofs.lemmas.List.{length-set}
 use Rattle.pp_channel.specs.declared.chan_op.ChanOp.TheVariants.{Probe}
 use Rattle.pp_machine.specs.NextStep.{IsNext}
 use Rattle.pp_machine.specs.MachineState.{MachineState, processor_of}
-use Rattle.pp_machine.specs.MachineStep.{stepped, step_outcome}
+use Rattle.pp_machine.specs.MachineStep.{IsStep, stepped, step_outcome}
 use Rattle.pp_machine.specs.NeedAndEffect.{need, outcome}
 use Rattle.pp_machine.specs.Processor.{Processor}
 use Rattle.pp_machine.specs.PpNo.{processor_index}
@@ -27,20 +27,16 @@ pub invariant_of-self : goal.invariant_of-self
 invariant_of-self g c =
     with_processors _ (length-set c.self.inside.processors.items c.index-i.result c.step_internal.new.self) c.self.invariant
 
-pub returns-then-step_internal-clause-ok : goal.returns-then-step_internal-clause-ok
-returns-then-step_internal-clause-ok g c =
+pub returns-then-step_internal-clause-step : goal.returns-then-step_internal-clause-step
+returns-then-step_internal-clause-step g c =
     let own = own_processor c.args.n c.self.view_is c.index-i.ensures.place (omega (arith, c.index-i.ensures.below, c.self.invariant.processors)) c.index_mut.ensures.value in
     let local : need (processor_of c.args.n c.args.self.now) ≡ Local = ap need (sym own) ∙ c.if-step_internal.ensures.local in
-    taken_by c.args.n answers.Local c.self.view_is c.index-i.ensures.place own c.if-step_internal.ensures.after c.count_turn.ensures.turn ∙ sym (stepped_alone c.args.n c.args.self.now local)
-
-pub returns-then-step_internal-clause-outcome : goal.returns-then-step_internal-clause-outcome
-returns-then-step_internal-clause-outcome g c =
-    let own = own_processor c.args.n c.self.view_is c.index-i.ensures.place (omega (arith, c.index-i.ensures.below, c.self.invariant.processors)) c.index_mut.ensures.value in
-    let local : need (processor_of c.args.n c.args.self.now) ≡ Local = ap need (sym own) ∙ c.if-step_internal.ensures.local in
-    sym (outcome_alone c.args.n c.args.self.now local (ap (λ pp. outcome pp answers.Local) (sym own) ∙ c.if-step_internal.ensures.moved))
-
-pub returns-then-step_internal-clause-no_event : goal.returns-then-step_internal-clause-no_event
-returns-then-step_internal-clause-no_event g c = λ none. refl
+    record {
+      ok = taken_by c.args.n answers.Local c.self.view_is c.index-i.ensures.place own c.if-step_internal.ensures.after c.count_turn.ensures.turn ∙ sym (stepped_alone c.args.n c.args.self.now local);
+      outcome = sym (outcome_alone c.args.n c.args.self.now local (ap (λ pp. outcome pp answers.Local) (sym own) ∙ c.if-step_internal.ensures.moved));
+      refused = tt;
+      no_event = λ none. refl;
+    }
 
 pub tests_flags-requires : goal.tests_flags-requires
 tests_flags-requires g c =
@@ -70,11 +66,15 @@ test_flags-requires-clause-probes g c =
     (subst (λ k. c.index-i.result < k) (sym (length-set c.self.inside.processors.items c.index-i.result c.step_internal.new.self)) within) c.index-then-tests_flags.ensures in
     ap (λ (m : MachineState). need (processor_of c.args.n m)) same ∙ (ap need (sym again) ∙ c.if-tests_flags.ensures ∙ ap (λ p. if has_channel p c.next_instruction-next.result.1 then Channel c.next_instruction-next.result.1 Probe else Local) (ap (λ (pp : Processor). pp.profile) (again ∙ sym once_more) ∙ sym c.profile-profile.ensures))
 
-pub returns-then-tests_flags-clause-ok : goal.returns-then-tests_flags-clause-ok
-returns-then-tests_flags-clause-ok g c = c.test_flags.ensures.stepped ∙ ap (stepped c.args.n) (same_machine c.index-i.result c.self.view_is c.index_mut.ensures.value c.if-step_internal.ensures.otherwise)
-
-pub returns-then-tests_flags-clause-outcome : goal.returns-then-tests_flags-clause-outcome
-returns-then-tests_flags-clause-outcome g c = sym c.test_flags.ensures.outcome ∙ ap (step_outcome c.args.n) (same_machine c.index-i.result c.self.view_is c.index_mut.ensures.value c.if-step_internal.ensures.otherwise)
+pub returns-then-tests_flags-clause-step : goal.returns-then-tests_flags-clause-step
+returns-then-tests_flags-clause-step g c =
+    let same = same_machine c.index-i.result c.self.view_is c.index_mut.ensures.value c.if-step_internal.ensures.otherwise in
+    record {
+      ok = c.test_flags.ensures.stepped ∙ ap (stepped c.args.n) same;
+      outcome = sym c.test_flags.ensures.outcome ∙ ap (step_outcome c.args.n) same;
+      refused = tt;
+      no_event = λ none. refl;
+    }
 
 pub invariant_of-self-else-tests_flags : goal.invariant_of-self-else-tests_flags
 invariant_of-self-else-tests_flags g c =
@@ -97,18 +97,10 @@ step_external-requires-clause-next g c =
     ] in
     subst (λ (pp : Processor). IsNext c.next_instruction-next.result.0 c.next_instruction-next.result.1 pp) (read ∙ ap (processor_of c.args.n) (sym same)) c.next_instruction-next.ensures
 
-pub returns-clause-ok : goal.returns-clause-ok
-returns-clause-ok g c =
+pub returns-clause-step : goal.returns-clause-step
+returns-clause-step g c =
     let same : c.match-next.self ≡ c.args.self.now = elim c.match-next.branch [
       | in-Some+else-step_internal+else-tests_flags w ↦ w.self-is ∙ same_machine c.index-i.result c.self.view_is w.index_mut.ensures.value w.if-step_internal.ensures.otherwise
       | in_default w ↦ w.self-is
     ] in
-    subst (λ (m : MachineState). OnOk c.step_external.result (c.step_external.new.self ≡ stepped c.args.n m)) same c.step_external.ensures.ok
-
-pub returns-clause-outcome : goal.returns-clause-outcome
-returns-clause-outcome g c =
-    let same : c.match-next.self ≡ c.args.self.now = elim c.match-next.branch [
-      | in-Some+else-step_internal+else-tests_flags w ↦ w.self-is ∙ same_machine c.index-i.result c.self.view_is w.index_mut.ensures.value w.if-step_internal.ensures.otherwise
-      | in_default w ↦ w.self-is
-    ] in
-    subst (λ (m : MachineState). IfOk c.step_external.result (λ o. o ≡ step_outcome c.args.n m)) same c.step_external.ensures.outcome
+    subst (λ (m : MachineState). IsStep c.args.n c.step_external.result m c.step_external.new.self) same c.step_external.ensures.step

@@ -24,7 +24,7 @@ loop-self-preserved g c =
     let running = get_or c.args.next.now c.loop-self.place 0 in
     let p = c.args.self.now.profile in
     let turn : processor_in_turn p running ≡ c.at.result = in_turn_at p running (omega arith) ∙ sym c.at.ensures.number in
-    let ok : c.step_in_barrel.new.self ≡ stepped (processor_in_turn p running) c.pass_to-in-loop-self.new.self = c.in-Ok.ensures.ok ∙ ap (λ n. stepped n c.pass_to-in-loop-self.new.self) (sym turn) in
+    let ok : c.step_in_barrel.new.self ≡ stepped (processor_in_turn p running) c.pass_to-in-loop-self.new.self = c.in-Ok.ensures.step.ok ∙ ap (λ n. stepped n c.pass_to-in-loop-self.new.self) (sym turn) in
     let passed : c.pass_to-in-loop-self.new.self ≡ run (barrel p running) c.args.self.now = c.pass_to-in-loop-self.ensures.ran p c.args.self.now (omega arith) c.loop-self.invariant.ran in
     let P : MachineState → Type 0 = λ m. PassesOverRest c.args.next.now m.processors in
     record {
@@ -39,8 +39,8 @@ returns-in_default-clause-cut g c =
     let running = get_or c.args.next.now c.loop-self.place 0 in
     let p = c.args.self.now.profile in
     let turn : processor_in_turn p running ≡ c.at.result = in_turn_at p running (omega arith) ∙ sym c.at.ensures.number in
-    let same : c.step_in_barrel.new.self ≡ c.pass_to-in-loop-self.new.self = c.in_default.ensures.unchanged_after_memory in
-    let made : IsSome (step_event c.at.result c.pass_to-in-loop-self.new.self) = some_event _ c.step_in_barrel.result (rw c.in_default.is refl) c.step_in_barrel.ensures.no_event in
+    let same : c.step_in_barrel.new.self ≡ c.pass_to-in-loop-self.new.self = c.in_default.ensures.step.refused in
+    let made : IsSome (step_event c.at.result c.pass_to-in-loop-self.new.self) = some_event _ c.step_in_barrel.result (rw c.in_default.is refl) c.step_in_barrel.ensures.step.no_event in
     record {
       ran = same ∙ c.pass_to-in-loop-self.ensures.ran p c.args.self.now (omega arith) c.loop-self.invariant.ran;
       within = omega arith;

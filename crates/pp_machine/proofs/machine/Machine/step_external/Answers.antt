@@ -63,50 +63,41 @@ invariant_of-self-in-Write g c = record {
   headline = c.self.invariant.headline;
 }
 
-pub returns-in_ok-reply-in-Channel-clause-ok : goal.returns-in_ok-reply-in-Channel-clause-ok
-returns-in_ok-reply-in-Channel-clause-ok g c =
+pub returns-in_ok-reply-in-Channel-clause-step : goal.returns-in_ok-reply-in-Channel-clause-step
+returns-in_ok-reply-in-Channel-clause-step g c =
     let n = c.args.n in
     let m = c.args.self.now in
     let x : Need = Channel c.in-Channel.channel c.in-Channel.op in
     let needs : need (processor_of c.args.n c.args.self.now) ≡ x = ap need (sym (own_processor c.args.n c.self.view_is c.index-i.ensures.place (omega (arith, c.index-i.ensures.below, c.self.invariant.processors)) c.index.ensures)) ∙ (sym c.wants_next.ensures ∙ c.in-Channel.is) in
     let own = own_processor c.args.n (c.self-in-Channel.view_is ∙ c.in_ok-reply-in-Channel.ensures.ok) c.index-i.ensures.place (omega (arith, c.index-i.ensures.below, c.self-in-Channel.invariant.processors)) c.index_mut-in-Channel.ensures.value in
-    taken_by n (answers.Channel c.in_ok-reply-in-Channel.reply) (c.self-in-Channel.view_is ∙ c.in_ok-reply-in-Channel.ensures.ok) c.index-i.ensures.place own c.give_reply-outcome.ensures.after c.count_turn-in-Channel.ensures.turn
-    ∙ (ap (λ (y : Answer). taken n y (served n x m)) c.in_ok-reply-in-Channel.ensures.reply ∙ sym (stepped_for n x m needs))
+    record {
+      ok = taken_by n (answers.Channel c.in_ok-reply-in-Channel.reply) (c.self-in-Channel.view_is ∙ c.in_ok-reply-in-Channel.ensures.ok) c.index-i.ensures.place own c.give_reply-outcome.ensures.after c.count_turn-in-Channel.ensures.turn
+        ∙ (ap (λ (y : Answer). taken n y (served n x m)) c.in_ok-reply-in-Channel.ensures.reply ∙ sym (stepped_for n x m needs));
+      outcome = c.give_reply-outcome.ensures.outcome
+        ∙ (ap (λ (pp : Processor). outcome pp (answers.Channel c.in_ok-reply-in-Channel.reply)) own
+        ∙ (ap (λ (y : Answer). outcome (processor_of n m) y) c.in_ok-reply-in-Channel.ensures.reply ∙ sym (outcome_for n x m needs)));
+      refused = tt;
+      no_event = λ none. refl;
+    }
 
-pub returns-in_ok-reply-in-Channel-clause-outcome : goal.returns-in_ok-reply-in-Channel-clause-outcome
-returns-in_ok-reply-in-Channel-clause-outcome g c =
-    let n = c.args.n in
-    let m = c.args.self.now in
-    let x : Need = Channel c.in-Channel.channel c.in-Channel.op in
-    let needs : need (processor_of c.args.n c.args.self.now) ≡ x = ap need (sym (own_processor c.args.n c.self.view_is c.index-i.ensures.place (omega (arith, c.index-i.ensures.below, c.self.invariant.processors)) c.index.ensures)) ∙ (sym c.wants_next.ensures ∙ c.in-Channel.is) in
-    let own = own_processor c.args.n (c.self-in-Channel.view_is ∙ c.in_ok-reply-in-Channel.ensures.ok) c.index-i.ensures.place (omega (arith, c.index-i.ensures.below, c.self-in-Channel.invariant.processors)) c.index_mut-in-Channel.ensures.value in
-    c.give_reply-outcome.ensures.outcome
-    ∙ (ap (λ (pp : Processor). outcome pp (answers.Channel c.in_ok-reply-in-Channel.reply)) own
-    ∙ (ap (λ (y : Answer). outcome (processor_of n m) y) c.in_ok-reply-in-Channel.ensures.reply ∙ sym (outcome_for n x m needs)))
-
-pub returns-in-Read-clause-ok : goal.returns-in-Read-clause-ok
-returns-in-Read-clause-ok g c =
+pub returns-in-Read-clause-step : goal.returns-in-Read-clause-step
+returns-in-Read-clause-step g c =
     let n = c.args.n in
     let m = c.args.self.now in
     let x : Need = Read c.in-Read.address in
     let needs : need (processor_of c.args.n c.args.self.now) ≡ x = ap need (sym (own_processor c.args.n c.self.view_is c.index-i.ensures.place (omega (arith, c.index-i.ensures.below, c.self.invariant.processors)) c.index.ensures)) ∙ (sym c.wants_next.ensures ∙ c.in-Read.is) in
     let own = own_processor c.args.n c.self.view_is c.index-i.ensures.place (omega (arith, c.index-i.ensures.below, c.self.invariant.processors)) c.index_mut-in-Read.ensures.value in
     let word : answers.Read c.read-word.result ≡ answer_to x m = ap answers.Read (c.read-word.ensures ∙ ap (λ (k : MachineState). slice_get k.central c.in-Read.address) c.self.view_is) in
-    taken_by n (answers.Read c.read-word.result) c.self.view_is c.index-i.ensures.place own c.give_central.ensures.after c.count_turn-in-Read.ensures.turn
-    ∙ (ap (λ (y : Answer). taken n y m) word ∙ sym (stepped_for n x m needs))
+    record {
+      ok = taken_by n (answers.Read c.read-word.result) c.self.view_is c.index-i.ensures.place own c.give_central.ensures.after c.count_turn-in-Read.ensures.turn
+        ∙ (ap (λ (y : Answer). taken n y m) word ∙ sym (stepped_for n x m needs));
+      outcome = sym (outcome_for n x m needs ∙ (ap (λ (y : Answer). outcome (processor_of n m) y) (sym word) ∙ (ap (λ (pp : Processor). outcome pp (answers.Read c.read-word.result)) (sym own) ∙ c.give_central.ensures.moved)));
+      refused = tt;
+      no_event = λ none. refl;
+    }
 
-pub returns-in-Read-clause-outcome : goal.returns-in-Read-clause-outcome
-returns-in-Read-clause-outcome g c =
-    let n = c.args.n in
-    let m = c.args.self.now in
-    let x : Need = Read c.in-Read.address in
-    let needs : need (processor_of c.args.n c.args.self.now) ≡ x = ap need (sym (own_processor c.args.n c.self.view_is c.index-i.ensures.place (omega (arith, c.index-i.ensures.below, c.self.invariant.processors)) c.index.ensures)) ∙ (sym c.wants_next.ensures ∙ c.in-Read.is) in
-    let own = own_processor c.args.n c.self.view_is c.index-i.ensures.place (omega (arith, c.index-i.ensures.below, c.self.invariant.processors)) c.index_mut-in-Read.ensures.value in
-    let word : answers.Read c.read-word.result ≡ answer_to x m = ap answers.Read (c.read-word.ensures ∙ ap (λ (k : MachineState). slice_get k.central c.in-Read.address) c.self.view_is) in
-    sym (outcome_for n x m needs ∙ (ap (λ (y : Answer). outcome (processor_of n m) y) (sym word) ∙ (ap (λ (pp : Processor). outcome pp (answers.Read c.read-word.result)) (sym own) ∙ c.give_central.ensures.moved)))
-
-pub returns-in-Write-clause-ok : goal.returns-in-Write-clause-ok
-returns-in-Write-clause-ok g c =
+pub returns-in-Write-clause-step : goal.returns-in-Write-clause-step
+returns-in-Write-clause-step g c =
     let n = c.args.n in
     let m = c.args.self.now in
     let x : Need = Write c.in-Write.address c.in-Write.word in
@@ -118,18 +109,10 @@ returns-in-Write-clause-ok g c =
     ∙ ap (λ (k : MachineState). answers.Wrote (nat_lt c.in-Write.address (length k.central))) c.self.view_is) in
     let view = ap (λ (k : MachineState). record k { central = slice_set k.central c.in-Write.address c.in-Write.word }) c.self.view_is in
     let turn = rw c.write-written.ensures.written at c.count_turn-in-Write.ensures.turn in
-    taken_by n (answers.Wrote (nat_lt c.get.result c.size.result)) view c.index-i.ensures.place own c.give_written.ensures.after turn
-    ∙ (ap (λ (y : Answer). taken n y (served n x m)) within ∙ sym (stepped_for n x m needs))
-
-pub returns-in-Write-clause-outcome : goal.returns-in-Write-clause-outcome
-returns-in-Write-clause-outcome g c =
-    let n = c.args.n in
-    let m = c.args.self.now in
-    let x : Need = Write c.in-Write.address c.in-Write.word in
-    let needs : need (processor_of c.args.n c.args.self.now) ≡ x = ap need (sym (own_processor c.args.n c.self.view_is c.index-i.ensures.place (omega (arith, c.index-i.ensures.below, c.self.invariant.processors)) c.index.ensures)) ∙ (sym c.wants_next.ensures ∙ c.in-Write.is) in
-    let own = own_processor c.args.n c.self.view_is c.index-i.ensures.place (omega (arith, c.index-i.ensures.below, c.self.invariant.processors)) c.index_mut-in-Write.ensures.value in
-    let within : answers.Wrote (nat_lt c.get.result c.size.result) ≡ answer_to x m =
-    ap (λ a. answers.Wrote (nat_lt a c.size.result)) c.get.ensures.value
-    ∙ (ap (λ k. answers.Wrote (nat_lt c.in-Write.address k)) c.size.ensures.value
-    ∙ ap (λ (k : MachineState). answers.Wrote (nat_lt c.in-Write.address (length k.central))) c.self.view_is) in
-    sym (outcome_for n x m needs ∙ (ap (λ (y : Answer). outcome (processor_of n m) y) (sym within) ∙ (ap (λ (pp : Processor). outcome pp (answers.Wrote (nat_lt c.get.result c.size.result))) (sym own) ∙ c.give_written.ensures.moved)))
+    record {
+      ok = taken_by n (answers.Wrote (nat_lt c.get.result c.size.result)) view c.index-i.ensures.place own c.give_written.ensures.after turn
+        ∙ (ap (λ (y : Answer). taken n y (served n x m)) within ∙ sym (stepped_for n x m needs));
+      outcome = sym (outcome_for n x m needs ∙ (ap (λ (y : Answer). outcome (processor_of n m) y) (sym within) ∙ (ap (λ (pp : Processor). outcome pp (answers.Wrote (nat_lt c.get.result c.size.result))) (sym own) ∙ c.give_written.ensures.moved)));
+      refused = tt;
+      no_event = λ none. refl;
+    }
