@@ -16,7 +16,7 @@ use Rattle.pp_machine.specs.InstructionTable.{row, works_on_channel}
 use Rattle.pp_machine.specs.NeedAndEffect.{answered, if_running, next_step, processor_after, step_of}
 use Rattle.pp_machine.specs.Operand.{index, lower_six, operation, second_word}
 use Rattle.pp_machine.specs.PpMemory.{IsMemory}
-use Rattle.pp_machine.specs.Processor.{Processor, word_at}
+use Rattle.pp_machine.specs.Processor.{Processor, is_running, word_at}
 use Rattle.pp_machine.specs.Profile.{has_channel}
 use Rattle.pp_machine.specs.Step.{Step, local, probes, takes, does, reads, writes}
 use Rattle.pp_machine.specs.declared.answer.Answer.{Answer}
@@ -27,7 +27,7 @@ use Rattle.pp_machine.specs.declared.block.BlockKind.TheVariants.{CentralIn, Cen
 use Rattle.pp_machine.specs.declared.pp_state.PpState.{PpState}
 use Rattle.pp_machine.specs.declared.pp_state.PpState.TheVariants.{Running}
 use Rattle.pp_ends.specs.declared.stand.Stand.{Stand}
-use Rattle.pp_ends.specs.Stand.{is_running, next_in, place_before, stand_of}
+use Rattle.pp_ends.specs.Stand.{next_in, place_before, stand_of}
 use Rattle.pp_ends.proofs.MoveLemmas.{goes_by, goes_by_two, five_on}
 
 -- if it stands the same, it is the same

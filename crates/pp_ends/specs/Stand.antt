@@ -1,20 +1,14 @@
 -- What a step that moves changes of its processor, whatever it is. (Private contracts alone cite
 -- this.)
-use Rattle.std.specs.Prelude.{ℕ, ◌+◌, ◌%◌, Bool, true, false, Option, None, Some}
+use Rattle.std.specs.Prelude.{ℕ, ◌+◌, ◌%◌, Option, None, Some}
 use Rattle.pp_word.specs.Address.{place_count}
-use Rattle.pp_machine.specs.Processor.{Processor, word_at}
+use Rattle.pp_machine.specs.Processor.{Processor, is_running, word_at}
 use Rattle.pp_machine.specs.declared.block.Block.{Block}
-use Rattle.pp_machine.specs.declared.pp_state.PpState.{PpState}
-use Rattle.pp_machine.specs.declared.pp_state.PpState.TheVariants.{Running}
 use Rattle.pp_ends.specs.declared.stand.Stand.{Stand}
 
 -- the place before this one: 7777 (octal) comes before 0000
 abbrev pub place_before : ℕ → ℕ
 place_before p = (p + 0o7777) % place_count
-
-abbrev pub is_running : PpState → Bool
-is_running Running = true
-is_running state = false
 
 -- the next place of a block in progress
 abbrev pub next_in : Option Block → Option ℕ

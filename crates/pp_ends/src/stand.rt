@@ -2,9 +2,9 @@
 
 ghost use Rattle.std.specs.Prelude.{◌≡◌, ◌↔◌, IsTrue};
 ghost use Rattle.pp_machine.specs.Processor.{IsProcessor};
-ghost use Rattle.pp_ends.specs.Stand.{is_running, next_in, stand_of};
+ghost use Rattle.pp_ends.specs.Stand.{next_in, stand_of};
 
-use pp_machine::{Block, Pp, PpState};
+use pp_machine::{Block, Pp};
 use pp_word::Word12;
 
 /// Where a processor stands: a step that moves changes some of this. So a step need not be compared
@@ -29,7 +29,7 @@ impl Stand {
         let place = Word12::truncated(u32::from(p.get()) + 0o7777);
         Stand {
             p,
-            running: is_running(pp.state()),
+            running: pp.state().is_running(),
             block: next_in(&pp.block()),
             before: pp.get(place),
         }
@@ -40,15 +40,6 @@ impl Stand {
         ensures { IsTrue result ↔ (self.now ≡ other.now) }
     {
         *self == *other
-    }
-}
-
-fn is_running(state: PpState) -> bool
-    ensures { result ≡ is_running state }
-{
-    match state {
-        PpState::Running => true,
-        PpState::Stopped | PpState::Fault(_) => false,
     }
 }
 

@@ -61,7 +61,7 @@ module _ (profile : Profile) where
   abbrev pub over : List ℕ → ℕ → Processor
   over memory a = record { profile = profile; memory = memory; a = a; p = next_place (slice_index memory 0); state = Running; block = None }
 
-  -- a block with so many words left: midway, or over
+  -- a block with some words left: midway, or over
   abbrev pub position : ℕ → List ℕ → ℕ → ℕ → BlockKind → ℕ → Processor
   position left memory a p kind place = if left == 0 then over memory a else midway memory a p kind place
 

@@ -126,7 +126,7 @@ round_to p (suc place) m ps t within bound quiet =
     ∙ ap (λ i. beside (slice_set (stepping place m ps) i (step_beside m pp)) (counted u) m) here
     ∙ ap (λ v. beside (stepping (suc place) m ps) v m) count
 
--- the processors after so many quiet steps of each of the first
+-- the processors after a number of quiet steps of each of the first
 abbrev ran : ℕ → ℕ → MachineState → List Processor → List Processor
 ran zero round m ps = ps
 ran (suc steps) round m ps = stepping round m (ran steps round m ps)
@@ -169,7 +169,7 @@ rounds_ran p (suc steps) m all bound quiet =
     ∙ round_to p round m ps t (omega arith) below quiet_now
     ∙ ap (λ u. beside (ran (suc steps) round m m.processors) u m) count
 
--- where the processors of a round went so many quiet steps ahead, and the turns are counted, the machine is as after whole rounds
+-- where the processors of a round went some quiet steps ahead, and the turns are counted, the machine is as after whole rounds
 pub rounds_ahead : (p : Profile) (steps : ℕ) (m : MachineState) (new : List Processor) → processors_in p ≤ length m.processors → m.turns ≤ 2 ^ 64 - 1 → AreAhead steps (processors_in p) 0 m m.processors new
     → beside new (min (m.turns + steps * processors_in p) (2 ^ 64 - 1)) m ≡ run (whole_rounds p steps) m
 rounds_ahead p steps m new all bound ahead =

@@ -92,7 +92,7 @@ passes_from_rest next place running processors inside rests so_far =
 pub passes_from_start : (next : List ℕ) (running : ℕ) (processors : List Processor) → PassesFrom next 0 running processors → PassesOverRest next processors
 passes_from_start next running processors all = λ place named. all.further place (omega arith) named
 
--- a machine that has counted so many turns more; the greatest count stays
+-- a machine that has counted some turns more; the greatest count stays
 abbrev passed : ℕ → MachineState → MachineState
 passed turns m = record m { turns = min (m.turns + turns) (2 ^ 64 - 1) }
 

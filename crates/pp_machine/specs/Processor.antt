@@ -1,6 +1,6 @@
 -- A peripheral processor as contracts see it.
 -- (Manual 60100000, peripheral processors: memory, the accumulator A, the program address P.)
-use Rattle.std.specs.Prelude.{◌≡◌, ℕ, ◌<◌, ◌≤◌, ◌^◌, List, Option, None, Some, slice_index, ◌≢◌}
+use Rattle.std.specs.Prelude.{◌≡◌, ℕ, Bool, true, false, ◌<◌, ◌≤◌, ◌^◌, List, Option, None, Some, slice_index, ◌≢◌}
 use Rattle.pp_machine.specs.PpMemory.{IsMemory, empty_memory}
 use Rattle.pp_machine.specs.declared.block.Block.{Block}
 use Rattle.pp_machine.specs.declared.block.BlockKind.{BlockKind}
@@ -17,6 +17,10 @@ pub record Processor : Type 0 where
   pub p : ℕ
   pub state : PpState
   pub block : Option Block
+
+abbrev pub is_running : PpState → Bool
+is_running Running = true
+is_running state = false
 
 -- the word at a place
 abbrev pub word_at : Processor → ℕ → ℕ

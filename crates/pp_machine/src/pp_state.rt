@@ -12,6 +12,21 @@ pub enum PpState {
     Fault(u8),
 }
 
+impl PpState {
+    ghost use Rattle.std.specs.Prelude.{◌≡◌};
+    ghost use Rattle.pp_machine.specs.Processor.{is_running};
+
+    /// Whether it is `Running`.
+    pub fn is_running(self) -> bool
+        ensures { result ≡ is_running self }
+    {
+        match self {
+            PpState::Running => true,
+            PpState::Stopped | PpState::Fault(_) => false,
+        }
+    }
+}
+
 /// Fault 1: EXN, the exchange jump, which needs a central processor.
 pub const EXCHANGE_JUMP: u8 = 1;
 

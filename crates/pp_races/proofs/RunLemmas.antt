@@ -98,7 +98,7 @@ module _ (ns : List ℕ) (m : MachineState) (each : length m.histories ≡ chann
         ];
       }
 
--- what is kept of a run after t turns of so many, whose findings have been taken away
+-- what is kept of a run after t of its turns, whose findings have been taken away
 pub record IsWatchedRun {A : Type 0} (p : Profile) (turns t : ℕ) (m now : MachineState) (tables : WatchTables A) : Type 0 where
   pub ran : now ≡ run (barrel p t) m
   pub kept : AreTables tables now (forgotten (watched (barrel p t) m unwatched))

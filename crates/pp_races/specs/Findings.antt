@@ -5,13 +5,11 @@ use Rattle.pp_channel.specs.Answer.{flags_of}
 use Rattle.pp_machine.specs.MachineState.{MachineState, processor_of, history_of}
 use Rattle.pp_machine.specs.NeedAndEffect.{need, processor_after}
 use Rattle.pp_machine.specs.PpNo.{each_processor}
-use Rattle.pp_machine.specs.Processor.{Processor, word_at}
+use Rattle.pp_machine.specs.Processor.{Processor, is_running, word_at}
 use Rattle.pp_machine.specs.Run.{run}
 use Rattle.pp_machine.specs.declared.answer.Answer.{Answer}
 use Rattle.pp_machine.specs.declared.need.Need.{Need}
 use Rattle.pp_machine.specs.declared.need.Need.TheVariants.{Nothing, Local, Channel}
-use Rattle.pp_machine.specs.declared.pp_state.PpState.{PpState}
-use Rattle.pp_machine.specs.declared.pp_state.PpState.TheVariants.{Running}
 use Rattle.pp_machine.specs.declared.profile.Profile.{Profile}
 use Rattle.pp_machine.specs.declared.trace.Trace.{Trace}
 use Rattle.pp_races.specs.OtherFlags.{is_same, position_of, waits_at}
@@ -32,10 +30,6 @@ abbrev pub same_profile : Profile → Profile → Bool
 same_profile Profile.Ten Profile.Ten = true
 same_profile Profile.Twenty Profile.Twenty = true
 same_profile one other = false
-
-abbrev pub is_running : PpState → Bool
-is_running Running = true
-is_running state = false
 
 -- whether a running processor is the same after a step that needs nothing from outside: it runs on,
 -- and P, A, the block and the 4096 words of memory stay

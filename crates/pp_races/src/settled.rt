@@ -7,7 +7,7 @@ ghost use Rattle.pp_machine.specs.NeedAndEffect.{need, processor_after};
 ghost use Rattle.pp_machine.specs.declared.answer.Answer.{Answer};
 ghost use Rattle.pp_machine.specs.PpNo.{names_processor};
 ghost use Rattle.pp_machine.specs.declared.need.Need.{Need};
-ghost use Rattle.pp_races.specs.Findings.{end_by_need, end_of, is_running, same_profile, same_words, stays_running, turns_in_place};
+ghost use Rattle.pp_races.specs.Findings.{end_by_need, end_of, same_profile, same_words, stays_running, turns_in_place};
 ghost use Rattle.pp_races.specs.Soundness.{TurnTestIsExact};
 ghost use Rattle.pp_races.specs.Spans.{Indexes};
 ghost use Rattle.pp_races.specs.Tables.{entry_count, AreLow};
@@ -21,7 +21,7 @@ use crate::position::{Position, waits_at};
 use crate::trace_index::TraceIndex;
 use crate::watch::entry_place;
 use pp_channel::{ChanOp, ChannelNo, Memory};
-use pp_machine::{Answer, Machine, Need, PROCESSORS, Pp, PpNo, PpState, Profile};
+use pp_machine::{Answer, Machine, Need, PROCESSORS, Pp, PpNo, Profile};
 use pp_word::Word12;
 use std::alloc::Allocator;
 
@@ -50,21 +50,12 @@ fn same_profile(one: Profile, other: Profile) -> bool
     }
 }
 
-fn is_running(state: PpState) -> bool
-    ensures { result ≡ is_running state }
-{
-    match state {
-        PpState::Running => true,
-        PpState::Stopped | PpState::Fault(_) => false,
-    }
-}
-
 /// Whether a running processor is the same after a step.
 fn stays_running(pp: &Pp, after: &Pp) -> bool
     ensures { result ≡ stays_running pp.now after.now }
 {
     same_profile(after.profile(), pp.profile())
-        && is_running(after.state())
+        && after.state().is_running()
         && after.a().get() == pp.a().get()
         && Position::of(after).is_same(&Position::of(pp))
         && same_words(after, pp)

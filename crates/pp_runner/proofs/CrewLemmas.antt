@@ -81,7 +81,7 @@ pub not_given_up : {A : Type 0} (patience : ℕ) (line : LineState) (finish : En
     → ended.0.finish ≡ finish → (ended.0.finish ≡ Patience → length line.view.found + patience ≤ length ended.1.view.found)
 not_given_up patience line finish ended other was = λ is. absurd (other (sym was ∙ is))
 
--- the processor of the place behind so many
+-- the processor of the place after a number of others
 place_behind : (n place : ℕ) → n ≡ processor_number place → place < processor_count → processor_index n ≡ place
 place_behind n place is below = ap processor_index is ∙ processor_places.place_of_number place below
 

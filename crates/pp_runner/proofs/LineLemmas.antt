@@ -156,7 +156,7 @@ operated_again tries each line mid after a b =
     let next : tries + 1 ≡ suc tries = omega arith in
     subst (λ (n : ℕ). HasOperated n line after) (sym (ap (λ n. n * each) next ∙ suc-mul tries each)) (operated_twice (tries * each) each line mid after a b)
 
--- so many tries of a step, by a count of all tries
+-- a number of tries of a step, by a count of all tries
 pub operated_tries : (first last made each : ℕ) (line after : LineState) → last ≡ first + made → HasOperated (made * each) line after → HasOperated ((last - first) * each) line after
 operated_tries first last made each line after count a =
     let difference : made ≡ last - first = omega (arith, count) in

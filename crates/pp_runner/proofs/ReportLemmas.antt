@@ -66,7 +66,7 @@ module _ {A : Type 0} (size steps room : ℕ) (family : LineState) where
   ended_begun loads crew happened has all =
       all_entries (λ entry. happened entry.channel ≤ entry.number) crew (ended_each (λ ended. NoneOlder happened ended.1.log.entries) (begun_one happened has) loads crew all)
 
--- What workers leave beside these lines: none ended as worn but at a channel of so many events, and what they wrote are the writes among their accesses.
+-- What workers leave beside these lines: none ended as worn without cause, and what they wrote are the writes among their accesses.
 pub record AreLeft {A : Type 0} (loads : List Processor) (size steps : ℕ) (happened : ℕ → ℕ) (order : List Access) (lines : List LineState) (ws : List (Worker A)) : Type 0 where
   pub workers : AreWorkers loads size steps ws
   pub worn : All (λ w. WornWithCause happened w.finish w.pp) ws

@@ -1,7 +1,7 @@
 //! Reading up to a limit or to the end. No error is tried again, except that a reader which is read
 //! to its end may be interrupted.
 
-ghost use Rattle.std.specs.Prelude.{◌≡◌, ◌≤◌, ◌<◌, ℕ, List, length, OnOk, OnErr, IfOk, IfErr};
+ghost use Rattle.std.specs.Prelude.{◌≤◌, ◌<◌, ℕ, List, length, OnOk, IfOk, IfErr};
 ghost use Rattle.std.specs.Io.KnownBytes.{Consumes, IsAtEnd};
 ghost use Rattle.pp_sim.specs.TextAnswer.{IsReadFault, most_bytes};
 

@@ -131,7 +131,7 @@ neighbours_are before after (suc most) place = by (neighbours_are before after m
 abbrev pub words_before : List ℕ → List ℕ → ℕ → List (ℕ × ℕ)
 words_before before after count = flat_map words_set (flat_map (line_from before after) (range_with_len 0 count))
 
--- so many words of the line before stand from a place on
+-- a number of words of the line before stand from a place on
 pub words_after : List ℕ → List ℕ → ℕ → ℕ
 words_after before after place = cond (eqb (position_on_line before after place) 0) 0 (length (neighbours before after (8 - position_on_line before after place) place))
 

@@ -15,7 +15,7 @@ use Rattle.pp_run.specs.RunStepLaws.{barrel_steps_more, length-barrel_steps, run
 use Rattle.pp_steps.specs.Choice.{chosen_steps, is_chosen}
 use Rattle.pp_steps.specs.declared.choice.Choice.{Choice}
 
--- the step of processor k after so many turns of the barrel
+-- the step of processor k after some turns of the barrel
 abbrev pub step_in : Profile → ℕ → MachineState → ℕ → RunStep
 step_in p turn m k = record { processor = k; before = run (barrel p turn) m }
 
@@ -40,7 +40,7 @@ few_chosen choice p turns m =
 
 -- ---- the turns to come
 
--- the steps chosen after so many turns of all
+-- the steps chosen after some turns of all
 abbrev pub chosen_from : Choice → Profile → ℕ → ℕ → MachineState → List RunStep
 chosen_from choice p turn turns m = filter (is_chosen choice) (run_steps (drop turn (barrel p turns)) (run (barrel p turn) m))
 

@@ -87,7 +87,7 @@ step_line n before after =
     ++ centrals_text before.central after.central ++ channel_text (need old) before
     ++ end_text new.state ++ line_end
 
--- the line of so many held steps in a row of processor n, by the machine before the first
+-- the line of a number of held steps in a row of processor n, by the machine before the first
 unfoldable pub held_line : ℕ → MachineState → ℕ → List ℕ
 held_line n m count =
     let pp = processor_of n m in

@@ -86,7 +86,7 @@ same_digit m n e = let same : 48 + m ≡ 48 + n = cc in omega (arith, same)
 same_number : (base m n : ℕ) → m / base ≡ n / base → m % base ≡ n % base → m ≡ n
 same_number base m n upper last = sym (div-add-mod m base) ∙ (ap (λ u. base * u + m % base) upper ∙ ap (λ l. base * (n / base) + l) last) ∙ div-add-mod n base
 
--- numbers that so many octal digits tell
+-- numbers that a given count of octal digits can tell
 pub octal_tells : (width m n : ℕ) → m < 8 ^ width → n < 8 ^ width → octal width m ≡ octal width n → m ≡ n
 octal_tells zero m n low other e = omega (arith, low, other)
 octal_tells (suc width) m n low other e =

@@ -47,16 +47,7 @@ impl Pp {
         ensures running { OnTrue result (self.now.state ≡ PpState.Running) }
         ensures free { OnTrue result (self.now.block ≡ None) }
     {
-        self.is_running() && self.block.is_none()
-    }
-
-    pub(crate) fn is_running(&self) -> bool
-        ensures { OnTrue result (self.now.state ≡ PpState.Running) }
-    {
-        match self.state {
-            PpState::Running => true,
-            PpState::Stopped | PpState::Fault(_) => false,
-        }
+        matches!(self.state, PpState::Running) && self.block.is_none()
     }
 
     /// The operation of the instruction at P, its next step, and the lower six bits of its word.

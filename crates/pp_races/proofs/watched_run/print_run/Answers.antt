@@ -55,7 +55,7 @@ loop-turn-preserved g c =
       found = c.clear.new.self;
     })
     c.take_step.new.findings.items
-    c.turns-sound.ensures.sound.channels c.loop-turn-test.true is names (c.wants-need.ensures.need ∙ ap need c.pp.ensures) c.in-Ok-step.ensures.ok
+    c.turns-sound.ensures.sound.channels c.loop-turn-test.true is names (c.wants-need.ensures.need ∙ ap need c.pp.ensures) c.in-Ok-step.ensures.step.ok
     c.take_step.ensures.sound c.in-Ok.ensures.index
     (λ w are. rw (low_new, looks_new) (taken w (subst (λ (low : List Low). AreWatched now w low c.deref_mut-in-loop-turn.result.now tables.found.items) (sym low_is) (subst (λ (looks : List Looks). AreWatched now w tables.low.items looks tables.found.items) (sym looks_is) are))))
     (λ m w are. rw uses_new (used m w (subst (λ (uses : List WordUse). AreUses w uses) (sym uses_is) are)))

@@ -16,8 +16,8 @@ noted g c = rw (number g c, c.loop-turn.invariant.ran) at c.note-note.ensures
 made : (g : _) (c : In-Ok g) → IsMade (barrel_step c.args.machine.now c.loop-turn.turn) c.in_turn-n.result c.in-Ok.outcome c.step.new.self
 made g c = record {
   processor_is = sym (number g c);
-  outcome_is = rw (number g c, c.loop-turn.invariant.ran) at c.in-Ok.ensures.outcome;
-  after_is = rw (number g c, c.loop-turn.invariant.ran) at c.in-Ok.ensures.ok;
+  outcome_is = rw (number g c, c.loop-turn.invariant.ran) at c.in-Ok.ensures.step.outcome;
+  after_is = rw (number g c, c.loop-turn.invariant.ran) at c.in-Ok.ensures.step.ok;
 }
 
 ran : (g : _) (c : In-Ok g) → c.step.new.self ≡ run (barrel c.args.machine.now.profile (c.loop-turn.turn + 1)) c.args.machine.now
