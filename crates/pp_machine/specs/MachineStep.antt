@@ -84,5 +84,5 @@ step_event n m = event_for (need (processor_of n m)) m
 pub record IsStep (n : ℕ) (answer : Result Outcome Memory) (old new : MachineState) : Type 0 where
   pub ok : OnOk answer (new ≡ stepped n old)
   pub outcome : IfOk answer (λ o. o ≡ step_outcome n old)
-  pub refused : OnErr answer (new ≡ old)
+  pub unchanged_after_memory : OnErr answer (new ≡ old)
   pub no_event : IsNone (step_event n old) → IsOk answer

@@ -34,7 +34,7 @@ returns-then-step_internal-clause-step g c =
     record {
       ok = taken_by c.args.n answers.Local c.self.view_is c.index-i.ensures.place own c.if-step_internal.ensures.after c.count_turn.ensures.turn ∙ sym (stepped_alone c.args.n c.args.self.now local);
       outcome = sym (outcome_alone c.args.n c.args.self.now local (ap (λ pp. outcome pp answers.Local) (sym own) ∙ c.if-step_internal.ensures.moved));
-      refused = tt;
+      unchanged_after_memory = tt;
       no_event = λ none. refl;
     }
 
@@ -72,7 +72,7 @@ returns-then-tests_flags-clause-step g c =
     record {
       ok = c.test_flags.ensures.stepped ∙ ap (stepped c.args.n) same;
       outcome = sym c.test_flags.ensures.outcome ∙ ap (step_outcome c.args.n) same;
-      refused = tt;
+      unchanged_after_memory = tt;
       no_event = λ none. refl;
     }
 

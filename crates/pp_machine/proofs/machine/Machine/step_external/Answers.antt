@@ -76,7 +76,7 @@ returns-in_ok-reply-in-Channel-clause-step g c =
       outcome = c.give_reply-outcome.ensures.outcome
         ∙ (ap (λ (pp : Processor). outcome pp (answers.Channel c.in_ok-reply-in-Channel.reply)) own
         ∙ (ap (λ (y : Answer). outcome (processor_of n m) y) c.in_ok-reply-in-Channel.ensures.reply ∙ sym (outcome_for n x m needs)));
-      refused = tt;
+      unchanged_after_memory = tt;
       no_event = λ none. refl;
     }
 
@@ -92,7 +92,7 @@ returns-in-Read-clause-step g c =
       ok = taken_by n (answers.Read c.read-word.result) c.self.view_is c.index-i.ensures.place own c.give_central.ensures.after c.count_turn-in-Read.ensures.turn
         ∙ (ap (λ (y : Answer). taken n y m) word ∙ sym (stepped_for n x m needs));
       outcome = sym (outcome_for n x m needs ∙ (ap (λ (y : Answer). outcome (processor_of n m) y) (sym word) ∙ (ap (λ (pp : Processor). outcome pp (answers.Read c.read-word.result)) (sym own) ∙ c.give_central.ensures.moved)));
-      refused = tt;
+      unchanged_after_memory = tt;
       no_event = λ none. refl;
     }
 
@@ -113,6 +113,6 @@ returns-in-Write-clause-step g c =
       ok = taken_by n (answers.Wrote (nat_lt c.get.result c.size.result)) view c.index-i.ensures.place own c.give_written.ensures.after turn
         ∙ (ap (λ (y : Answer). taken n y (served n x m)) within ∙ sym (stepped_for n x m needs));
       outcome = sym (outcome_for n x m needs ∙ (ap (λ (y : Answer). outcome (processor_of n m) y) (sym within) ∙ (ap (λ (pp : Processor). outcome pp (answers.Wrote (nat_lt c.get.result c.size.result))) (sym own) ∙ c.give_written.ensures.moved)));
-      refused = tt;
+      unchanged_after_memory = tt;
       no_event = λ none. refl;
     }
