@@ -26,8 +26,8 @@ IsFlawOf opened before line (UnlawfulEvent c e state) =
     Fits opened before line × (event_on c line ≡ Some e)
     × (state ≡ channel_state (history opened before c))
     × ¬ IsLawful (history opened before c ++ e ∷ [])
-IsFlawOf opened before line (WrongState c told state) =
-    (line ≡ Standing c told) × (state ≡ channel_state (history opened before c)) × (told ≢ state)
+IsFlawOf opened before line (WrongState c shown state) =
+    (line ≡ Standing c shown) × (state ≡ channel_state (history opened before c)) × (shown ≢ state)
 
 -- the same of a line by what it says; if it says nothing it is no line of a trace
 abbrev pub IsFlaw : List Bool → List TraceLine → Option TraceLine → TraceFlaw → Type 0

@@ -90,10 +90,10 @@ impl Judge {
                 }
                 self.happen(channel, event)
             }
-            TraceLine::Standing(channel, told) => {
+            TraceLine::Standing(channel, shown) => {
                 let state = self.standing_of(channel).state;
-                if told != state {
-                    return Err(TraceFlaw::WrongState(channel, told, state));
+                if shown != state {
+                    return Err(TraceFlaw::WrongState(channel, shown, state));
                 }
                 Ok(())
             }

@@ -8,8 +8,8 @@ use Rattle.pp_report.specs.PrintedReport.{author_place}
 
 -- the author known so far, or else this one if its log records the event
 abbrev pub or_known : Option ℕ → Bool → ℕ → Option ℕ
-or_known (Some known) told author = Some known
-or_known None told author = if told then Some author else None
+or_known (Some known) recorded author = Some known
+or_known None recorded author = if recorded then Some author else None
 
 -- the authors of a channel's events while none is known
 abbrev pub no_authors : List Event → List (Option ℕ)

@@ -39,10 +39,10 @@ abbrev pub shown_end : {Z : Type 0} → Worker Z → ShownEnd
 shown_end worker = record { p = worker.pp.p; a = worker.pp.a; finish = worker.finish }
 
 -- an event fits its line
-pub record FitsItsLine (told : PrintedEvent) : Type 0 where
-  pub number : told.number < 2 ^ 64
-  pub author : IsTrue (names_processor told.author)
-  pub word : HasTwelveBitWord told.event
+pub record FitsItsLine (printed : PrintedEvent) : Type 0 where
+  pub number : printed.number < 2 ^ 64
+  pub author : IsTrue (names_processor printed.author)
+  pub word : HasTwelveBitWord printed.event
 
 -- so does a worker
 pub record FitsItsEnd (shown : ShownEnd) : Type 0 where

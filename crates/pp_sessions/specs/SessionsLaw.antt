@@ -31,20 +31,20 @@ stretches_of c =
     ++ map (λ session. session_events session false) (option_to_list c.open_session)
 
 -- what the line of a stretch says is a session: whether it ended, its words, the lone last word
-pub record TellsSession (session : Session) (ended : Bool) (told : Tally) : Type 0 where
-  pub is_session : told.is_session ≡ true
-  pub end : told.has_ended ≡ ended
-  pub put : told.put ≡ length session.passed + length (option_to_list session.lone)
-  pub taken : told.taken ≡ length session.passed
-  pub untaken : told.untaken ≡ session.lone
+pub record TellsSession (session : Session) (ended : Bool) (tally : Tally) : Type 0 where
+  pub is_session : tally.is_session ≡ true
+  pub end : tally.has_ended ≡ ended
+  pub put : tally.put ≡ length session.passed + length (option_to_list session.lone)
+  pub taken : tally.taken ≡ length session.passed
+  pub untaken : tally.untaken ≡ session.lone
 
 -- the line of a stretch says when its first event was, and when its last
-pub record TellsMoments (first : TimedEvent) (others : List TimedEvent) (told : Tally)
+pub record TellsMoments (first : TimedEvent) (others : List TimedEvent) (tally : Tally)
     : Type 0 where
-  pub from : told.from ≡ first.moment
-  pub to : Some told.to ≡ option_map (λ (e : TimedEvent). e.moment) (last_or (Some first) others)
+  pub from : tally.from ≡ first.moment
+  pub to : Some tally.to ≡ option_map (λ (e : TimedEvent). e.moment) (last_or (Some first) others)
 
 -- or it is an idle stretch of these function codes
-pub record TellsIdle (codes : List ℕ) (told : Tally) : Type 0 where
-  pub is_idle : told.is_session ≡ false
-  pub functions : told.events ≡ length codes
+pub record TellsIdle (codes : List ℕ) (tally : Tally) : Type 0 where
+  pub is_idle : tally.is_session ≡ false
+  pub functions : tally.events ≡ length codes

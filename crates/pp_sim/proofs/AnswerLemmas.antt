@@ -39,7 +39,7 @@ pub answers_after : (profile : Profile) (turns : ℕ) (text_after : List ℕ →
     → IsWritten text written old new → IsAnswerUnless profile NothingPrevents (IsTextAfter turns text_after) (answer_to written) bytes old new
 answers_after profile turns text_after bytes text deck after written old new meant ran holds is whole =
     answers_written profile NothingPrevents (IsTextAfter turns text_after) bytes text written old new
-    (record { deck = deck; meant = meant; told = record { told = is; headline = subst HoldsOnEachChannel ran holds } }) whole
+    (record { deck = deck; meant = meant; is = record { text_is = is; headline = subst HoldsOnEachChannel ran holds } }) whole
 
 -- the answer to the bytes that were read is that to the first bytes that the reader had
 told_answer : (profile : Profile) (before after old new : Option (List ℕ)) (Prevents : LoadedDeck → Busy → Type 0) (IsDeckText : LoadedDeck → List ℕ → Type 0) (front : List ℕ) (most : ℕ) (answer : Result (Unit {0}) TextFault)

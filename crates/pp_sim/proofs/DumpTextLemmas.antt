@@ -28,9 +28,9 @@ dumped_of turns deck profile source m is meant ran between goes_on =
     record {
       deck = deck;
       meant = meant;
-      told = record {
+      is = record {
         between = subst Between ran between;
-        told = ap (λ (m : MachineState). dump (record { machine = m; named = deck.named })) ran;
+        text_is = ap (λ (m : MachineState). dump (record { machine = m; named = deck.named })) ran;
         goes_on = goes_on_after turns deck profile source text is meant (subst GoesOn ran (goes_on between));
       };
     }

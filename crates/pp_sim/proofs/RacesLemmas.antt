@@ -10,4 +10,4 @@ use Rattle.pp_races.proofs.VerdictLemmas.{text_same}
 use Rattle.pp_sim.specs.TextOf.{IsRacesText}
 
 pub same_means : (turns : ℕ) (deck : LoadedDeck) (text before : List ℕ) → IsRacesText turns deck text → text ≡ before ++ verdict_line Same → IsDeterminate (barrel deck.machine.profile turns) deck.machine
-same_means turns deck text before is same = is.same (text_same (findings (barrel deck.machine.profile turns) deck.machine) before (sym is.told ∙ same))
+same_means turns deck text before is same = is.same (text_same (findings (barrel deck.machine.profile turns) deck.machine) before (sym is.text_is ∙ same))

@@ -39,7 +39,7 @@ pub record IsDoneWith (Z : Type 0) (work : Work) (status : ℕ)
     (before after old new : Option (List ℕ)) : Type 0 where
   pub answer : Result (Unit {0}) TextFault
   pub done : IsDone Z work answer before after old new
-  pub told : status ≡ status_of answer
+  pub status_is : status ≡ status_of answer
 
 -- so it was over some bytes, those of a file; or the status is 3, and nothing is written
 abbrev pub IsDoneOnFile : Type 0 → Work → ℕ → Option (List ℕ) → Option (List ℕ) → Type 0
@@ -92,7 +92,7 @@ pub record HasRefused (words : List Text) (status : ℕ) (before after old new :
   pub why : LineFault
   pub refused : IsRefused words why
   pub unread : Keeps before after
-  pub told : IsReported why status old new
+  pub reported : IsReported why status old new
 
 -- THE PROGRAM: it does the work that its words ask for, or refuses them
 abbrev pub IsRun : Type 0 → List Text → ℕ → Option (List ℕ) → Option (List ℕ) → Option (List ℕ)

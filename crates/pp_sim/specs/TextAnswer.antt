@@ -18,7 +18,7 @@ most_bytes = 1048577
 
 -- these bytes are no deck for this profile, by this fault, which is no lack of memory
 pub record IsFaultOf (profile : Profile) (bytes : List ℕ) (f : DeckFault) : Type 0 where
-  pub told : deck_meaning profile bytes ≡ Err f
+  pub refused : deck_meaning profile bytes ≡ Err f
   pub no_memory : f.code ≢ code.Memory
 
 -- the bytes mean a deck for such a machine, and x is what the relation gives for it: a text, or
@@ -27,7 +27,7 @@ pub record IsOfDeck {X : Type 0} (profile : Profile) (Tells : LoadedDeck → X �
     (bytes : List ℕ) (x : X) : Type 0 where
   pub deck : LoadedDeck
   pub meant : deck_meaning profile bytes ≡ Ok deck
-  pub told : Tells deck x
+  pub is : Tells deck x
 
 -- THE ANSWER to a deck of these bytes, for a machine of this profile, and what was written: a whole
 -- text of the deck, a first part of one, or nothing

@@ -35,14 +35,14 @@ use Rattle.pp_sim.specs.TextAnswer.{NothingPrevents}
 -- each channel's history is its opening history and then the trace's events on it, and keeps the
 -- law of sessions. And all that the machine then shows fits its lines, so that the text shows it
 pub record IsBarrelText (turns : ℕ) (deck : LoadedDeck) (text : List ℕ) : Type 0 where
-  pub told : text ≡ printed deck.named (run (barrel deck.machine.profile turns) deck.machine)
+  pub text_is : text ≡ printed deck.named (run (barrel deck.machine.profile turns) deck.machine)
   pub headline : HoldsOnEachChannel (run (barrel deck.machine.profile turns) deck.machine)
   pub fits : FitsItsText deck.named (run (barrel deck.machine.profile turns) deck.machine)
 
 -- the text of a loaded deck: its listing, which means the same deck for a machine of the same
 -- profile, if it is no longer than a deck may be
 pub record IsListText (deck : LoadedDeck) (text : List ℕ) : Type 0 where
-  pub told : text ≡ listing deck
+  pub text_is : text ≡ listing deck
   pub reads_back : length text ≤ 1048576 → deck_meaning deck.machine.profile text ≡ Ok deck
 
 -- a loaded deck that has run in the barrel for `turns` turns
@@ -53,7 +53,7 @@ after_turns turns deck = after (barrel deck.machine.profile turns) deck
 -- from, for a machine of the same profile, if it is no longer than a deck may be
 pub record IsDumpText (turns : ℕ) (deck : LoadedDeck) (text : List ℕ) : Type 0 where
   pub between : first_busy (after_turns turns deck).machine ≡ None
-  pub told : text ≡ dump (after_turns turns deck)
+  pub text_is : text ≡ dump (after_turns turns deck)
   pub goes_on : length text ≤ 1048576
       → deck_meaning deck.machine.profile text ≡ Ok (deck_to_go_on (after_turns turns deck))
 
@@ -66,7 +66,7 @@ PreventsDump turns deck going_on = first_busy (after_turns turns deck).machine �
 -- it, and is lawful
 pub record IsTextAfter (turns : ℕ) (text_after : List ℕ → LoadedDeck → List ℕ) (deck : LoadedDeck)
     (text : List ℕ) : Type 0 where
-  pub told : text ≡ text_after (barrel deck.machine.profile turns) deck
+  pub text_is : text ≡ text_after (barrel deck.machine.profile turns) deck
   pub headline : HoldsOnEachChannel (run (barrel deck.machine.profile turns) deck.machine)
 
 -- the words of processor n after these steps
@@ -88,12 +88,12 @@ pub record IsEndsText (turns : ℕ) (deck : LoadedDeck) (text : List ℕ) : Type
   pub loops : List (Option Loop)
   pub ends : IsEnding ending turns deck.machine
   pub looped : AreLoops loops ending deck.machine
-  pub told : text ≡ ends_text_of (in_use deck) ending turns deck.machine loops
+  pub text_is : text ≡ ends_text_of (in_use deck) ending turns deck.machine loops
 
 -- the text of a loaded deck that has run in the barrel for N turns; its machine is a whole one, and
 -- if nothing is found the run is determinate
 pub record IsRacesText (turns : ℕ) (deck : LoadedDeck) (text : List ℕ) : Type 0 where
-  pub told : text ≡ races_text (barrel deck.machine.profile turns) deck.machine
+  pub text_is : text ≡ races_text (barrel deck.machine.profile turns) deck.machine
   pub machine : IsMachine deck.machine
   pub same : findings (barrel deck.machine.profile turns) deck.machine ≡ []
       → IsDeterminate (barrel deck.machine.profile turns) deck.machine

@@ -18,5 +18,5 @@ pub record IsThreadsText (Z : Type 0) (limits : RunLimits) (deck : LoadedDeck) (
   pub named : NamesWithin deck.machine.profile deck.named
   pub run : IsReportOf limits deck.machine report
   pub headline : HoldsOfThreads deck.machine report run.order
-  pub told : text ≡ printed_report deck.named report
+  pub text_is : text ≡ printed_report deck.named report
   pub fits : FitsItsReport deck.named report

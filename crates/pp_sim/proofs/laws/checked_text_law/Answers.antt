@@ -6,13 +6,13 @@ use Rattle.pp_machine.specs.RunLaws.{length-barrel}
 use Rattle.pp_sim.proofs.laws.checked_text_law.Goals as goal
 
 pub returns-clause-barrel : goal.returns-clause-barrel
-returns-clause-barrel g c = λ profile bytes text deck turns is few told.
+returns-clause-barrel g c = λ profile bytes text deck turns is few printed.
     let turns_of = barrel deck.machine.profile turns in
     let opened = (run turns_of deck.machine).opened in
-    subst (λ (t : List ℕ). AreLawful opened (lines_of t)) (sym told.told)
-    (c.barrel_law.ensures profile bytes deck turns_of opened is (omega (arith, few, length-barrel deck.machine.profile turns)) told.fits (λ k names. refl))
+    subst (λ (t : List ℕ). AreLawful opened (lines_of t)) (sym printed.text_is)
+    (c.barrel_law.ensures profile bytes deck turns_of opened is (omega (arith, few, length-barrel deck.machine.profile turns)) printed.fits (λ k names. refl))
 
 pub returns-clause-threads : goal.returns-clause-threads
 returns-clause-threads g c = λ deck limits text is few.
-    subst (λ (t : List ℕ). AreLawful deck.machine.opened (lines_of t)) (sym is.told)
+    subst (λ (t : List ℕ). AreLawful deck.machine.opened (lines_of t)) (sym is.text_is)
     (c.printed_report_law.ensures.lawful deck.named limits deck.machine is.report deck.machine.opened (record { run = is.run; fits = is.fits; few_events = few }) (λ k names. refl))

@@ -7,5 +7,5 @@ returns-in-Err g c = inr (record {
   why = c.in-Err.fault;
   refused = c.in-Err.ensures.refused;
   unread = Keeps-refl _;
-  told = c.tell_line_fault.ensures;
+  reported = c.tell_line_fault.ensures;
 })

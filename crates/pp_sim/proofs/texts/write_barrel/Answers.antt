@@ -14,8 +14,8 @@ returns g c = λ profile bytes meant same.
     (record {
       deck = _;
       meant = meant;
-      told = record {
-        told = ap (printed named) c.in_ok-run_barrel.ensures.ok;
+      is = record {
+        text_is = ap (printed named) c.in_ok-run_barrel.ensures.ok;
         headline = subst HoldsOnEachChannel c.in_ok-run_barrel.ensures.ok c.run_barrel.ensures.headline;
         fits = subst (FitsItsText named) c.in_ok-run_barrel.ensures.ok c.write_text.ensures.fits;
       };

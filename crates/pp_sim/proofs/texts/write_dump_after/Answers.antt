@@ -26,6 +26,6 @@ pub returns-in-Err-NotBetweenPrograms : goal.returns-in-Err-NotBetweenPrograms
 returns-in-Err-NotBetweenPrograms g c = λ profile bytes meant same.
     let dumped = rw c.in-Err-NotBetweenPrograms.field-0-is at c.in-Err-NotBetweenPrograms.ensures.dumped in
     let IsFirst : MachineState → Type 0 = λ m. first_busy m ≡ Some c.in-Err-NotBetweenPrograms.first in (
-      record { deck = _; meant = meant; told = subst IsFirst c.in_ok-run_barrel.ensures.ok dumped.0 },
+      record { deck = _; meant = meant; is = subst IsFirst c.in_ok-run_barrel.ensures.ok dumped.0 },
       dumped.1,
     )

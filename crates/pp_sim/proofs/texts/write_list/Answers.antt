@@ -12,8 +12,8 @@ returns g c = λ profile bytes meant same.
     (record {
       deck = _;
       meant = meant;
-      told = record {
-        told = refl;
+      is = record {
+        text_is = refl;
         reads_back = c.write_listing.ensures.reads_back bytes (ap (λ p. deck_meaning p bytes) same ∙ meant);
       };
     })

@@ -43,15 +43,15 @@ pub returns-then-ne-clause-judged : goal.returns-then-ne-clause-judged
 unfolding standing
 returns-then-ne-clause-judged c = λ opened lines k.
     let here = c.standing_of-state.ensures.kept ∙ k.kept.channels c.in-Standing.channel c.standing_of-state.ensures.names in
-    let differs : c.in-Standing.told ≢ c.standing_of-state.result.state = search rules in
+    let differs : c.in-Standing.shown ≢ c.standing_of-state.result.state = search rules in
     (c.in-Standing.is, ap (λ s. s.state) here, differs)
 
 pub returns-else-ne-clause-judged : goal.returns-else-ne-clause-judged
 unfolding standing
 returns-else-ne-clause-judged c = λ opened lines k.
     let here = c.standing_of-state.ensures.kept ∙ k.kept.channels c.in-Standing.channel c.standing_of-state.ensures.names in
-    let same : c.in-Standing.told ≡ c.standing_of-state.result.state = search rules in
-    rw c.in-Standing.is (keeps_without_event opened lines _ _ k (same ∙ ap (λ s. s.state) here) (state_told c.in-Standing.channel c.in-Standing.told))
+    let same : c.in-Standing.shown ≡ c.standing_of-state.result.state = search rules in
+    rw c.in-Standing.is (keeps_without_event opened lines _ _ k (same ∙ ap (λ s. s.state) here) (state_told c.in-Standing.channel c.in-Standing.shown))
 
 pub returns-in-Other-clause-judged : goal.returns-in-Other-clause-judged
 returns-in-Other-clause-judged c = λ opened lines k. rw c.in-Other.is (keeps_without_event opened lines _ _ k tt nothing_told)

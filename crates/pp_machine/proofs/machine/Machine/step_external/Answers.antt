@@ -72,10 +72,10 @@ returns-in_ok-reply-in-Channel-clause-step g c =
     let own = own_processor c.args.n (c.self-in-Channel.view_is ∙ c.in_ok-reply-in-Channel.ensures.ok) c.index-i.ensures.place (omega (arith, c.index-i.ensures.below, c.self-in-Channel.invariant.processors)) c.index_mut-in-Channel.ensures.value in
     record {
       ok = taken_by n (answers.Channel c.in_ok-reply-in-Channel.reply) (c.self-in-Channel.view_is ∙ c.in_ok-reply-in-Channel.ensures.ok) c.index-i.ensures.place own c.give_reply-outcome.ensures.after c.count_turn-in-Channel.ensures.turn
-        ∙ (ap (λ (y : Answer). taken n y (served n x m)) c.in_ok-reply-in-Channel.ensures.reply ∙ sym (stepped_for n x m needs));
+          ∙ (ap (λ (y : Answer). taken n y (served n x m)) c.in_ok-reply-in-Channel.ensures.reply ∙ sym (stepped_for n x m needs));
       outcome = c.give_reply-outcome.ensures.outcome
-        ∙ (ap (λ (pp : Processor). outcome pp (answers.Channel c.in_ok-reply-in-Channel.reply)) own
-        ∙ (ap (λ (y : Answer). outcome (processor_of n m) y) c.in_ok-reply-in-Channel.ensures.reply ∙ sym (outcome_for n x m needs)));
+          ∙ (ap (λ (pp : Processor). outcome pp (answers.Channel c.in_ok-reply-in-Channel.reply)) own
+          ∙ (ap (λ (y : Answer). outcome (processor_of n m) y) c.in_ok-reply-in-Channel.ensures.reply ∙ sym (outcome_for n x m needs)));
       unchanged_after_memory = tt;
       no_event = λ none. refl;
     }
@@ -90,7 +90,7 @@ returns-in-Read-clause-step g c =
     let word : answers.Read c.read-word.result ≡ answer_to x m = ap answers.Read (c.read-word.ensures ∙ ap (λ (k : MachineState). slice_get k.central c.in-Read.address) c.self.view_is) in
     record {
       ok = taken_by n (answers.Read c.read-word.result) c.self.view_is c.index-i.ensures.place own c.give_central.ensures.after c.count_turn-in-Read.ensures.turn
-        ∙ (ap (λ (y : Answer). taken n y m) word ∙ sym (stepped_for n x m needs));
+          ∙ (ap (λ (y : Answer). taken n y m) word ∙ sym (stepped_for n x m needs));
       outcome = sym (outcome_for n x m needs ∙ (ap (λ (y : Answer). outcome (processor_of n m) y) (sym word) ∙ (ap (λ (pp : Processor). outcome pp (answers.Read c.read-word.result)) (sym own) ∙ c.give_central.ensures.moved)));
       unchanged_after_memory = tt;
       no_event = λ none. refl;
@@ -111,7 +111,7 @@ returns-in-Write-clause-step g c =
     let turn = rw c.write-written.ensures.written at c.count_turn-in-Write.ensures.turn in
     record {
       ok = taken_by n (answers.Wrote (nat_lt c.get.result c.size.result)) view c.index-i.ensures.place own c.give_written.ensures.after turn
-        ∙ (ap (λ (y : Answer). taken n y (served n x m)) within ∙ sym (stepped_for n x m needs));
+          ∙ (ap (λ (y : Answer). taken n y (served n x m)) within ∙ sym (stepped_for n x m needs));
       outcome = sym (outcome_for n x m needs ∙ (ap (λ (y : Answer). outcome (processor_of n m) y) (sym within) ∙ (ap (λ (pp : Processor). outcome pp (answers.Wrote (nat_lt c.get.result c.size.result))) (sym own) ∙ c.give_written.ensures.moved)));
       unchanged_after_memory = tt;
       no_event = λ none. refl;

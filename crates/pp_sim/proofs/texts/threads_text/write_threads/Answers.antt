@@ -27,12 +27,12 @@ returns g c = λ profile bytes meant same.
     (λ some. record {
       deck = _;
       meant = meant;
-      told = record {
+      is = record {
         report = _;
         named = c.requires.names;
         run = c.in-Ok.ensures;
         headline = (c.headline_law.ensures _ _ _ meant).threads _ _ c.in-Ok.ensures;
-        told = refl;
+        text_is = refl;
         fits = c.write_report.ensures.fits some;
       };
     })
