@@ -22,7 +22,7 @@ use pp_sim::{ChosenSteps, TextOf, Work};
 /// Does this work in the memory, and gives it back, or leaves its place empty.
 fn tell_in(memory: &mut Memory, work: Work, input: &[u8], out: &mut [u8]) -> Answer
     requires { NeedsNoThreads work }
-    ensures answer { Tells work input.now result out.old out.new }
+    ensures done { Tells work input.now result out.old out.new }
     ensures memory { IsGivenBack memory.old memory.new }
 {
     let slot = Slot::take_from(memory);
@@ -40,7 +40,7 @@ pub extern "C" fn ppsim_barrel(
     deck: &[u8],
     out: &mut [u8],
 ) -> Answer
-    ensures answer { MatchOption (profile_of processors turns) (RefusesNumber result out.old out.new)
+    ensures done { MatchOption (profile_of processors turns) (RefusesNumber result out.old out.new)
         (λ profile. Tells (Work.Deck profile (TextOf.Barrel turns)) deck.now
         result out.old out.new) }
     ensures memory { IsGivenBack memory.old memory.new }
@@ -60,7 +60,7 @@ pub extern "C" fn ppsim_list(
     deck: &[u8],
     out: &mut [u8],
 ) -> Answer
-    ensures answer { MatchOption (profile_of processors 0) (RefusesNumber result out.old out.new)
+    ensures done { MatchOption (profile_of processors 0) (RefusesNumber result out.old out.new)
         (λ profile. Tells (Work.Deck profile TextOf.List) deck.now result out.old out.new) }
     ensures memory { IsGivenBack memory.old memory.new }
 {
@@ -80,7 +80,7 @@ pub extern "C" fn ppsim_dump(
     deck: &[u8],
     out: &mut [u8],
 ) -> Answer
-    ensures answer { MatchOption (profile_of processors turns) (RefusesNumber result out.old out.new)
+    ensures done { MatchOption (profile_of processors turns) (RefusesNumber result out.old out.new)
         (λ profile. Tells (Work.Deck profile (TextOf.Dump turns)) deck.now
         result out.old out.new) }
     ensures memory { IsGivenBack memory.old memory.new }
@@ -101,7 +101,7 @@ pub extern "C" fn ppsim_state(
     deck: &[u8],
     out: &mut [u8],
 ) -> Answer
-    ensures answer { MatchOption (profile_of processors turns) (RefusesNumber result out.old out.new)
+    ensures done { MatchOption (profile_of processors turns) (RefusesNumber result out.old out.new)
         (λ profile. Tells (Work.Deck profile (TextOf.State turns)) deck.now
         result out.old out.new) }
     ensures memory { IsGivenBack memory.old memory.new }
@@ -122,7 +122,7 @@ pub extern "C" fn ppsim_sessions(
     deck: &[u8],
     out: &mut [u8],
 ) -> Answer
-    ensures answer { MatchOption (profile_of processors turns) (RefusesNumber result out.old out.new)
+    ensures done { MatchOption (profile_of processors turns) (RefusesNumber result out.old out.new)
         (λ profile. Tells (Work.Deck profile (TextOf.Sessions turns false)) deck.now
         result out.old out.new) }
     ensures memory { IsGivenBack memory.old memory.new }
@@ -146,7 +146,7 @@ pub extern "C" fn ppsim_races(
     deck: &[u8],
     out: &mut [u8],
 ) -> Answer
-    ensures answer { MatchOption (profile_of processors turns) (RefusesNumber result out.old out.new)
+    ensures done { MatchOption (profile_of processors turns) (RefusesNumber result out.old out.new)
         (λ profile. Tells (Work.Deck profile (TextOf.Races turns)) deck.now
         result out.old out.new) }
     ensures memory { IsGivenBack memory.old memory.new }
@@ -170,7 +170,7 @@ pub extern "C" fn ppsim_steps(
     deck: &[u8],
     out: &mut [u8],
 ) -> Answer
-    ensures answer { MatchOption (profile_of processors (max turns from))
+    ensures done { MatchOption (profile_of processors (max turns from))
         (RefusesNumber result out.old out.new)
         (λ profile. MatchOption (only_of profile pp) (RefusesNumber result out.old out.new)
         (λ only. Tells (Work.Deck profile (TextOf.Steps turns (record {
@@ -210,7 +210,7 @@ pub extern "C" fn ppsim_draw(
     deck: &[u8],
     out: &mut [u8],
 ) -> Answer
-    ensures answer { MatchOption (profile_of processors to) (RefusesNumber result out.old out.new)
+    ensures done { MatchOption (profile_of processors to) (RefusesNumber result out.old out.new)
         (λ profile. MatchOption (window_of from to) (RefusesNumber result out.old out.new)
         (λ window. Tells (Work.Deck profile (TextOf.Draw window)) deck.now
         result out.old out.new)) }
@@ -235,7 +235,7 @@ pub extern "C" fn ppsim_check(
     trace: &[u8],
     out: &mut [u8],
 ) -> Answer
-    ensures answer { TellsOfTrace opened.now trace.now result out.old out.new }
+    ensures done { TellsOfTrace opened.now trace.now result out.old out.new }
     ensures memory { IsGivenBack memory.old memory.new }
 {
     let Some(opened) = channels_of(opened) else {
