@@ -1,6 +1,7 @@
--- The table of operations gives the answer of a channel on lawful histories, and no other is one.
+-- The table of operations gives the answer of a channel on lawful histories, and no other is one;
+-- operations that only look, and those that act, in the table.
 use Rattle.std.proofs.Common.{◌≡◌, ℕ, ◌==◌, Bool, true, false, List, [], ◌∷◌, ◌++◌, Option, Some, None, refl, sym, ap, ◌∙◌, subst, inl, inr}
-use Rattle.std.specs.Prelude.{◌↔◌, if◌then◌else◌, is_some}
+use Rattle.std.specs.Prelude.{◌↔◌, if◌then◌else◌, is_some, ℕ, ◌⊎◌}
 use Rattle.std.specs.Option.{option_to_list}
 use Rattle.std.proofs.lemmas.List.{append-nil}
 use Rattle.std.proofs.lemmas.List.Elements.{All-push}
@@ -10,10 +11,11 @@ use Rattle.pp_channel.specs.declared.chan_op.ChanOp.{ChanOp}
 use Rattle.pp_channel.specs.declared.reply.Reply.{Reply}
 use Rattle.pp_channel.specs.declared.flags.Flags.{Flags}
 use Rattle.pp_channel.specs.History.{IsLawful, HasTwelveBitWord, HasTwelveBitWords, full, waiting}
-use Rattle.pp_channel.specs.Answer.{operation_of, IsReady, IsAnswer, channel_state, event_by, event_of, flags_of, flags_after, reply_by, reply_shown, reply_to, history_after}
+use Rattle.pp_channel.specs.Answer.{operation_of, IsReady, IsAnswer, channel_state, event_by, event_of, flags_of, flags_after, reply_by, reply_shown, reply_to, history_after, event_answered, flags_shown, only_looks}
 use Rattle.pp_channel.specs.Session.{word_put}
 use Rattle.pp_channel.proofs.HistoryWalk.{State, Inactive, Empty, Holding, step, step_take, walk, walk-append}
 use Rattle.pp_channel.proofs.HistoryLemmas.{is_active, held_word, Fits, active_at, full_at, waiting_at, state_at, lawful_next}
+use Rattle.pp_channel.specs.declared.channel_state.ChannelState.{ChannelState}
 
 -- the table at a state
 abbrev flags_at : State → Flags
@@ -213,3 +215,47 @@ pub full_register : (flags : Flags) (register : Option ℕ) (h : List Event) →
 full_register flags register h k =
     let s = state_at h k.0 in
     ap is_some (k.3 ∙ waiting_at h s.0 s.2) ∙ sym (full_at h s.0 s.2)
+
+-- an operation that only looks makes no event
+pub look_makes_none : (op : ChanOp) (f : Flags) (word : Option ℕ) → only_looks op ≡ true
+    → event_by op f word ≡ None
+look_makes_none ChanOp.Probe f word looks = refl
+look_makes_none op f word looks = absurd cc
+
+-- and is not held
+pub look_not_held : (op : ChanOp) (state : ChannelState) (f : Flags) → only_looks op ≡ true
+    → reply_shown op state ≡ Reply.Held f → ⊥
+look_not_held ChanOp.Probe state f looks held = cc
+look_not_held op state f looks held = cc
+
+-- any other operation that makes none is held
+pub held_at : (op : ChanOp) (state : ChannelState) → only_looks op ≡ false
+    → reply_shown op state ≡ Reply.Held state.flags
+held_at ChanOp.Probe state acts = absurd cc
+held_at op state acts = refl
+
+-- if none is made, the reply shows the flags
+pub shows_flags : (op : ChanOp) (state : ChannelState)
+    → flags_shown (reply_shown op state) ≡ Some state.flags
+shows_flags ChanOp.Probe state = refl
+shows_flags op state = refl
+
+-- and after one that shows them, none was made
+pub shown_makes_none : (op : ChanOp) (reply : Reply) (f : Flags) → flags_shown reply ≡ Some f
+    → event_answered op reply ≡ None
+shown_makes_none op (Reply.Flags g) f shows = refl
+shown_makes_none op (Reply.Held g) f shows = refl
+shown_makes_none op Reply.Done f shows = absurd cc
+shown_makes_none op (Reply.Word w) f shows = absurd cc
+
+-- an operation either looks or acts, and one that makes an event acts
+pub looks_or_acts : (b : Bool) → (b ≡ true) ⊎ (b ≡ false)
+looks_or_acts true = inl refl
+looks_or_acts false = inr refl
+
+pub acts_where_made : (op : ChanOp) (f : Flags) (word : Option ℕ) (e : Event)
+    → event_by op f word ≡ Some e → only_looks op ≡ false
+acts_where_made op f word e made = elim (looks_or_acts (only_looks op)) [
+  | inl looks ↦ let none : None ≡ Some e = sym (look_makes_none op f word looks) ∙ made in absurd cc
+  | inr acts ↦ acts
+]

@@ -1,10 +1,11 @@
 -- The numbers of the data channels, and the place of each channel in a list of all channels. A
--- number and its place are two things: proofs know of them what ChannelPlaces says.
+-- number and its place are two things: proofs know of them what `channel_places` says.
 -- (Manual 60100000, data channels: twelve, numbered 0 to 13 (octal). A machine of twenty peripheral
 -- processors has twelve more, numbered 20 to 33.)
 use Rattle.std.specs.Prelude.{ℕ, Bool, List}
-use Rattle.pp_word.specs.GappedNumbers.{is_number, index_of, number_of}
+use Rattle.pp_word.specs.GappedNumbers.{ArePlaces, is_number, index_of, number_of}
 use Rattle.pp_word.specs.Tables.{tabulate}
+use Rattle.pp_word.proofs.GappedNumberLemmas.{places}
 
 -- the number of channels
 abbrev pub channel_count : ℕ
@@ -25,3 +26,8 @@ channel_number = number_of 0o14 4
 -- the numbers of all channels, in order
 unfoldable pub all_channels : List ℕ
 all_channels = tabulate channel_count channel_number
+
+-- a channel's number and its place
+pub channel_places : ArePlaces 0o14 channel_count names_channel channel_index channel_number
+unfolding names_channel channel_index channel_number
+channel_places = places 0o14 4

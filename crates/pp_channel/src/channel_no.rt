@@ -18,8 +18,7 @@ pub struct ChannelNo {
 impl Model for ChannelNo {
     ghost use Rattle.std.specs.Prelude.{ℕ, IsTrue};
     ghost use Rattle.std.proofs.Common.{ap};
-    ghost use Rattle.pp_channel.specs.ChannelNo.{names_channel, channel_index, channel_number};
-    ghost use Rattle.pp_channel.specs.ChannelPlaces.{channel_places};
+    ghost use Rattle.pp_channel.specs.ChannelNo.{names_channel, channel_index, channel_number, channel_places};
 
     ghost Value = { ℕ };
 
@@ -68,7 +67,7 @@ impl ChannelNo {
     }
 
     /// Its place in a list of all channels in order of number.
-    #[tactic(auto, using(crate::specs::ChannelPlaces::channel_places))]
+    #[tactic(auto, using(crate::specs::ChannelNo::channel_places))]
     pub fn index(self) -> usize
         ensures place { result ≡ channel_index self }
         ensures below { result < channel_count }
@@ -79,7 +78,7 @@ impl ChannelNo {
     }
 
     /// The channel at a place of that list.
-    #[tactic(auto, using(crate::specs::ChannelPlaces::channel_places))]
+    #[tactic(auto, using(crate::specs::ChannelNo::channel_places))]
     pub fn at(place: usize) -> Self
         requires { place < channel_count }
         ensures number { result ≡ channel_number place }

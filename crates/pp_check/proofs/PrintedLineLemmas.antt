@@ -5,7 +5,7 @@ use Rattle.std.specs.List.{list_all}
 use Rattle.std.specs.Str.{bytes_eq}
 use Rattle.std.proofs.lemmas.Bool.{and_from, and_parts, le-leb, leb-true, ltb-true, ne_eqb}
 use Rattle.std.proofs.lemmas.List.Folds.{list_all-append}
-use Rattle.pp_channel.specs.ChannelPlaces.{channel_fits}
+use Rattle.pp_channel.proofs.ChannelNoLemmas.{channel_fits}
 use Rattle.pp_channel.specs.ChannelNo.{names_channel}
 use Rattle.pp_channel.specs.History.{HasTwelveBitWord, active, waiting}
 use Rattle.pp_channel.specs.declared.channel_state.ChannelState.{ChannelState}
@@ -13,14 +13,14 @@ use Rattle.pp_channel.specs.declared.event.Event.{Event}
 use Rattle.pp_channel.specs.declared.event.Event.TheVariants.{Activate, Disconnect, Put, Take, Function}
 use Rattle.pp_deck.proofs.FieldTextLemmas.{IsField, IsTail, fields_of_plain, is_ink, is_plain, tail_blank, tail_field, tail_last, decimal_is_field, octal_ink, octal_is_field}
 use Rattle.pp_deck.specs.DeckText.{fields_of}
-use Rattle.pp_machine.specs.ProcessorPlaces.{processor_fits}
+use Rattle.pp_machine.proofs.PpNoLemmas.{processor_fits}
 use Rattle.pp_machine.specs.PpNo.{names_processor}
 use Rattle.pp_machine.specs.Processor.{Processor}
 use Rattle.pp_machine.specs.declared.pp_state.PpState.{PpState}
 use Rattle.pp_machine.specs.declared.pp_state.PpState.TheVariants.{Fault}
 use Rattle.pp_machine.specs.declared.trace.Trace.{Trace}
 use Rattle.pp_word.specs.Numeral.{decimal, is_digit, numeral, octal}
-use Rattle.pp_word.specs.NumeralLaws.{decimal_are, decimal_read, octal_read}
+use Rattle.pp_word.proofs.NumeralLemmas.{decimal_are, decimal_read, octal_read}
 use Rattle.pp_text.specs.PrintedText.{channel_line as printed_channel_line, channel_text, event_line, event_text, line_end, processor_line, state_text}
 use Rattle.pp_text.specs.TextLaw.{EventFits}
 use Rattle.pp_check.specs.TraceLine.{channel_in, channel_line, empty, parsed_event, full_with, inactive, is_processor, parsed_line, number_after, numbered_line, parsed_state, turn_line}

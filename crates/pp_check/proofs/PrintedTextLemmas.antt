@@ -16,7 +16,7 @@ use Rattle.pp_machine.specs.MachineState.{MachineState, processor_of}
 use Rattle.pp_machine.specs.PpNo.{all_processors, names_processor, processor_index, is_named}
 use Rattle.pp_machine.specs.declared.trace.Trace.{Trace}
 use Rattle.pp_text.specs.PrintedText.{each_below, event_line, channel_line, line_end, named_processor_line, printed, state_text, used_channel_line}
-use Rattle.pp_text.specs.PrintingLaws.{channels_by_number, numbered_channel_line, processors_by_number}
+use Rattle.pp_text.proofs.PrintingLemmas.{channels_by_number, numbered_channel_line, processors_by_number}
 use Rattle.pp_text.specs.TextLaw.{HistoryFits, EventFits}
 use Rattle.pp_check.specs.LawfulTrace.{parsed_lines}
 use Rattle.pp_check.specs.PrintedTrace.{IsPrintable}

@@ -6,11 +6,9 @@ use Rattle.std.proofs.lemmas.List.{get_or_past, get_or-replicate, get_or-set_oth
 use Rattle.std.proofs.lemmas.List.Elements.{All-cons, All-nil, All-tail}
 use mathlib.Core.Logic.{dite}
 use native.Mathlib.Decide.{dec_lt}
-use Rattle.pp_channel.specs.ChannelNo.{channel_count, channel_index, names_channel}
-use Rattle.pp_channel.specs.ChannelPlaces.{channel_places}
-use Rattle.pp_word.specs.Pieces.{split_first, split_last}
-use Rattle.pp_machine.specs.PpNo.{is_named, names_processor, processor_count, processor_index}
-use Rattle.pp_machine.specs.ProcessorPlaces.{processor_places}
+use Rattle.pp_channel.specs.ChannelNo.{channel_count, channel_index, names_channel, channel_places}
+use Rattle.pp_word.proofs.Pieces.{split_first, split_last}
+use Rattle.pp_machine.specs.PpNo.{is_named, names_processor, processor_count, processor_index, processor_places}
 use Rattle.pp_command.specs.ChannelList.{is_flagged_channel}
 use Rattle.pp_command.specs.NumberList.{AreFlagged, is_among, is_comma, numbered, numbers_of}
 

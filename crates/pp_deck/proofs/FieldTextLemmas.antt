@@ -9,7 +9,7 @@ use Rattle.std.proofs.lemmas.List.Splits.{slice_split-cons_yes, slice_split-cons
 use Rattle.pp_deck.specs.DeckText.{is_blank, is_comment, is_nonempty, fields_in, fields_of}
 use Rattle.std.specs.Option.{ok_or}
 use Rattle.pp_word.specs.Numeral.{decimal, octal, short_octal}
-use Rattle.pp_word.specs.NumeralLaws.{Pass, decimal_long, decimal_pass, digits_pass, length_digits, octal_read, short_pass, short_read, short_some}
+use Rattle.pp_word.proofs.NumeralLemmas.{Pass, decimal_long, decimal_pass, digits_pass, length_digits, octal_read, short_pass, short_read, short_some}
 use Rattle.pp_deck.specs.OctalNumber.{number}
 use Rattle.pp_deck.specs.declared.flaw.Flaw.{Flaw}
 

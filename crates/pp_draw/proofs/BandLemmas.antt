@@ -5,11 +5,9 @@ use Rattle.std.specs.Int.{from_bool}
 use Rattle.std.proofs.lemmas.Bool.{cases_lt, lt-ltb, ltb-true}
 use Rattle.std.proofs.lemmas.List.{append-nil}
 use Rattle.pp_word.specs.GappedNumbers.{is_number, index_of}
-use Rattle.pp_channel.specs.ChannelNo.{channel_count, channel_index, channel_number, names_channel}
-use Rattle.pp_channel.specs.ChannelPlaces.{channel_places}
+use Rattle.pp_channel.specs.ChannelNo.{channel_count, channel_index, channel_number, names_channel, channel_places}
 use Rattle.pp_machine.specs.MachineState.{MachineState}
-use Rattle.pp_machine.specs.PpNo.{names_processor, processor_count, processor_index, processor_number}
-use Rattle.pp_machine.specs.ProcessorPlaces.{processor_places}
+use Rattle.pp_machine.specs.PpNo.{names_processor, processor_count, processor_index, processor_number, processor_places}
 use Rattle.pp_machine.specs.MachineStep.{counted}
 use Rattle.pp_text.specs.PrintedText.{each_below}
 use Rattle.pp_draw.specs.Condition.{is_sent}

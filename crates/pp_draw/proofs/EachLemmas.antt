@@ -1,7 +1,7 @@
 -- What is printed of 0, of 1, .. and of one more number.
 use Rattle.std.proofs.Common.{◌≡◌, ℕ, ◌+◌, List, ◌++◌, Option, ap, ◌∙◌}
 use Rattle.pp_text.specs.PrintedText.{each_below}
-use Rattle.pp_text.specs.PrintingLaws.{each_below_suc, each_below_zero, prints_nothing, prints_on}
+use Rattle.pp_text.proofs.PrintingLemmas.{each_below_suc, each_below_zero, prints_nothing, prints_on}
 use Rattle.pp_text.specs.TextWriter.{Prints}
 use Rattle.pp_text.specs.declared.text_writer.TextWriter.{TextWriter}
 

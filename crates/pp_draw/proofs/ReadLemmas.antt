@@ -5,7 +5,7 @@ use Rattle.std.specs.List.{list_all}
 use Rattle.std.proofs.lemmas.List.Folds.{list_all-append}
 use Rattle.std.proofs.lemmas.List.Sums.{fold-append}
 use Rattle.pp_word.specs.Numeral.{digit, octal, short_decimal, unpadded}
-use Rattle.pp_word.specs.NumeralLaws.{Pass, digits_pass}
+use Rattle.pp_word.proofs.NumeralLemmas.{Pass, digits_pass}
 use Rattle.pp_draw.specs.WellFormed.{Place, Reader, Sign, Tag, at, between, letter, other, quoted, read, read_at, read_on, sign_of, space}
 
 -- ---- plain texts: of letters, digits and spaces

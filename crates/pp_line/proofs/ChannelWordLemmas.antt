@@ -9,9 +9,8 @@ use Rattle.pp_channel.specs.Session.{puts, takes, word_put}
 use Rattle.pp_channel.specs.History.{IsLawful, HasTwelveBitWord, HasTwelveBitWords, active, full, waiting, last_stretch}
 use Rattle.pp_channel.specs.Answer.{IsReady, IsAnswer, channel_state, only_looks, reply_shown, event_by, event_of, flags_of, flags_after, reply_made}
 use Rattle.pp_line.specs.ChannelWord.{packed, history_word, number_in, flags_in, register_in, greatest_number, waiting_in, state_in, word_with, step_by, step_from, StepsFrom}
-use Rattle.pp_channel.specs.AnswerLaws.{acts_where_made, look_makes_none}
+use Rattle.pp_channel.proofs.AnswerLemmas.{acts_where_made, look_makes_none, answered_where_none, ready_of_table, table_of_ready, none_without_ready, lawful_with_event, flags_by_table, word_by_table}
 use Rattle.pp_channel.proofs.HistoryLemmas.{waiting_small}
-use Rattle.pp_channel.proofs.AnswerLemmas.{answered_where_none, ready_of_table, table_of_ready, none_without_ready, lawful_with_event, flags_by_table, word_by_table}
 
 -- what was packed is read again
 record IsPacked (n : ℕ) (flags : Flags) (r : ℕ) : Type 0 where

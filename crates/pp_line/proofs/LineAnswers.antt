@@ -10,7 +10,7 @@ use Rattle.pp_channel.specs.declared.event.Event.TheVariants.{Activate, Disconne
 use Rattle.pp_channel.specs.declared.reply.Reply.TheVariants.{Held}
 use Rattle.pp_channel.specs.declared.flags.Flags.{Flags as FlagPair}
 use Rattle.pp_channel.specs.Answer.{IsAnswer, IsReady, operation_of, reply_made, reply_shown, event_answered, flags_shown, only_looks, seen_answered}
-use Rattle.pp_channel.specs.ChannelNo.{channel_count, channel_index}
+use Rattle.pp_channel.specs.ChannelNo.{channel_count, channel_index, channel_places}
 use Rattle.pp_line.specs.ChannelWord.{number_in, flags_in, greatest_number, state_in, step_from}
 use Rattle.pp_channel.specs.History.{IsLawful, HasTwelveBitWords, history_on}
 use Rattle.pp_channel.specs.Law.{KeepsLaw}
@@ -22,8 +22,7 @@ use Rattle.pp_line.specs.Order.{extended, on_channels}
 use Rattle.pp_line.proofs.OrderLemmas.{extended_twice}
 use Rattle.pp_line.specs.Merge.{Merges, no_opening, IsRecordedBy}
 use Rattle.pp_line.specs.SharedWords.{IsFound}
-use Rattle.pp_channel.specs.AnswerLaws.{shown_makes_none, shows_flags}
-use Rattle.pp_channel.specs.ChannelPlaces.{channel_places}
+use Rattle.pp_channel.proofs.AnswerLemmas.{shown_makes_none, shows_flags}
 use Rattle.pp_line.proofs.ChannelWordLemmas.{Stays, MakesNext, worn_by_table, shown_by_table, next_by_table, ready_at_word, answer_made, answer_shown, number_of_word}
 use Rattle.pp_channel.proofs.FrontLemmas.{lawful_take, twelve_bits_take}
 use Rattle.pp_line.proofs.MergeLemmas.{with_more, more_is, more_here, put_before}

@@ -6,7 +6,7 @@ use Rattle.std.proofs.lemmas.List.{length-set, length-append, get_or-set_same, t
 use Rattle.std.proofs.lemmas.List.Elements.{All-append, All-push, All-weaker, Contains-append_left, Contains-append_right, Contains-push}
 use Rattle.std.proofs.lemmas.Bool.{MatchBool-at_true, MatchBool-at_false, eq-eqb, ne_eqb}
 use Rattle.pp_line.specs.Types.{Access, Did, Entry, Event, FoundWord, LineView, OnChannel, Read, Saw, Seen, Write}
-use Rattle.pp_channel.specs.ChannelNo.{channel_count, channel_index}
+use Rattle.pp_channel.specs.ChannelNo.{channel_count, channel_index, channel_places}
 use Rattle.pp_line.specs.ChannelWord.{number_in, flags_in}
 use Rattle.pp_line.specs.LineLog.{LogState, looked, event_entry, look_entry, known_after, seen_on, ends_in_look_at}
 use Rattle.pp_line.specs.LineState.{LineState}
@@ -14,12 +14,11 @@ use Rattle.pp_line.specs.LineSteps.{IsBackedAt, IsBacked, IsLogOf, IsLoad, IsWon
 use Rattle.pp_line.specs.LineView.{greater_of_each, joined_view, finds, makes, look_by, reads, writes}
 use Rattle.pp_line.specs.Order.{IsDrawnFrom, entries_among, extended}
 use Rattle.pp_line.specs.Merge.{times_logged}
-use Rattle.pp_channel.specs.ChannelPlaces.{channel_places}
 use Rattle.pp_line.proofs.LineKnowledge.{not_older_told, told_looked, all_looked, looked_either, last_replaced}
 use Rattle.pp_line.proofs.OrderLemmas.{length-extended, drawn_extended, stands_with_last, stands_joined}
-use Rattle.pp_word.specs.Subsequences.{stands_front}
+use Rattle.pp_word.proofs.Subsequences.{stands_front}
 use Rattle.pp_line.proofs.MergeLemmas.{told_by, times_told-append, times_told_push}
-use Rattle.pp_word.specs.WrittenNumbers.{set_raises}
+use Rattle.pp_word.proofs.WrittenNumbers.{set_raises}
 use Rattle.pp_line.proofs.SeenLemmas.{within_more, greater_left, greater_right, length-greater}
 
 -- what backs an entry backs it where the view has more

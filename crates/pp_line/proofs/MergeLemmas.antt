@@ -11,12 +11,11 @@ use Rattle.std.proofs.lemmas.List.Sums.{sum_by-cons, sum_by-append, sum_by_push}
 use Rattle.std.proofs.lemmas.Option.{slice_get_within, slice_get-get_or, get_or_from_slice_get}
 use Rattle.pp_line.specs.Types.{Did, Entry, Event, Saw, Seen}
 use Rattle.pp_channel.specs.Answer.{flags_of}
-use Rattle.pp_channel.specs.ChannelNo.{channel_index, names_channel}
+use Rattle.pp_channel.specs.ChannelNo.{channel_index, names_channel, channel_places}
 use Rattle.pp_channel.specs.Law.{IsPrefix}
 use Rattle.pp_line.specs.LineLog.{event_entry, is_event, known_after, seen_on, IsWithin}
 use Rattle.pp_line.specs.Merge.{IsTrueAt, IsTrueOf, logs_event, times_logged, Merges, no_opening}
 use Rattle.pp_channel.specs.History.{history_on}
-use Rattle.pp_channel.specs.ChannelPlaces.{channel_places}
 
 -- 1 for a number below the end, else 0
 abbrev pub once_below : ℕ → ℕ → ℕ

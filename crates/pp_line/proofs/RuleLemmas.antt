@@ -9,7 +9,7 @@ use Rattle.std.specs.List.{All, flat_map, sum_by}
 use Rattle.std.proofs.lemmas.List.{append-nil, length-set, get_or-set_same, get_or-set_other}
 use Rattle.std.proofs.lemmas.List.Elements.{All-set, All-weaker}
 use Rattle.pp_line.specs.Types.{Access, Entry, Event, LineView, OnChannel, Read, Write}
-use Rattle.pp_channel.specs.ChannelNo.{channel_index, names_channel}
+use Rattle.pp_channel.specs.ChannelNo.{channel_index, names_channel, channel_places}
 use Rattle.pp_line.specs.ChannelWord.{number_in, flags_in}
 use Rattle.pp_channel.specs.Answer.{flags_of}
 use Rattle.pp_channel.specs.History.{IsLawful, HasTwelveBitWords, history_on}
@@ -18,14 +18,13 @@ use Rattle.pp_line.specs.LineView.{finds, look_by, reads, with_unrecorded_load, 
 use Rattle.pp_line.specs.Order.{IsTotalOrderOf, FindsWords, AreMade, entries_among, left_by, times, writes_among}
 use Rattle.pp_line.specs.Merge.{IsRecordedBy, IsTrueOf, Merges, no_opening, logs_event, times_logged}
 use Rattle.pp_line.specs.SharedWords.{word_place, central_place, IsViewOf, KeepsRule}
-use Rattle.pp_channel.specs.ChannelPlaces.{channel_places}
 use Rattle.pp_line.proofs.ListFacts.{All-read, All-part, flat_map-set_same, count_by-parts, sum_by-write, sum_by-sole}
 use Rattle.pp_line.proofs.ChannelWordLemmas.{number_at_word, flags_of_word}
 use Rattle.pp_line.proofs.OrderLemmas.{order_beside, order_more, extends_more, extends_push}
 use Rattle.pp_line.proofs.MergeLemmas.{once_inside, TellsOnce, tells_once, merges_by, times_within}
 use Rattle.pp_line.proofs.ViewLemmas.{grow_none, view_beside, view_finds, view_later}
 use Rattle.pp_line.proofs.CentralLemmas.{finds_more, left_more, length-left_by, made_push, made_set, times_in as times_written, times_parts, written_in}
-use Rattle.pp_word.specs.WrittenNumbers.{set_at_each}
+use Rattle.pp_word.proofs.WrittenNumbers.{set_at_each}
 
 -- the events of all views, how often they tell one, and the shares
 abbrev pub events_in : LineView → List Entry

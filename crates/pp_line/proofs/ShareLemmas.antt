@@ -10,14 +10,13 @@ use Rattle.std.proofs.lemmas.List.Sums.{sum_by_push}
 use Rattle.atomic_table.specs.Table.{Splits, Joins, opening}
 use Rattle.atomic_table.proofs.Lists.{at_set}
 use Rattle.pp_line.specs.Types.{Event, LineView}
-use Rattle.pp_channel.specs.ChannelNo.{channel_count, channel_index}
+use Rattle.pp_channel.specs.ChannelNo.{channel_count, channel_index, channel_places}
 use Rattle.pp_line.specs.ChannelWord.{history_word}
 use Rattle.pp_channel.specs.History.{IsLawful, HasTwelveBitWord, HasTwelveBitWords, history_on}
 use Rattle.pp_line.specs.LineView.{blank_view, first_view, parent_view, child_view, joined_view}
 use Rattle.pp_line.specs.Merge.{IsTrueOf, Merges, no_opening}
 use Rattle.pp_line.specs.LineLog.{seen_on}
 use Rattle.pp_line.specs.SharedWords.{word_place, place_count, central_in, IsFound, IsViewOf, Rule}
-use Rattle.pp_channel.specs.ChannelPlaces.{channel_places}
 use Rattle.pp_channel.proofs.HistoryLemmas.{lawful_empty}
 use Rattle.pp_line.proofs.ListFacts.{All-parts_set, flat_map-set_same, same_everywhere, sum_by-write}
 use Rattle.pp_line.proofs.MergeLemmas.{once_past, TellsOnce, tells_once, merges_by, times_told-append}

@@ -11,7 +11,7 @@ use Rattle.std.proofs.lemmas.List.{append-nil, length-set, set-get_or, get_or-se
 use Rattle.std.proofs.lemmas.List.Elements.{All-set, All-push, All-weaker}
 use Rattle.atomic_table.specs.Table.{Me, step, keeps, stepped, Allows}
 use Rattle.pp_line.specs.Types.{Access, Event, LineView, OnChannel, Read, Write}
-use Rattle.pp_channel.specs.ChannelNo.{channel_count, channel_index, names_channel}
+use Rattle.pp_channel.specs.ChannelNo.{channel_count, channel_index, names_channel, channel_places}
 use Rattle.pp_line.specs.ChannelWord.{history_word, number_in}
 use Rattle.pp_channel.specs.History.{IsLawful, HasTwelveBitWord, HasTwelveBitWords, history_on}
 use Rattle.pp_line.specs.LineSteps.{IsLoad, IsWonExchange, IsLostExchange, IsShareCheck, IsRead, IsWrite, OnCentral, exchanges}
@@ -21,7 +21,6 @@ use Rattle.pp_line.specs.Merge.{IsTrueOf}
 use Rattle.pp_line.specs.Order.{made_on, writes_among}
 use Rattle.pp_line.specs.LineLog.{seen_on, event_entry}
 use Rattle.pp_line.specs.SharedWords.{word_place, central_place, IsFound, IsViewOf, KeepsRule, Rule}
-use Rattle.pp_channel.specs.ChannelPlaces.{channel_places}
 use Rattle.pp_line.proofs.ListFacts.{read_written, All-parts_set, sum_by-write, read-le-sum_by}
 use Rattle.pp_line.proofs.MergeLemmas.{once_below, TellsOnce, tells_once, merges_by, times_told_push, told_elsewhere, told_next, Grow, slice_get_last, true_later, with_more, more_is, more_here, same_elsewhere, more_grow, length-with_more, All-with_more}
 use Rattle.pp_line.proofs.ViewLemmas.{view_later, view_makes, later_found}

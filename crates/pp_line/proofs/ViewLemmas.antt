@@ -7,7 +7,7 @@ use Rattle.std.specs.List.{All}
 use Rattle.std.proofs.lemmas.List.{append-nil, length-append, length-set, take-append-le, take_all, get_or-set_same, length_push, get_or_push, length-take-le}
 use Rattle.std.proofs.lemmas.List.Elements.{All-nil, All-cons, All-append, All-push, All-weaker}
 use Rattle.pp_line.specs.Types.{Access, Entry, Event, FoundWord, LineView, OnChannel}
-use Rattle.pp_channel.specs.ChannelNo.{channel_count, channel_index, names_channel}
+use Rattle.pp_channel.specs.ChannelNo.{channel_count, channel_index, names_channel, channel_places}
 use Rattle.pp_line.specs.ChannelWord.{history_word, number_in}
 use Rattle.pp_channel.specs.History.{HasTwelveBitWords, history_on}
 use Rattle.pp_line.specs.LineView.{look_by, blank_view, parent_view, child_view, greater_of_each, joined_view, finds, makes}
@@ -16,11 +16,10 @@ use Rattle.pp_line.specs.Order.{ExtendsEach}
 use Rattle.pp_word.specs.Subsequence.{IsSubsequence}
 use Rattle.pp_line.proofs.OrderLemmas.{extends_more, extends_push}
 use Rattle.pp_line.specs.SharedWords.{IsFound, IsViewOf}
-use Rattle.pp_channel.specs.ChannelPlaces.{channel_places}
 use Rattle.pp_channel.proofs.FrontLemmas.{twelve_bits_take}
 use Rattle.pp_line.proofs.ChannelWordLemmas.{number_at_word}
 use Rattle.pp_line.proofs.MergeLemmas.{Grow}
-use Rattle.pp_word.specs.WrittenNumbers.{set_at_each, set_raises}
+use Rattle.pp_word.proofs.WrittenNumbers.{set_at_each, set_raises}
 use Rattle.pp_line.proofs.SeenLemmas.{within_more, greater_left, greater_right, greater_at, length-greater}
 
 -- an empty program order is extended by each order

@@ -23,9 +23,9 @@ use Rattle.pp_listing.proofs.ListedLineLemmas.{fields_said, line_fields, line_pl
 use Rattle.std.proofs.lemmas.List.Elements.{All-head, All-tail}
 use Rattle.pp_word.specs.Address.{place_count}
 use Rattle.pp_machine.specs.Profile.{has_processor}
-use Rattle.pp_machine.specs.ProfilePlaces.{processor_named}
+use Rattle.pp_machine.proofs.ProfileLemmas.{processor_named}
 use Rattle.pp_word.specs.Numeral.{octal, short_octal}
-use Rattle.pp_machine.specs.ProcessorPlaces.{processor_fits}
+use Rattle.pp_machine.proofs.PpNoLemmas.{processor_fits}
 
 -- ---- numbers
 

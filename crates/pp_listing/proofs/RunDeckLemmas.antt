@@ -6,10 +6,11 @@ use Rattle.std.proofs.lemmas.Bool.{cases_lt, or_parts}
 use Rattle.std.proofs.lemmas.Bool.Decides.{eqb_tells}
 use Rattle.std.proofs.lemmas.List.{get_or_past, length-set, set_past}
 use Rattle.std.proofs.lemmas.List.Elements.{All-cons, All-nil, All-push, All-replicate, All-same, All-set}
-use Rattle.pp_word.specs.GrowingLists.{last_of}
-use Rattle.pp_word.specs.Tables.{tabulate, length-tabulate}
+use Rattle.pp_word.proofs.GrowingLists.{last_of}
+use Rattle.pp_word.specs.Tables.{tabulate}
+use Rattle.pp_word.proofs.TableLemmas.{length-tabulate}
 use Rattle.pp_channel.specs.Answer.{channel_state, event_of, event_with, flags_of, flags_shown, history_after, ready_at, reply_by, reply_shown}
-use Rattle.pp_channel.specs.AnswerLaws.{shows_flags}
+use Rattle.pp_channel.proofs.AnswerLemmas.{shows_flags}
 use Rattle.pp_channel.specs.ChannelNo.{channel_count, channel_index, channel_number}
 use Rattle.pp_channel.specs.History.{HasTwelveBitWord, HasTwelveBitWords, waiting}
 use Rattle.pp_channel.specs.declared.chan_op.ChanOp.{ChanOp}
@@ -28,9 +29,9 @@ use Rattle.pp_machine.specs.MachineState.{MachineState, processor_of, history_of
 use Rattle.pp_machine.specs.MachineStep.{answer_to, histories_after, central_after, stepped}
 use Rattle.pp_machine.specs.NeedAndEffect.{need, next_step, processor_after, if_running}
 use Rattle.pp_machine.specs.PpMemory.{empty_memory}
-use Rattle.pp_machine.specs.PpNo.{names_processor, processor_count, processor_index, processor_number}
+use Rattle.pp_machine.specs.PpNo.{names_processor, processor_count, processor_index, processor_number, processor_places}
 use Rattle.pp_machine.specs.Processor.{Processor, IsAtRest, new_processor, no_processor}
-use Rattle.pp_machine.specs.ProcessorPlaces.{processor_places, channel_of_processor}
+use Rattle.pp_machine.proofs.PpNoLemmas.{channel_of_processor}
 use Rattle.pp_machine.specs.Profile.{has_processor}
 use Rattle.pp_machine.specs.Step.{Step, need_of, does, writes}
 use Rattle.pp_machine.specs.declared.need.Need.{Need}

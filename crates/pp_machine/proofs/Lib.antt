@@ -1,7 +1,5 @@
-mod ProfileLemmas
 mod BlockLemmas
 mod BlockResultLemmas
-mod ReplayLemmas
 mod SignLemmas
 mod StoredLemmas
 mod HeadlineLemmas
@@ -11,6 +9,9 @@ mod DeadStartLemmas
 mod QuietLemmas
 mod TakenLemmas
 -- facts of the definitions, which proofs of other crates cite
+pub mod PpNoLemmas
+pub mod ProfileLemmas
+pub mod ReplayLemmas
 pub mod MemoryLemmas
 pub mod StepLemmas
 pub mod MachineStepLemmas

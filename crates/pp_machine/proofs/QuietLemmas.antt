@@ -18,7 +18,7 @@ use Rattle.pp_machine.specs.MachineState.{MachineState, processor_of, history_of
 use Rattle.pp_machine.specs.MachineStep.{answer_to, counted, served, taken, stepped}
 use Rattle.pp_machine.specs.NeedAndEffect.{need, processor_after}
 use Rattle.pp_machine.specs.Processor.{Processor, no_processor, IsAtRest}
-use Rattle.pp_machine.specs.PpNo.{processor_index, processor_number}
+use Rattle.pp_machine.specs.PpNo.{processor_index, processor_number, processor_places}
 use Rattle.pp_machine.specs.Profile.{processors_in, processor_in_turn}
 use Rattle.pp_machine.specs.Quiet.{is_none, is_quiet, step_beside, steps_beside, IsAhead, AreAhead}
 use Rattle.pp_machine.specs.Rounds.{whole_rounds}
@@ -27,12 +27,10 @@ use Rattle.pp_machine.specs.declared.need.Need.{Need}
 use Rattle.pp_machine.specs.declared.need.Need.TheVariants.{Nothing, Local, Channel, Read, Write}
 use Rattle.pp_machine.specs.declared.answer.Answer.TheVariants as answers
 use Rattle.pp_machine.specs.declared.profile.Profile.{Profile}
-use Rattle.pp_machine.specs.ProcessorPlaces.{processor_places}
-use Rattle.pp_machine.specs.ProfilePlaces.{most_processors}
-use Rattle.pp_machine.proofs.ProfileLemmas.{in_turn_at, no_rounds, next_round}
+use Rattle.pp_machine.proofs.ProfileLemmas.{most_processors, in_turn_at, no_rounds, next_round}
 use Rattle.pp_machine.proofs.StepLemmas.{nothing_at_rest, rest_changes_nothing}
 use Rattle.pp_machine.proofs.RoundLemmas.{barrel_rounds}
-use Rattle.pp_machine.specs.RunLaws.{barrel_more}
+use Rattle.pp_machine.proofs.RunLawLemmas.{barrel_more}
 
 -- the same channels and the same central memory, with other processors and other turns
 abbrev pub beside : List Processor → ℕ → MachineState → MachineState

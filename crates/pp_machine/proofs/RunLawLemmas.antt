@@ -1,27 +1,62 @@
--- A step keeps what holds of every channel, and so does a list of steps.
-use Rattle.std.proofs.Common.{get_or-set_same, ◌≡◌, ◌≢◌, ℕ, ◌<◌, ◌≤◌, ◌==◌, Bool, true, false, IsTrue, List, [], ◌∷◌, ◌++◌, length, map, append-nil, slice_set, get_or, refl, sym, ap, ◌∙◌, subst, arith}
+-- A run with one more step; a step keeps what holds of every channel, and so does a list of steps.
+use Rattle.std.proofs.Common.{◌≡◌, ℕ, zero, suc, ◌+◌, ◌<◌, List, [], ◌∷◌, ◌++◌, take, length, get_or, refl, ap, ◌∙◌, arith, get_or-set_same, ◌≢◌, ◌≤◌, ◌==◌, Bool, true, false, IsTrue, map, append-nil, slice_set, sym, subst}
+use Rattle.std.proofs.lemmas.List.{take_more, length_push, set-get_or, length-set, set_past}
+use Rattle.pp_machine.specs.MachineState.{MachineState, processor_of, history_of}
+use Rattle.pp_machine.specs.MachineStep.{stepped, answer_to, served, taken}
+use Rattle.pp_machine.specs.Profile.{processor_in_turn}
+use Rattle.pp_machine.specs.Run.{run, barrel}
+use Rattle.pp_machine.specs.declared.profile.Profile.{Profile}
 use Rattle.std.specs.Prelude.{if◌then◌else◌, Option, Some, None}
 use Rattle.std.specs.Option.{option_to_list}
 use Rattle.std.proofs.lemmas.Bool.{ne_eqb}
-use Rattle.std.proofs.lemmas.List.{set-get_or, length-set, set_past}
 use Rattle.std.proofs.lemmas.List.Elements.{filter_map-append}
 use Rattle.pp_channel.specs.Answer.{event_of}
-use Rattle.pp_channel.specs.ChannelNo.{channel_count, channel_index, names_channel}
+use Rattle.pp_channel.specs.ChannelNo.{channel_count, channel_index, names_channel, channel_places}
 use Rattle.pp_channel.specs.History.{IsLawful}
 use Rattle.pp_channel.specs.declared.chan_op.ChanOp.{ChanOp}
 use Rattle.pp_channel.specs.declared.event.Event.{Event}
 use Rattle.pp_channel.proofs.AnswerLemmas.{lawful_with_event}
-use Rattle.pp_channel.specs.ChannelPlaces.{channel_places}
 use Rattle.pp_channel.proofs.LawLemmas.{law_of_lawful}
 use Rattle.pp_machine.specs.Headline.{HoldsOnChannel, HoldsOnEachChannel, events_on, opening_history}
-use Rattle.pp_machine.specs.MachineState.{MachineState, processor_of, history_of}
-use Rattle.pp_machine.specs.MachineStep.{answer_to, served, taken, stepped}
 use Rattle.pp_machine.specs.NeedAndEffect.{need}
-use Rattle.pp_machine.specs.Run.{run}
 use Rattle.pp_machine.specs.declared.need.Need.{Need}
 use Rattle.pp_machine.specs.declared.need.Need.TheVariants.{Nothing, Local, Channel, Read, Write}
 use Rattle.pp_machine.specs.declared.trace.Trace.{Trace}
 use Rattle.pp_machine.proofs.HeadlineLemmas.{headline_after_event}
+
+-- over one step at the end of a list
+pub run-append : (ns : List ℕ) (n : ℕ) (m : MachineState)
+    → run (ns ++ n ∷ []) m ≡ stepped n (run ns m)
+run-append [] n m = refl
+run-append (x ∷ ns) n m = run-append ns n (stepped x m)
+
+-- over one more entry of a list
+pub run_more : (ns : List ℕ) (i : ℕ) (m : MachineState) → i < length ns
+    → run (take (i + 1) ns) m ≡ stepped (get_or ns i 0) (run (take i ns) m)
+run_more ns i m h =
+    ap (λ ks. run ks m) (take_more ns i 0 h) ∙ run-append (take i ns) (get_or ns i 0) m
+
+-- over one more turn of the barrel
+pub barrel_more : (p : Profile) (n : ℕ) (m : MachineState)
+    → run (barrel p (n + 1)) m ≡ stepped (processor_in_turn p n) (run (barrel p n) m)
+barrel_more p n m =
+    let more : n + 1 ≡ suc n = omega arith in
+    rw more (run-append (barrel p n) (processor_in_turn p n) m)
+
+stepped_profile : (n : ℕ) (m : MachineState) → (stepped n m).profile ≡ m.profile
+unfolding stepped
+stepped_profile n m = refl
+
+-- a machine keeps its profile
+pub run_profile : (ns : List ℕ) (m : MachineState) → (run ns m).profile ≡ m.profile
+run_profile [] m = refl
+run_profile (n ∷ ns) m = run_profile ns (stepped n m) ∙ stepped_profile n m
+
+-- as many processors as turns
+pub length-barrel : (p : Profile) (turns : ℕ) → length (barrel p turns) ≡ turns
+length-barrel p zero = refl
+length-barrel p (suc turns) =
+    omega (arith, length_push (barrel p turns) (processor_in_turn p turns), length-barrel p turns)
 
 abbrev entry_of : ℕ → ℕ → MachineState → Event → Trace
 entry_of n c m e = record { turn = m.turns; pp = n; channel = c; event = e }

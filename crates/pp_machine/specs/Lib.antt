@@ -21,9 +21,3 @@ pub mod Lending
 pub mod Rounds
 pub mod NextStep
 pub mod Quiet
--- laws of the definitions, which proofs of other crates cite; nobody has to read these either
-pub mod ProcessorPlaces
-pub mod ProfilePlaces
-pub mod FitLaws
-pub mod ReplayLaws
-pub mod RunLaws

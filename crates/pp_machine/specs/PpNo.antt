@@ -1,10 +1,11 @@
 -- The numbers of the peripheral processors, and the place of each in a list of all. A number and
--- its place are two things: proofs know of them what ProcessorPlaces says. (Manual 60100000,
--- peripheral processors: ten, numbered 0 to 11 (octal), which take turns in a barrel. A machine of
--- twenty has ten more, numbered 20 to 31, which follow them in the barrel.)
+-- its place are two things: proofs know of them what `processor_places` says. (Manual
+-- 60100000, peripheral processors: ten, numbered 0 to 11 (octal), which take turns in a barrel. A
+-- machine of twenty has ten more, numbered 20 to 31, which follow them in the barrel.)
 use Rattle.std.specs.Prelude.{ℕ, ◌&&◌, Bool, false, List, slice_index_or}
-use Rattle.pp_word.specs.GappedNumbers.{is_number, index_of, number_of}
+use Rattle.pp_word.specs.GappedNumbers.{ArePlaces, is_number, index_of, number_of}
 use Rattle.pp_word.specs.Tables.{tabulate}
+use Rattle.pp_word.proofs.GappedNumberLemmas.{places}
 
 -- the number of processors
 abbrev pub processor_count : ℕ
@@ -33,3 +34,9 @@ all_processors = each_processor (λ n. n)
 -- whether there is a processor with this number, and flags for all places name it
 abbrev pub is_named : List Bool → ℕ → Bool
 is_named named n = names_processor n && slice_index_or named (processor_index n) false
+
+-- a processor's number and its place
+pub processor_places : ArePlaces 0o12 processor_count names_processor
+    processor_index processor_number
+unfolding names_processor processor_index processor_number
+processor_places = places 0o12 6

@@ -83,7 +83,7 @@ impl<A: Allocator> Machine<A> {
 }
 
 /// The channel of the processor's own number.
-#[tactic(auto, using(crate::specs::ProcessorPlaces::channel_of_processor))]
+#[tactic(auto, using(crate::proofs::PpNoLemmas::channel_of_processor))]
 fn own_channel(n: PpNo) -> ChannelNo
     ensures value { result ≡ n }
     ensures named { IsTrue (names_processor n) }

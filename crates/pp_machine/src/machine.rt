@@ -66,7 +66,7 @@ impl<A: Allocator> Machine<A> {
     /// A machine of this profile, with central memory of `size` words, all 0: its processors as
     /// `Pp::new(profile)`, its channels without history, no turn counted. Processors and channels
     /// that the profile lacks come after the others, and have no turn of the barrel.
-    #[tactic(auto, using(pp_channel::specs::ChannelPlaces::channel_places))]
+    #[tactic(auto, using(pp_channel::specs::ChannelNo::channel_places))]
     pub fn new(alloc: A, profile: Profile, size: u32) -> Result<Self, CentralFault>
     where
         A: Copy,

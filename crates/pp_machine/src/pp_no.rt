@@ -18,8 +18,7 @@ pub struct PpNo {
 impl Model for PpNo {
     ghost use Rattle.std.specs.Prelude.{ℕ, IsTrue};
     ghost use Rattle.std.proofs.Common.{ap};
-    ghost use Rattle.pp_machine.specs.PpNo.{names_processor, processor_index, processor_number};
-    ghost use Rattle.pp_machine.specs.ProcessorPlaces.{processor_places};
+    ghost use Rattle.pp_machine.specs.PpNo.{names_processor, processor_index, processor_number, processor_places};
 
     ghost Value = { ℕ };
 
@@ -68,7 +67,7 @@ impl PpNo {
     }
 
     /// Its place in a list of all processors in the barrel's order.
-    #[tactic(auto, using(crate::specs::ProcessorPlaces::processor_places))]
+    #[tactic(auto, using(crate::specs::PpNo::processor_places))]
     pub fn index(self) -> usize
         ensures place { result ≡ processor_index self }
         ensures below { result < processor_count }
@@ -79,7 +78,7 @@ impl PpNo {
     }
 
     /// The processor at a place in the barrel's order.
-    #[tactic(auto, using(crate::specs::ProcessorPlaces::processor_places))]
+    #[tactic(auto, using(crate::specs::PpNo::processor_places))]
     pub fn at(place: usize) -> Self
         requires { place < processor_count }
         ensures number { result ≡ processor_number place }
@@ -89,7 +88,7 @@ impl PpNo {
     }
 
     /// The processor at the next place of twenty; after the last comes the first.
-    #[tactic(auto, using(crate::specs::ProcessorPlaces::processor_places))]
+    #[tactic(auto, using(crate::specs::PpNo::processor_places))]
     pub fn next(self) -> Self
         ensures { result ≡ processor_number ((processor_index self + 1) % processor_count) }
     {

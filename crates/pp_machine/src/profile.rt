@@ -46,7 +46,7 @@ impl Profile {
 
     /// Its processor of this number, or nothing from 12 (octal) on under `Ten`, from 12 to 17 and
     /// from 32 on under `Twenty`.
-    #[tactic(auto, using(crate::specs::ProfilePlaces::processor_named), // by its place
+    #[tactic(auto, using(crate::proofs::ProfileLemmas::processor_named), // by its place
     unfolding(crate::specs::Profile::has_processor))]
     pub fn processor(self, number: u8) -> Option<PpNo>
         ensures exists { IsSome result ↔ IsTrue (has_processor self number) }

@@ -1,19 +1,19 @@
 -- What is found at the end of a run.
 use Rattle.std.proofs.Common.{◌≡◌, ℕ, ◌+◌, Bool, true, false, IsTrue, List, [], ◌∷◌, ◌++◌, get_or, Option, None, refl, sym, ap, ap₂, ◌∙◌, append-nil, append_assoc}
 use Rattle.std.specs.Prelude.{not, if◌then◌else◌}
-use Rattle.pp_word.specs.Tables.{tabulate, tabulate_same}
+use Rattle.pp_word.specs.Tables.{tabulate}
+use Rattle.pp_word.proofs.TableLemmas.{tabulate_same}
 use Rattle.pp_channel.specs.Answer.{flags_of}
 use Rattle.pp_channel.specs.ChannelNo.{names_channel}
 use Rattle.pp_channel.specs.declared.chan_op.ChanOp.{ChanOp}
 use Rattle.pp_channel.specs.declared.event.Event.{Event}
 use Rattle.pp_channel.specs.declared.flags.Flags.{Flags}
 use Rattle.pp_machine.specs.MachineState.{MachineState, processor_of, history_of}
-use Rattle.pp_machine.specs.PpNo.{each_processor, names_processor, processor_count, processor_number}
+use Rattle.pp_machine.specs.PpNo.{each_processor, names_processor, processor_count, processor_number, processor_places}
 use Rattle.pp_machine.specs.Processor.{Processor}
-use Rattle.pp_machine.specs.ProcessorPlaces.{processor_places}
 use Rattle.pp_machine.specs.declared.need.Need.TheVariants.{Channel}
 use Rattle.pp_machine.specs.declared.trace.Trace.{Trace}
-use Rattle.pp_text.specs.PrintingLaws.{each_below_suc}
+use Rattle.pp_text.proofs.PrintingLemmas.{each_below_suc}
 use Rattle.pp_races.specs.FlagSets.{has}
 use Rattle.pp_races.specs.Findings.{end_by_need, held_before, is_shared, sharing_of}
 use Rattle.pp_races.specs.OtherFlags.{waits_at}

@@ -4,16 +4,15 @@ use Rattle.std.specs.Prelude.{not, count_by, nat_lt, if◌then◌else◌}
 use Rattle.std.proofs.lemmas.Bool.{and_from, cases_eq, cases_lt, lt-ltb, not-false}
 use Rattle.std.proofs.lemmas.List.{get_or_past, take_all}
 use Rattle.std.proofs.lemmas.List.Sums.{sum_by-cons}
-use Rattle.pp_word.specs.Tables.{get_or-tabulate}
+use Rattle.pp_word.proofs.TableLemmas.{get_or-tabulate}
 use Rattle.pp_channel.specs.Answer.{flags_of}
 use Rattle.pp_channel.specs.ChannelNo.{channel_count}
 use Rattle.pp_channel.specs.declared.chan_op.ChanOp.{ChanOp}
 use Rattle.pp_channel.specs.declared.event.Event.{Event}
 use Rattle.pp_machine.specs.MachineState.{MachineState, processor_of, history_of}
 use Rattle.pp_machine.specs.NeedAndEffect.{need}
-use Rattle.pp_machine.specs.PpNo.{each_processor, names_processor, processor_count, processor_index, processor_number}
+use Rattle.pp_machine.specs.PpNo.{each_processor, names_processor, processor_count, processor_index, processor_number, processor_places}
 use Rattle.pp_machine.specs.Processor.{no_processor}
-use Rattle.pp_machine.specs.ProcessorPlaces.{processor_places}
 use Rattle.pp_machine.specs.Run.{run}
 use Rattle.pp_machine.specs.declared.need.Need.{Need}
 use Rattle.pp_machine.specs.declared.need.Need.TheVariants.{Channel}

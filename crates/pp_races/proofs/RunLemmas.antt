@@ -12,10 +12,10 @@ use Rattle.pp_machine.specs.NeedAndEffect.{need}
 use Rattle.pp_machine.specs.PpNo.{names_processor, processor_count}
 use Rattle.pp_machine.specs.Profile.{processor_in_turn}
 use Rattle.pp_machine.specs.Run.{run, barrel}
-use Rattle.pp_machine.specs.RunLaws.{length-barrel, run-append}
+use Rattle.pp_machine.proofs.RunLawLemmas.{length-barrel, run-append}
 use Rattle.pp_machine.specs.declared.need.Need.{Need}
 use Rattle.pp_machine.specs.declared.profile.Profile.{Profile}
-use Rattle.pp_run.specs.RunStepLaws.{take_barrel, turn_of_barrel}
+use Rattle.pp_run.proofs.RunStepLemmas.{take_barrel, turn_of_barrel}
 use Rattle.pp_run.specs.Determinacy.{IsDeterminate, UsesAt, WritesAt, at_moment, need_at}
 use Rattle.pp_run.proofs.Moments.{moment_next, moment_each, mono, run_central, run_processors}
 use Rattle.pp_races.specs.Findings.{end_of, findings, findings_at_end, sharing_of}

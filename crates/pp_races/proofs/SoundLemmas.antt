@@ -15,9 +15,8 @@ use Rattle.pp_channel.proofs.AnswerLemmas.{flags_by_table, lawful_with_event}
 use Rattle.pp_machine.specs.MachineState.{MachineState, processor_of, history_of}
 use Rattle.pp_machine.specs.MachineStep.{answer_to, stepped}
 use Rattle.pp_machine.specs.NeedAndEffect.{need, processor_after}
-use Rattle.pp_machine.specs.PpNo.{names_processor, processor_count, processor_index, processor_number}
+use Rattle.pp_machine.specs.PpNo.{names_processor, processor_count, processor_index, processor_number, processor_places}
 use Rattle.pp_machine.specs.Processor.{Processor}
-use Rattle.pp_machine.specs.ProcessorPlaces.{processor_places}
 use Rattle.pp_machine.specs.declared.need.Need.{Need}
 use Rattle.pp_machine.specs.declared.need.Need.TheVariants.{Channel}
 use Rattle.pp_machine.specs.declared.trace.Trace.{Trace}

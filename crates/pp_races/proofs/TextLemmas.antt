@@ -5,7 +5,7 @@ use Rattle.std.specs.Io.KnownBytes.{Appends, Keeps}
 use Rattle.std.proofs.lemmas.Grind.{flat_map-append}
 use Rattle.std.proofs.lemmas.List.{take-append-le, take_all}
 use Rattle.pp_text.specs.TextWriter.{HasPrinted, Prints}
-use Rattle.pp_text.specs.PrintingLaws.{prints_on, prints_nothing}
+use Rattle.pp_text.proofs.PrintingLemmas.{prints_on, prints_nothing}
 use Rattle.pp_text.specs.Written.{AppendsFront, IsReportWritten, IsWritten}
 use Rattle.pp_text.specs.declared.report_fault.ReportFault.{ReportFault}
 use Rattle.pp_text.specs.declared.text_writer.TextWriter.{TextWriter}

@@ -5,9 +5,8 @@ use Rattle.pp_machine.specs.MachineState.{MachineState}
 use Rattle.pp_machine.specs.PpNo.{processor_count, processor_number}
 use Rattle.pp_machine.specs.declared.trace.Trace.{Trace}
 use Rattle.pp_text.specs.InstructionText.{running_text}
-use Rattle.pp_text.specs.PrintedText.{padded}
+use Rattle.pp_text.specs.PrintedText.{padded, event_text, line_end}
 use Rattle.pp_word.specs.Numeral.{decimal, octal}
-use Rattle.pp_text.specs.PrintedText.{event_text, line_end}
 use Rattle.pp_races.specs.Findings.{findings}
 use Rattle.pp_races.specs.Watch.{each_below}
 use Rattle.pp_races.specs.declared.asking_step.AskingStep.{AskingStep}

@@ -29,8 +29,8 @@ use pp_word::{Word18, Word60};
 use std::alloc::Allocator;
 
 /// The place of the entry of a processor and a channel.
-#[tactic(auto, using(pp_machine::specs::ProcessorPlaces::processor_places, // places
-pp_channel::specs::ChannelPlaces::channel_places))]
+#[tactic(auto, using(pp_machine::specs::PpNo::processor_places, // places
+pp_channel::specs::ChannelNo::channel_places))]
 pub(crate) fn entry_place(n: PpNo, c: ChannelNo) -> usize
     ensures place { result ≡ entry_place n c }
     ensures within { result < entry_count }

@@ -4,12 +4,11 @@ use Rattle.std.specs.Prelude.{◌⊎◌, if◌then◌else◌, map}
 use Rattle.std.specs.Option.{option_to_list}
 use Rattle.std.proofs.lemmas.Bool.{cases_lt}
 use Rattle.pp_channel.specs.Answer.{event_of, event_with, flags_of, channel_state, operation_of, ready_at, reply_made, reply_by, reply_to, seen_answered}
-use Rattle.pp_channel.specs.AnswerLaws.{held_at}
+use Rattle.pp_channel.proofs.AnswerLemmas.{held_at, table_of_ready}
 use Rattle.pp_channel.specs.History.{IsLawful, waiting}
 use Rattle.pp_report.specs.Types.{Access, Answer, ChanOp, Did, Entry, Event, Flags, Need, Outcome, PpState, Reply, Saw, Seen}
-use Rattle.pp_channel.proofs.AnswerLemmas.{table_of_ready}
 use Rattle.pp_machine.specs.Block.{block_word}
-use Rattle.pp_machine.specs.FitLaws.{acts_where_held, tells_where_fits}
+use Rattle.pp_machine.proofs.ReplayLemmas.{acts_where_held, tells_where_fits}
 use Rattle.pp_machine.specs.NeedAndEffect.{need, step_of, outcome, is_held, if_running}
 use Rattle.pp_machine.specs.Processor.{Processor, word_at}
 use Rattle.pp_machine.specs.Replay.{fits, reply_fits}

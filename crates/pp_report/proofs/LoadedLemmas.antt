@@ -4,9 +4,8 @@ use Rattle.std.specs.Prelude.{IsTrue, slice_index_or}
 use Rattle.std.proofs.lemmas.Bool.{cases_lt}
 use Rattle.std.proofs.lemmas.List.{get_or_default, get_or_past}
 use Rattle.pp_machine.specs.MachineState.{MachineState, processor_of}
-use Rattle.pp_machine.specs.PpNo.{processor_count, processor_index}
+use Rattle.pp_machine.specs.PpNo.{processor_count, processor_index, processor_places}
 use Rattle.pp_machine.specs.Processor.{Processor, IsAtRest, no_processor}
-use Rattle.pp_machine.specs.ProcessorPlaces.{processor_places}
 use Rattle.pp_machine.specs.Profile.{has_processor, processors_in}
 use Rattle.pp_machine.specs.declared.pp_state.PpState.TheVariants.{Running, Stopped}
 use Rattle.pp_machine.specs.declared.profile.Profile.{Profile}

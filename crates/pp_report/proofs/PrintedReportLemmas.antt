@@ -5,7 +5,7 @@ use Rattle.std.specs.List.{AllByRecursion, cons_option, enumerate_from, filter_m
 use Rattle.std.proofs.lemmas.Bool.{and_parts, cases_eq}
 use Rattle.std.proofs.lemmas.List.{append-nil, length_push}
 use Rattle.std.proofs.lemmas.List.Elements.{All-head, All-tail}
-use Rattle.pp_channel.specs.ChannelPlaces.{channel_fits}
+use Rattle.pp_channel.proofs.ChannelNoLemmas.{channel_fits}
 use Rattle.pp_channel.proofs.FrontLemmas.{lawful_front}
 use Rattle.pp_channel.proofs.EachHistory.{lawful_on}
 use Rattle.pp_channel.specs.ChannelNo.{all_channels, names_channel}

@@ -10,8 +10,7 @@ use Rattle.std.proofs.lemmas.Option.{slice_get_within}
 use Rattle.std.proofs.lemmas.List.Sums.{sum_by-append, sum_by-cons}
 use Rattle.pp_word.specs.Subsequence.{IsSubsequence}
 use Rattle.pp_channel.specs.Answer.{event_answered}
-use Rattle.pp_channel.specs.ChannelNo.{channel_count, channel_index, channel_number, names_channel}
-use Rattle.pp_channel.specs.ChannelPlaces.{channel_places}
+use Rattle.pp_channel.specs.ChannelNo.{channel_count, channel_index, channel_number, names_channel, channel_places}
 use Rattle.pp_channel.specs.History.{IsLawful, history_on}
 use Rattle.pp_line.specs.LineLog.{is_event}
 use Rattle.pp_channel.specs.Law.{IsPrefix}
@@ -28,10 +27,10 @@ use Rattle.pp_machine.specs.NeedAndEffect.{need, outcome, processor_after}
 use Rattle.pp_machine.specs.PpNo.{processor_number}
 use Rattle.pp_machine.specs.Processor.{Processor}
 use Rattle.pp_machine.specs.Profile.{processors_in}
-use Rattle.pp_machine.specs.ProfilePlaces.{most_processors}
+use Rattle.pp_machine.proofs.ProfileLemmas.{most_processors}
 use Rattle.pp_machine.specs.Run.{run}
 use Rattle.pp_machine.specs.Replay.{OfChannel, fits, contribution, replayed, collected_along, events_given}
-use Rattle.pp_machine.specs.ReplayLaws.{Gives, Gives-counted, Gives-to}
+use Rattle.pp_machine.proofs.ReplayLemmas.{Gives, Gives-counted, Gives-to}
 use Rattle.pp_runner.proofs.LabourLemmas.{events_by}
 use Rattle.pp_runner.specs.Accesses.{accesses_by, AreAccessesOf, HasAccessed, HaveAccessed}
 use Rattle.pp_bounds.specs.Limits.{RunLimits}

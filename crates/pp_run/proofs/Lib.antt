@@ -1,3 +1,4 @@
+pub mod RunStepLemmas
 pub mod BareLemmas
 pub mod StepFacts
 pub mod Moments

@@ -7,8 +7,8 @@ ghost use Rattle.pp_machine.specs.Profile.{processor_in_turn};
 use pp_machine::{PpNo, Profile};
 
 /// The processor whose turn it is in the barrel after `turn` turns (decimal).
-#[tactic(auto, using(pp_machine::specs::ProfilePlaces::rest_within, // each place has a processor
-pp_machine::specs::ProfilePlaces::most_processors))]
+#[tactic(auto, using(pp_machine::proofs::ProfileLemmas::rest_within, // each place has a processor
+pp_machine::proofs::ProfileLemmas::most_processors))]
 pub fn in_turn(profile: Profile, turn: u64) -> PpNo
     ensures is { result ≡ processor_in_turn profile turn }
     ensures place { processor_index result < processor_count }

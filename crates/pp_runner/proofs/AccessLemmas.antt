@@ -6,14 +6,14 @@ use Rattle.std.proofs.lemmas.Bool.{cases_eq, eq-eqb, ne_eqb}
 use Rattle.std.proofs.lemmas.List.{append-nil, length-take-le, map-append, take_all}
 use Rattle.std.proofs.lemmas.List.Elements.{All-pop, filter_map-append}
 use Rattle.pp_word.specs.Subsequence.{IsSubsequence}
-use Rattle.pp_word.specs.Subsequences.{stands_append, stands_later, stands_more, stands_whole}
+use Rattle.pp_word.proofs.Subsequences.{stands_append, stands_later, stands_more, stands_whole}
 use Rattle.pp_line.proofs.ChannelWordLemmas.{number_of_word, flags_of_word}
 use Rattle.pp_channel.proofs.FrontLemmas.{twelve_bits_take}
 use Rattle.pp_channel.proofs.EachHistory.{bits_on}
 use Rattle.pp_line.proofs.LineAnswers.{answers_as_made}
 use Rattle.pp_line.proofs.OrderLemmas.{entries_more}
 use Rattle.pp_channel.specs.Answer.{IsAnswer, channel_state, event_answered, flags_of, flags_shown, seen_answered}
-use Rattle.pp_channel.specs.AnswerLaws.{shows_flags}
+use Rattle.pp_channel.proofs.AnswerLemmas.{shows_flags}
 use Rattle.pp_line.specs.ChannelWord.{number_in, flags_in}
 use Rattle.pp_channel.specs.History.{HasTwelveBitWords, history_on}
 use Rattle.pp_line.specs.LineLog.{LogState, IsMonotone, event_entry, look_entry}
@@ -25,7 +25,7 @@ use Rattle.pp_runner.specs.Types.{Access, Answer, ChanOp, Did, Entry, Event, Fla
 use Rattle.pp_machine.specs.NeedAndEffect.{need, processor_after}
 use Rattle.pp_machine.specs.Processor.{Processor}
 use Rattle.pp_machine.specs.Replay.{OfChannel, contribution, fits, given_count, replayed}
-use Rattle.pp_machine.specs.ReplayLaws.{Gives, Gives-counted}
+use Rattle.pp_machine.proofs.ReplayLemmas.{Gives, Gives-counted}
 use Rattle.pp_runner.specs.Accesses.{accesses_by, AreAccessesOf}
 use Rattle.pp_runner.specs.Labour.{HasMade, HasLooked, IsAnswered, IsNoted}
 use Rattle.pp_runner.specs.WorkerReport.{IsBySize}

@@ -5,7 +5,7 @@ use Rattle.pp_line.proofs.JoinedLines.{zip_push}
 use Rattle.std.proofs.lemmas.List.{take_more, length-append}
 use Rattle.std.proofs.lemmas.List.Elements.{All-pop, All-push, All-weaker}
 use Rattle.pp_word.specs.Subsequence.{IsSubsequence}
-use Rattle.pp_word.specs.Subsequences.{stands_more}
+use Rattle.pp_word.proofs.Subsequences.{stands_more}
 use Rattle.pp_line.specs.LineState.{LineState, IsSplitFrom}
 use Rattle.pp_line.specs.Order.{entries_among}
 use Rattle.pp_line.specs.LineView.{parent_view}
@@ -15,8 +15,7 @@ use Rattle.pp_runner.specs.Types.{End, Ended, Entry}
 use Rattle.pp_machine.specs.Headline.{opening_history}
 use Rattle.pp_machine.specs.MachineState.{MachineState, processor_of}
 use Rattle.pp_machine.specs.Processor.{Processor, no_processor}
-use Rattle.pp_machine.specs.PpNo.{processor_count, processor_index, processor_number}
-use Rattle.pp_machine.specs.ProcessorPlaces.{processor_places}
+use Rattle.pp_machine.specs.PpNo.{processor_count, processor_index, processor_number, processor_places}
 use Rattle.pp_machine.specs.Replay.{looks_and_events}
 use Rattle.pp_runner.proofs.LabourLemmas.{work_begun}
 use Rattle.pp_runner.proofs.LogLemmas.{stands_done}

@@ -12,7 +12,7 @@ use Rattle.pp_deck.specs.DeckLine.{Line, central_words, section, words}
 use Rattle.pp_text.specs.Differences.{differs, places}
 use Rattle.pp_state.specs.Changes.{begins_line, central_line, changed_lines, changed_section, has_changes, line_from, neighbours, position_on_line}
 use Rattle.pp_state.specs.StateLaw.{AreMemories, IsNew, overwritten, placed, words_set}
-use Rattle.pp_text.specs.PrintingLaws.{range_flat}
+use Rattle.pp_text.proofs.PrintingLemmas.{range_flat}
 use Rattle.pp_word.specs.Numeral.{octal}
 use Rattle.pp_listing.specs.ListedLine.{after_blank, deck_line}
 

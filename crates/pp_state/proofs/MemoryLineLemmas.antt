@@ -15,7 +15,7 @@ use Rattle.std.proofs.Math.Nat.{mod-eq_of_lt}
 use Rattle.std.proofs.lemmas.Bool.Decides.{nat_tests}
 use Rattle.std.proofs.lemmas.List.Sums.{suffix_len-le-length}
 use Rattle.pp_word.specs.Numeral.{octal, value_of}
-use Rattle.pp_word.specs.NumeralLaws.{digits_value, length_digits}
+use Rattle.pp_word.proofs.NumeralLemmas.{digits_value, length_digits}
 use Rattle.pp_state.specs.MemoryText.{trimmed}
 use Rattle.pp_state.specs.MemoryReading.{number_in}
 

@@ -3,13 +3,11 @@ use Rattle.std.proofs.Common.{◌≡◌, ◌≢◌, ℕ, ◌≤◌, ◌⊎◌, i
 use Rattle.std.proofs.lemmas.Bool.{both_ways, cases_Bool}
 use Rattle.std.proofs.lemmas.List.{get_or_past}
 use Rattle.pp_channel.specs.Answer.{IsReady, event_of, only_looks}
-use Rattle.pp_channel.specs.ChannelNo.{channel_count, channel_index, names_channel}
+use Rattle.pp_channel.specs.ChannelNo.{channel_count, channel_index, names_channel, channel_places}
 use Rattle.pp_channel.specs.History.{IsLawful, active}
 use Rattle.pp_channel.specs.declared.chan_op.ChanOp.{ChanOp}
 use Rattle.pp_channel.specs.declared.event.Event.{Event}
-use Rattle.pp_channel.specs.AnswerLaws.{looks_or_acts}
-use Rattle.pp_channel.proofs.AnswerLemmas.{none_without_ready, table_of_ready}
-use Rattle.pp_channel.specs.ChannelPlaces.{channel_places}
+use Rattle.pp_channel.proofs.AnswerLemmas.{looks_or_acts, none_without_ready, table_of_ready}
 use Rattle.pp_channel.proofs.HistoryLemmas.{lawful_empty}
 use Rattle.pp_machine.specs.Headline.{HoldsOnEachChannel}
 use Rattle.pp_machine.specs.MachineState.{MachineState, history_of, processor_of}

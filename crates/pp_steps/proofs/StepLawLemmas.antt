@@ -5,7 +5,7 @@ use Rattle.std.specs.List.{filter, flat_map, prefix_len}
 use Rattle.std.proofs.lemmas.Bool.{cases_eq, cond-false, cond-true, eq-eqb, ne_eqb}
 use Rattle.pp_channel.specs.declared.flags.Flags.{Flags}
 use Rattle.pp_run.specs.RunSteps.{RunStep, seen_of}
-use Rattle.pp_run.specs.RunStepLaws.{seen_other}
+use Rattle.pp_run.proofs.RunStepLemmas.{seen_other}
 use Rattle.pp_steps.specs.HeldRuns.{is_held_with, last_of, progress_of}
 use Rattle.pp_steps.specs.StepsLaw.{is_by, is_running, line_steps, steps_on}
 use Rattle.pp_steps.specs.StepsText.{line_kind, lines_from, with_line, with_lines}

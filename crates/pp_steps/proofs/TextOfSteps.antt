@@ -6,7 +6,7 @@ use Rattle.std.proofs.lemmas.Bool.{cond-false, cond-true, eq-eqb, ne_eqb}
 use Rattle.std.proofs.lemmas.List.Sums.{fold-append}
 use Rattle.pp_machine.specs.PpNo.{processor_count, processor_index}
 use Rattle.pp_run.specs.RunSteps.{RunStep, is_of, seen_of}
-use Rattle.pp_run.specs.RunStepLaws.{seen-append, seen_more}
+use Rattle.pp_run.proofs.RunStepLemmas.{seen-append, seen_more}
 use Rattle.pp_steps.specs.Cursor.{each_cursor, line_at, no_cursor, past_step}
 use Rattle.pp_steps.specs.HeldRuns.{HeldSpells, each_spells, last_of, no_spells, progress_of, with_step}
 use Rattle.pp_steps.specs.StepsText.{kind_text, line_kind, line_text, lines_from, with_lines}

@@ -15,9 +15,8 @@ use Rattle.pp_machine.specs.declared.outcome.Outcome.TheVariants.{Held}
 use Rattle.pp_machine.specs.declared.pp_state.PpState.{PpState}
 use Rattle.pp_machine.specs.declared.pp_state.PpState.TheVariants.{Running}
 use Rattle.pp_text.specs.InstructionText.{is_long, running_instruction}
-use Rattle.pp_text.specs.PrintedText.{padded}
+use Rattle.pp_text.specs.PrintedText.{padded, event_text, line_end, state_text}
 use Rattle.pp_word.specs.Numeral.{decimal, octal}
-use Rattle.pp_text.specs.PrintedText.{event_text, line_end, state_text}
 use Rattle.pp_text.specs.Differences.{differs, places}
 use Rattle.pp_text.specs.Standing.{flags_text, held_text}
 

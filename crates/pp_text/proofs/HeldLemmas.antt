@@ -9,7 +9,7 @@ use Rattle.pp_channel.specs.declared.event.Event.TheVariants as events
 use Rattle.pp_channel.specs.declared.flags.Flags.{Flags}
 use Rattle.pp_channel.specs.declared.reply.Reply.{Reply}
 use Rattle.pp_channel.specs.declared.reply.Reply.TheVariants as replies
-use Rattle.pp_channel.specs.AnswerLaws.{held_at, look_makes_none, look_not_held}
+use Rattle.pp_channel.proofs.AnswerLemmas.{held_at, look_makes_none, look_not_held}
 use Rattle.pp_machine.specs.MachineState.{MachineState, history_of, processor_of}
 use Rattle.pp_machine.specs.MachineStep.{answer_to, step_outcome}
 use Rattle.pp_machine.specs.NeedAndEffect.{is_held, need, outcome, if_running, next_step}

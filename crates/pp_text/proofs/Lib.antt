@@ -4,6 +4,7 @@ mod TextWriterLemmas
 mod InstructionLemmas
 mod OctalLemmas
 -- facts of the definitions, which proofs of other crates cite
+pub mod PrintingLemmas
 pub mod TextLawLemmas
 pub mod TextLemmas
 pub mod HeldLemmas

@@ -2,8 +2,7 @@
 use Rattle.std.proofs.Common.{◌≡◌, ℕ, ◌+◌, ◌*◌, ◌/◌, ◌%◌, ◌<◌, List, [], ◌∷◌, get_or, map, refl, sym, ap, ◌∙◌, arith}
 use Rattle.std.specs.List.{range_with_len}
 use Rattle.std.proofs.lemmas.List.FromFn.{get_or-map-range_with_len}
-use Rattle.pp_word.specs.Numeral.{digits}
-use Rattle.pp_word.specs.Numeral.{decimal_pairs}
+use Rattle.pp_word.specs.Numeral.{digits, decimal_pairs}
 
 -- two functions that agree below a bound, as lists
 agree_below : (f g : ℕ → ℕ) (n i : ℕ) → i < n → map f (range_with_len 0 n) ≡ map g (range_with_len 0 n) → f i ≡ g i

@@ -10,7 +10,7 @@ use Rattle.std.proofs.lemmas.List.Elements.{All-append, All-cons, All-head, All-
 use Rattle.std.proofs.Math.Seq.{take-suc, take-append_seam, drop-append_seam}
 use Rattle.std.proofs.Math.Nat.{div-add-mod}
 use Rattle.pp_channel.specs.ChannelNo.{names_channel}
-use Rattle.pp_channel.specs.ChannelPlaces.{channel_fits}
+use Rattle.pp_channel.proofs.ChannelNoLemmas.{channel_fits}
 use Rattle.pp_channel.specs.History.{HasTwelveBitWord, active, waiting, last_stretch, history_on}
 use Rattle.pp_channel.specs.Session.{puts, takes}
 use Rattle.pp_channel.specs.declared.event.Event.{Event}
@@ -18,13 +18,13 @@ use Rattle.pp_channel.specs.declared.event.Event.TheVariants.{Activate, Disconne
 use Rattle.pp_machine.specs.MachineState.{MachineState, processor_of}
 use Rattle.pp_machine.specs.Processor.{Processor, HasFaultNumber}
 use Rattle.pp_machine.specs.PpNo.{names_processor, processor_index, is_named}
-use Rattle.pp_machine.specs.ProcessorPlaces.{processor_fits}
+use Rattle.pp_machine.proofs.PpNoLemmas.{processor_fits}
 use Rattle.pp_machine.specs.declared.pp_state.PpState.{PpState}
 use Rattle.pp_machine.specs.declared.pp_state.PpState.TheVariants.{Running, Stopped, Fault}
 use Rattle.pp_machine.specs.declared.trace.Trace.{Trace}
 use Rattle.pp_word.specs.Numeral.{decimal, digit, digits, octal, unpadded}
 use Rattle.pp_text.specs.TextLaw.{EventFits, ProcessorFits, HistoryFits, ShowSameProcessor, ShowSameChannel, FitsItsText, AgreeOnText}
-use Rattle.pp_text.specs.PrintingLaws.{channels_by_number, numbered_channel_line, processors_by_number}
+use Rattle.pp_text.proofs.PrintingLemmas.{channels_by_number, numbered_channel_line, processors_by_number}
 use Rattle.pp_text.specs.PrintedText.{channel_line, channel_text, each_below, event_line, event_text, line_end, named_processor_line, printed, processor_line, state_text, used_channel_line}
 
 -- ---- lists of characters

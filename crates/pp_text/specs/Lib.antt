@@ -6,5 +6,3 @@ pub mod TextLaw
 pub mod Piece
 pub mod Written
 pub mod TextWriter
--- laws of the definitions, which proofs of other crates cite; nobody has to read these
-pub mod PrintingLaws

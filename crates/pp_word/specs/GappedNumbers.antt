@@ -1,11 +1,7 @@
 -- A numbering with a gap: `half` numbers from 0 on, then `gap` that name nothing, then `half` more;
 -- and the place of each in a list of all. So channels and processors are numbered: the second half
 -- begins at 20 (octal).
-use Rattle.std.proofs.Common.{◌≡◌, ℕ, ◌+◌, ◌-◌, ◌<◌, ◌≤◌, Bool, List, [], ◌++◌, ◌∙◌, arith}
-use Rattle.std.specs.Prelude.{◌&&◌, ◌||◌, IsTrue, nat_lt, nat_le, if◌then◌else◌}
-use Rattle.std.proofs.lemmas.Grind.{flat_map-append}
-use Rattle.std.specs.List.{flat_map, range_with_len}
-use Rattle.pp_word.specs.GrowingLists.{flat_map_parts}
+use Rattle.std.specs.Prelude.{◌≡◌, ℕ, ◌+◌, ◌-◌, ◌<◌, ◌≤◌, ◌&&◌, ◌||◌, Bool, IsTrue, nat_lt, nat_le, if◌then◌else◌}
 
 -- whether a number names one
 unfoldable pub is_number : (half gap : ℕ) → ℕ → Bool
@@ -40,38 +36,3 @@ pub record ArePlaces (half : ℕ) (count : ℕ) (names : ℕ → Bool) (index nu
   pub named_low : (n : ℕ) → n < half → IsTrue (names n)
   pub low_number : (n : ℕ) → index n < half → n < half
   pub low_place : (n : ℕ) → n < half → index n < half
-
-pub places : (half gap : ℕ)
-    → ArePlaces half (half + half) (is_number half gap) (index_of half gap) (number_of half gap)
-unfolding is_number index_of number_of
-places half gap = record {
-  place_again = λ place names. grind (arith, names);
-  place_below = λ n names. grind (arith, names);
-  named_below = λ n below. grind (arith, below);
-  place_past = λ n none. grind (arith, none);
-  one_place = λ m n names same. grind (arith, names, same);
-  place_of_number = λ place below. grind (arith, below);
-  number_named = λ place below. grind (arith, below);
-  number_of_place = λ n names. grind (arith, names);
-  named_low = λ n low. grind (arith, low);
-  low_number = λ n below. grind (arith, below);
-  low_place = λ n low. grind (arith, low);
-}
-
--- a walk over all is one over all numbers below a bound
-in_gap : (half gap n : ℕ) → half ≤ n → n < half + gap → IsTrue (is_number half gap n) → ⊥
-unfolding is_number
-in_gap half gap n past below names = grind (arith, past, below, names)
-
-past_all : (half gap n : ℕ) → (half + gap) + half ≤ n → IsTrue (is_number half gap n) → ⊥
-unfolding is_number
-past_all half gap n past names = grind (arith, past, names)
-
-pub over_numbers : {X : Type 0} (half gap past : ℕ) (f : ℕ → List X)
-    → ((n : ℕ) → (IsTrue (is_number half gap n) → ⊥) → f n ≡ [])
-    → flat_map f (range_with_len 0 half ++ range_with_len (half + gap) half)
-    ≡ flat_map f (range_with_len 0 (half + (gap + (half + past))))
-over_numbers half gap past f none =
-    flat_map-append f (range_with_len 0 half) (range_with_len (half + gap) half)
-    ∙ flat_map_parts f half gap half past
-    (λ n low high. none n (in_gap half gap n low high)) (λ n low. none n (past_all half gap n low))

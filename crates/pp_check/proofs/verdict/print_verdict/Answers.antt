@@ -1,4 +1,4 @@
-use Rattle.pp_text.specs.PrintingLaws.{◌▹◌}
+use Rattle.pp_text.proofs.PrintingLemmas.{◌▹◌}
 use Rattle.pp_check.specs.Verdict.{verdict_line}
 use Rattle.pp_check.proofs.verdict.print_verdict.Goals as goal
 

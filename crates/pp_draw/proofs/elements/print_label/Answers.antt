@@ -1,4 +1,4 @@
-use Rattle.pp_text.specs.PrintingLaws.{◌▹◌}
+use Rattle.pp_text.proofs.PrintingLemmas.{◌▹◌}
 use Rattle.pp_draw.proofs.elements.print_label.Goals as goal
 
 pub returns : goal.returns

@@ -1,5 +1,5 @@
 use Rattle.pp_draw.specs.Elements.{title_text}
-use Rattle.pp_text.specs.PrintingLaws.{◌▹◌}
+use Rattle.pp_text.proofs.PrintingLemmas.{◌▹◌}
 use Rattle.pp_draw.proofs.elements.print_title.Goals as goal
 
 pub returns : goal.returns

@@ -1,6 +1,6 @@
 use Rattle.std.proofs.Common.{◌≡◌, arith}
 use Rattle.pp_draw.specs.Frame.{head_text, picture_width}
-use Rattle.pp_text.specs.PrintingLaws.{◌▹◌}
+use Rattle.pp_text.proofs.PrintingLemmas.{◌▹◌}
 use Rattle.pp_draw.proofs.frame.print_head.Goals as goal
 
 pub returns : goal.returns

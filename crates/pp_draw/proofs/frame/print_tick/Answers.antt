@@ -2,7 +2,7 @@ use Rattle.std.proofs.Common.{◌≡◌, ◌%◌, [], eqb, sym, subst}
 use Rattle.std.proofs.lemmas.Bool.{cond-true, eq-eqb}
 use Rattle.pp_text.specs.TextWriter.{Prints}
 use Rattle.pp_draw.specs.Frame.{tick_element, tick_turns}
-use Rattle.pp_text.specs.PrintingLaws.{◌▹◌}
+use Rattle.pp_text.proofs.PrintingLemmas.{◌▹◌}
 use Rattle.pp_draw.proofs.frame.print_tick.Goals as goal
 
 pub returns : goal.returns

@@ -4,7 +4,7 @@ use Rattle.pp_channel.specs.ChannelNo.{channel_index}
 use Rattle.pp_channel.specs.History.{active, waiting}
 use Rattle.pp_machine.specs.MachineState.{history_of}
 use Rattle.pp_text.specs.PrintedText.{channel_text}
-use Rattle.pp_text.specs.PrintingLaws.{◌▹◌}
+use Rattle.pp_text.proofs.PrintingLemmas.{◌▹◌}
 use Rattle.pp_text.specs.TextWriter.{Prints}
 use Rattle.pp_draw.specs.Condition.{channel_name}
 use Rattle.pp_draw.specs.DrawingText.{channel_lane, is_used, lane_text, used_among}

@@ -3,7 +3,7 @@ use Rattle.std.proofs.lemmas.Bool.{cond-true}
 use Rattle.pp_machine.specs.MachineState.{processor_of}
 use Rattle.pp_machine.specs.PpNo.{processor_index}
 use Rattle.pp_text.specs.PrintedText.{state_text}
-use Rattle.pp_text.specs.PrintingLaws.{◌▹◌}
+use Rattle.pp_text.proofs.PrintingLemmas.{◌▹◌}
 use Rattle.pp_text.specs.TextWriter.{Prints}
 use Rattle.pp_draw.specs.Condition.{processor_name}
 use Rattle.pp_draw.specs.DrawingText.{is_flagged, lane_text, lanes_above, processor_lane}

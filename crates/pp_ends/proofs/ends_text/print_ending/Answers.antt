@@ -1,4 +1,4 @@
-use Rattle.pp_text.specs.PrintingLaws.{◌▹◌}
+use Rattle.pp_text.proofs.PrintingLemmas.{◌▹◌}
 use Rattle.pp_ends.proofs.ends_text.print_ending.Goals as goal
 
 pub returns-in-AtRest : goal.returns-in-AtRest

@@ -1,7 +1,7 @@
 use Rattle.std.proofs.Common.{List, ℕ, ◌++◌, append_assoc, ap, ◌∙◌}
 use Rattle.pp_machine.specs.Processor.{Processor}
 use Rattle.pp_text.specs.PrintedText.{line_end, processor_line}
-use Rattle.pp_text.specs.PrintingLaws.{◌▹◌, prints_on}
+use Rattle.pp_text.proofs.PrintingLemmas.{◌▹◌, prints_on}
 use Rattle.pp_text.specs.Standing.{standing}
 use Rattle.pp_ends.specs.EndsText.{loop_text}
 use Rattle.pp_ends.proofs.ends_text.print_processor.Goals as goal

@@ -1,4 +1,4 @@
-use Rattle.pp_text.specs.PrintingLaws.{prints_on, prints_then}
+use Rattle.pp_text.proofs.PrintingLemmas.{prints_on, prints_then}
 use Rattle.pp_listing.proofs.TextLemmas.{central_line_pieces}
 use Rattle.pp_listing.proofs.deck_lines.print_central_line.Goals as goal
 

@@ -1,5 +1,5 @@
 use Rattle.std.proofs.Common.{[], ◌∙◌, sym, refl, arith, subst}
-use Rattle.pp_text.specs.PrintingLaws.{prints_nothing, prints_then}
+use Rattle.pp_text.proofs.PrintingLemmas.{prints_nothing, prints_then}
 use Rattle.pp_text.specs.TextWriter.{Prints}
 use Rattle.pp_listing.proofs.TextLemmas.{before_first, zero_step, one_step, two_step, all_passed}
 use Rattle.pp_listing.proofs.instruction_lines.print_instructions.Goals as goal

@@ -1,4 +1,4 @@
-use Rattle.pp_text.specs.PrintingLaws.{prints_on, prints_then}
+use Rattle.pp_text.proofs.PrintingLemmas.{prints_on, prints_then}
 use Rattle.pp_listing.proofs.TextLemmas.{one_word_pieces}
 use Rattle.pp_listing.proofs.instruction_lines.print_one_word.Goals as goal
 

@@ -1,4 +1,4 @@
-use Rattle.pp_text.specs.PrintingLaws.{prints_on, prints_then}
+use Rattle.pp_text.proofs.PrintingLemmas.{prints_on, prints_then}
 use Rattle.pp_listing.proofs.TextLemmas.{two_words_pieces}
 use Rattle.pp_listing.proofs.instruction_lines.print_two_words.Goals as goal
 

@@ -1,5 +1,5 @@
 use Rattle.std.proofs.Common.{length, arith}
-use Rattle.pp_text.specs.PrintingLaws.{prints_all, prints_more, prints_nothing}
+use Rattle.pp_text.proofs.PrintingLemmas.{prints_all, prints_more, prints_nothing}
 use Rattle.pp_listing.specs.ListedLine.{text_line}
 use Rattle.pp_listing.specs.Listing.{central_word_line}
 use Rattle.pp_listing.proofs.listed_deck.print_central.Goals as goal

@@ -1,5 +1,5 @@
 use Rattle.std.proofs.Common.{◌∙◌, sym, subst, rules}
-use Rattle.pp_text.specs.PrintingLaws.{prints_nothing}
+use Rattle.pp_text.proofs.PrintingLemmas.{prints_nothing}
 use Rattle.pp_text.specs.TextWriter.{Prints}
 use Rattle.pp_listing.proofs.TextLemmas.{central_read, central_past, central_word_zero, central_word_some}
 use Rattle.pp_listing.proofs.listed_deck.print_central_word.Goals as goal

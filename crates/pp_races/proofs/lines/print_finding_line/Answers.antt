@@ -1,4 +1,4 @@
-use Rattle.pp_text.specs.PrintingLaws.{◌▹◌}
+use Rattle.pp_text.proofs.PrintingLemmas.{◌▹◌}
 use Rattle.pp_races.specs.RacesText.{finding_line}
 use Rattle.pp_races.proofs.lines.print_finding_line.Goals as goal
 

@@ -1,7 +1,7 @@
 use Rattle.std.proofs.Common.{codes}
 use Rattle.std.proofs.lemmas.Bool.{le-ltb, lt-ltb}
 use Rattle.pp_word.specs.Numeral.{octal}
-use Rattle.pp_text.specs.PrintingLaws.{prints_nothing}
+use Rattle.pp_text.proofs.PrintingLemmas.{prints_nothing}
 use Rattle.pp_races.proofs.TextLemmas.{prints_parts}
 use Rattle.pp_races.proofs.lines.print_name.Goals as goal
 use Rattle.pp_races.proofs.lines.print_name.Goals.{then-named-gt0, else-named-gt0}

@@ -1,6 +1,6 @@
 use Rattle.std.proofs.Common.{codes}
 use Rattle.pp_word.specs.Numeral.{octal}
-use Rattle.pp_text.specs.PrintingLaws.{◌▹◌}
+use Rattle.pp_text.proofs.PrintingLemmas.{◌▹◌}
 use Rattle.pp_races.proofs.TextLemmas.{prints_parts}
 use Rattle.pp_races.proofs.lines.print_place.Goals as goal
 

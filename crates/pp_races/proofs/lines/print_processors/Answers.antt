@@ -3,7 +3,7 @@ use Rattle.std.specs.Prelude.{count_by, nat_lt, if◌then◌else◌}
 use Rattle.std.proofs.lemmas.List.Sums.{count_by_more_no, count_by_more_yes}
 use Rattle.pp_machine.specs.PpNo.{processor_number}
 use Rattle.pp_word.specs.Numeral.{octal}
-use Rattle.pp_text.specs.PrintingLaws.{prints_nothing, prints_on}
+use Rattle.pp_text.proofs.PrintingLemmas.{prints_nothing, prints_on}
 use Rattle.pp_text.specs.TextWriter.{Prints}
 use Rattle.pp_races.specs.RacesText.{name_text}
 use Rattle.pp_races.specs.Watch.{each_below}

@@ -1,4 +1,4 @@
-use Rattle.pp_text.specs.PrintingLaws.{◌▹◌}
+use Rattle.pp_text.proofs.PrintingLemmas.{◌▹◌}
 use Rattle.pp_races.proofs.lines.print_shared_line.Goals as goal
 
 pub returns : goal.returns

@@ -1,5 +1,5 @@
 use Rattle.pp_text.specs.PrintedText.{line_end}
-use Rattle.pp_text.specs.PrintingLaws.{◌▹◌}
+use Rattle.pp_text.proofs.PrintingLemmas.{◌▹◌}
 use Rattle.pp_races.specs.RacesText.{entry_text}
 use Rattle.pp_races.proofs.TextLemmas.{prints_parts}
 use Rattle.pp_races.proofs.lines.print_step_line.Goals as goal

@@ -1,7 +1,7 @@
 use Rattle.std.proofs.Common.{◌≡◌, ℕ, ◌/◌, ◌%◌, ◌^◌, List, ◌++◌, append_assoc, codes}
 use Rattle.pp_word.specs.Numeral.{decimal, digits, octal, unpadded}
 use Rattle.pp_text.specs.PrintedText.{line_end}
-use Rattle.pp_text.specs.PrintingLaws.{◌▹◌, prints_on}
+use Rattle.pp_text.proofs.PrintingLemmas.{◌▹◌, prints_on}
 use Rattle.pp_report.proofs.report_line.print_numbered_event.Goals as goal
 
 regrouped : (start upper lower named author blank said end : List ℕ)

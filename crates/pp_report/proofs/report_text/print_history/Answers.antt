@@ -2,7 +2,7 @@ use Rattle.std.proofs.Common.{◌<◌, ◌∙◌, List, All, length, rules, subs
 use Rattle.std.specs.List.{enumerate_from, flat_map}
 use Rattle.std.proofs.lemmas.List.{take_all}
 use Rattle.pp_channel.specs.declared.event.Event.{Event}
-use Rattle.pp_text.specs.PrintingLaws.{prints_nothing, prints_on}
+use Rattle.pp_text.proofs.PrintingLemmas.{prints_nothing, prints_on}
 use Rattle.pp_text.specs.TextWriter.{Prints}
 use Rattle.pp_report.proofs.EventLineLemmas.{lines_go_on}
 use Rattle.pp_report.proofs.ReportLawLemmas.{tellings_go_on}

@@ -1,6 +1,6 @@
 use Rattle.std.proofs.Common.{rules}
 use Rattle.pp_report.specs.PrintedReport.{printed_report}
-use Rattle.pp_text.specs.PrintingLaws.{prints_then}
+use Rattle.pp_text.proofs.PrintingLemmas.{prints_then}
 use Rattle.pp_report.proofs.report_text.print_report.Goals as goal
 
 pub returns-clause-fits : goal.returns-clause-fits

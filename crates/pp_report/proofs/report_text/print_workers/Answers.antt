@@ -1,11 +1,10 @@
 use Rattle.std.proofs.Common.{◌≡◌, ℕ, ◌<◌, subst, sym, arith, below_more}
 use Rattle.std.proofs.lemmas.Bool.{and_parts}
 use Rattle.std.specs.Prelude.{IfSome, IsTrue, option_map, slice_get}
-use Rattle.pp_machine.specs.PpNo.{all_processors, is_named, names_processor, processor_count, processor_index, processor_number}
-use Rattle.pp_machine.specs.ProcessorPlaces.{processor_places}
+use Rattle.pp_machine.specs.PpNo.{all_processors, is_named, names_processor, processor_count, processor_index, processor_number, processor_places}
 use Rattle.pp_report.specs.PrintedReport.{named_worker_line}
 use Rattle.pp_report.specs.ReportLaw.{FitsItsEnd, shown_end}
-use Rattle.pp_text.specs.PrintingLaws.{prints_nothing, prints_on, walk_zero, walk_more}
+use Rattle.pp_text.proofs.PrintingLemmas.{prints_nothing, prints_on, walk_zero, walk_more}
 use Rattle.pp_report.proofs.report_text.print_workers.Goals as goal
 
 pub loop-place-init : goal.loop-place-init

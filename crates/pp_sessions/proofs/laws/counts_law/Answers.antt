@@ -1,6 +1,6 @@
 use Rattle.std.proofs.Common.{◌∙◌}
 use Rattle.pp_run.specs.RunSteps.{outcome_of, run_steps, seen_of}
-use Rattle.pp_run.specs.RunStepLaws.{length-seen}
+use Rattle.pp_run.proofs.RunStepLemmas.{length-seen}
 use Rattle.pp_sessions.proofs.CountLemmas.{three_counts}
 use Rattle.pp_sessions.proofs.laws.counts_law.Goals as goal
 

@@ -1,4 +1,4 @@
-use Rattle.pp_text.specs.PrintingLaws.{◌▹◌}
+use Rattle.pp_text.proofs.PrintingLemmas.{◌▹◌}
 use Rattle.pp_sessions.specs.SessionsText.{counts_line}
 use Rattle.pp_sessions.proofs.lines.print_counts.Goals as goal
 

@@ -1,4 +1,4 @@
-use Rattle.pp_text.specs.PrintingLaws.{◌▹◌}
+use Rattle.pp_text.proofs.PrintingLemmas.{◌▹◌}
 use Rattle.pp_sessions.specs.SessionsText.{session_line}
 use Rattle.pp_sessions.proofs.lines.print_session.Goals as goal
 

@@ -1,7 +1,7 @@
 use Rattle.std.proofs.Common.{◌++◌, List, [], refl, ap, subst, ◌∙◌, drop, rules}
 use Rattle.pp_machine.specs.declared.trace.Trace.{Trace}
 use Rattle.pp_text.specs.TextWriter.{Prints}
-use Rattle.pp_text.specs.PrintingLaws.{prints_nothing}
+use Rattle.pp_text.proofs.PrintingLemmas.{prints_nothing}
 use Rattle.pp_sessions.specs.OpenStretch.{open_at}
 use Rattle.pp_sessions.specs.SessionsText.{line_and_words}
 use Rattle.pp_sessions.specs.Stretches.{words_in}

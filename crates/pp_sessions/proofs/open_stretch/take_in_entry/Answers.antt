@@ -1,5 +1,5 @@
 use Rattle.std.proofs.Common.{◌≡◌, ◌≢◌, ◌∷◌, [], sym, ◌∙◌}
-use Rattle.pp_text.specs.PrintingLaws.{prints_nothing}
+use Rattle.pp_text.proofs.PrintingLemmas.{prints_nothing}
 use Rattle.pp_sessions.specs.OpenStretch.{open_at}
 use Rattle.pp_sessions.specs.TimedEvents.{timed_event, timed_on}
 use Rattle.pp_sessions.proofs.TakeInLemmas.{entry_off, entry_on, takes_other, takes_these}

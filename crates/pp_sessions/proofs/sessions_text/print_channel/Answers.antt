@@ -1,7 +1,7 @@
 use Rattle.std.proofs.Common.{◌≡◌, ◌<◌, ◌+◌, ◌∷◌, ◌++◌, [], List, length, take, sym, ap, subst, ◌∙◌, append_assoc, arith, rules}
 use Rattle.std.proofs.lemmas.List.{append-nil, length-take, take_more}
 use Rattle.pp_text.specs.TextWriter.{Prints}
-use Rattle.pp_text.specs.PrintingLaws.{prints_nothing, prints_on, prints_then}
+use Rattle.pp_text.proofs.PrintingLemmas.{prints_nothing, prints_on, prints_then}
 use Rattle.pp_machine.specs.declared.trace.Trace.{Trace}
 use Rattle.pp_sessions.specs.OpenStretch.{TakesIn, open_at}
 use Rattle.pp_sessions.specs.SessionsText.{line_and_words}

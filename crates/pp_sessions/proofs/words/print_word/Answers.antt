@@ -1,7 +1,7 @@
 use Rattle.std.proofs.Common.{◌≡◌, cond, codes, eqb, arith}
 use Rattle.std.proofs.lemmas.Bool.{ne_eqb}
 use Rattle.std.proofs.lemmas.List.{append-nil}
-use Rattle.pp_text.specs.PrintingLaws.{◌▹◌}
+use Rattle.pp_text.proofs.PrintingLemmas.{◌▹◌}
 use Rattle.pp_sessions.proofs.words.print_word.Goals as goal
 use Rattle.pp_sessions.proofs.words.print_word.Goals.{then-count-eq0, else-count-eq0}
 

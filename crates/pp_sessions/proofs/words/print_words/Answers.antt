@@ -4,7 +4,7 @@ use Rattle.std.proofs.lemmas.List.{append-nil}
 use Rattle.pp_text.specs.PrintedText.{line_end}
 use Rattle.pp_text.specs.TextWriter.{Prints}
 use Rattle.pp_sessions.specs.SessionsText.{words_from}
-use Rattle.pp_text.specs.PrintingLaws.{prints_on, prints_then}
+use Rattle.pp_text.proofs.PrintingLemmas.{prints_on, prints_then}
 use Rattle.pp_sessions.proofs.WordLemmas.{all_printed, entry_printed}
 use Rattle.pp_sessions.proofs.words.print_words.Goals as goal
 

@@ -1,4 +1,4 @@
-use Rattle.pp_text.specs.PrintingLaws.{each_below_zero, each_below_suc, prints_nothing, prints_on}
+use Rattle.pp_text.proofs.PrintingLemmas.{each_below_zero, each_below_suc, prints_nothing, prints_on}
 use Rattle.pp_state.specs.CentralText.{shown_word}
 use Rattle.pp_state.proofs.central_text.print_central.Goals as goal
 

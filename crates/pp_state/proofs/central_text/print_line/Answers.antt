@@ -1,4 +1,4 @@
-use Rattle.pp_text.specs.PrintingLaws.{◌▹◌}
+use Rattle.pp_text.proofs.PrintingLemmas.{◌▹◌}
 use Rattle.pp_state.specs.CentralText.{central_line}
 use Rattle.pp_state.proofs.central_text.print_line.Goals as goal
 

@@ -1,6 +1,6 @@
 use Rattle.std.proofs.Common.{◌≡◌, ◌<◌, ◌+◌, ◌-◌, true, List, [], ◌∷◌, ◌++◌, get_or, arith, ap, subst, ℕ, sym, ◌∙◌}
 use Rattle.pp_word.specs.Address.{place_count}
-use Rattle.pp_text.specs.PrintingLaws.{prints_nothing, prints_on, prints_then}
+use Rattle.pp_text.proofs.PrintingLemmas.{prints_nothing, prints_on, prints_then}
 use Rattle.std.specs.List.{flat_map}
 use Rattle.pp_text.specs.TextWriter.{Prints}
 use Rattle.pp_listing.specs.ListedLine.{after_blank}

@@ -1,5 +1,5 @@
 use Rattle.std.proofs.Common.{length, arith}
-use Rattle.pp_text.specs.PrintingLaws.{prints_all, prints_more, prints_nothing}
+use Rattle.pp_text.proofs.PrintingLemmas.{prints_all, prints_more, prints_nothing}
 use Rattle.pp_listing.specs.ListedLine.{deck_line}
 use Rattle.pp_state.specs.Changes.{central_line}
 use Rattle.pp_state.proofs.changes.print_changed_central.Goals as goal

@@ -1,6 +1,6 @@
 use Rattle.std.proofs.Common.{◌≡◌, ◌+◌, suc, ap, arith, sym, ◌∙◌}
 use Rattle.pp_word.specs.Address.{place_count}
-use Rattle.pp_text.specs.PrintingLaws.{prints_all, prints_more, prints_nothing}
+use Rattle.pp_text.proofs.PrintingLemmas.{prints_all, prints_more, prints_nothing}
 use Rattle.pp_listing.specs.ListedLine.{deck_line}
 use Rattle.pp_text.specs.Differences.{places}
 use Rattle.pp_state.specs.Changes.{line_from, position_on_line}

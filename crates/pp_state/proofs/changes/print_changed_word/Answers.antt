@@ -1,6 +1,6 @@
 use Rattle.std.proofs.Common.{◌≡◌, ◌∙◌, ap, arith, subst, sym}
 use Rattle.std.specs.Prelude.{slice_index}
-use Rattle.pp_text.specs.PrintingLaws.{prints_nothing}
+use Rattle.pp_text.proofs.PrintingLemmas.{prints_nothing}
 use Rattle.pp_text.specs.TextWriter.{Prints}
 use Rattle.pp_state.proofs.ChangeLemmas.{central_line_printed, no_central_line}
 use Rattle.pp_state.proofs.changes.print_changed_word.Goals as goal

@@ -1,5 +1,5 @@
 use Rattle.std.proofs.Common.{◌+◌, ◌%◌, sym, ap, subst, ◌∙◌, ℕ}
-use Rattle.pp_text.specs.PrintingLaws.{prints_nothing}
+use Rattle.pp_text.proofs.PrintingLemmas.{prints_nothing}
 use Rattle.pp_text.specs.TextWriter.{Prints}
 use Rattle.pp_state.proofs.ChangeLemmas.{in_front_of_same, in_front_of_next, line_begins, no_line_of_same, no_line_within}
 use Rattle.pp_state.proofs.changes.print_line_from.Goals as goal

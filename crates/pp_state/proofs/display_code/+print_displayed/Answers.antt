@@ -1,4 +1,4 @@
-use Rattle.pp_text.specs.PrintingLaws.{prints_on}
+use Rattle.pp_text.proofs.PrintingLemmas.{prints_on}
 use Rattle.pp_state.proofs.MemoryTextLemmas.{displayed_more}
 use Rattle.pp_state.proofs.display_code.+print_displayed.Goals as goal
 

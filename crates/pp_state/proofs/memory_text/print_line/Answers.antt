@@ -1,5 +1,5 @@
 use Rattle.std.proofs.Common.{ap, ◌∙◌}
-use Rattle.pp_text.specs.PrintingLaws.{◌▹◌, prints_on}
+use Rattle.pp_text.proofs.PrintingLemmas.{◌▹◌, prints_on}
 use Rattle.pp_state.specs.MemoryText.{trimmed}
 use Rattle.pp_state.proofs.MemoryTextLemmas.{line_trimmed}
 use Rattle.pp_state.proofs.memory_text.print_line.Goals as goal

@@ -1,5 +1,5 @@
 use Rattle.std.proofs.Common.{◌*◌}
-use Rattle.pp_text.specs.PrintingLaws.{each_below_zero, each_below_suc, prints_nothing, prints_on}
+use Rattle.pp_text.proofs.PrintingLemmas.{each_below_zero, each_below_suc, prints_nothing, prints_on}
 use Rattle.pp_state.specs.MemoryText.{shown_line}
 use Rattle.pp_state.proofs.memory_text.print_memory.Goals as goal
 

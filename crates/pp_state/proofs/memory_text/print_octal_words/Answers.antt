@@ -2,7 +2,7 @@ use Rattle.std.proofs.Common.{◌≡◌, ℕ, ◌+◌, ◌++◌, ap, arith, code
 use Rattle.pp_machine.specs.Processor.{word_at}
 use Rattle.pp_word.specs.Numeral.{octal}
 use Rattle.pp_text.specs.PrintedText.{each_below}
-use Rattle.pp_text.specs.PrintingLaws.{◌▹◌, each_below_suc, each_below_zero, prints_nothing, prints_on}
+use Rattle.pp_text.proofs.PrintingLemmas.{◌▹◌, each_below_suc, each_below_zero, prints_nothing, prints_on}
 use Rattle.pp_text.specs.TextWriter.{Prints}
 use Rattle.pp_state.specs.MemoryText.{octal_words}
 use Rattle.pp_state.proofs.memory_text.print_octal_words.Goals as goal

@@ -1,5 +1,5 @@
 use Rattle.std.proofs.Common.{sym, ◌∙◌}
-use Rattle.pp_text.specs.PrintingLaws.{prints_on}
+use Rattle.pp_text.proofs.PrintingLemmas.{prints_on}
 use Rattle.pp_state.proofs.MemoryTextLemmas.{line_shown}
 use Rattle.pp_state.proofs.memory_text.print_shown_line.Goals as goal
 

@@ -1,6 +1,6 @@
 use Rattle.std.proofs.Common.{append_assoc}
 use Rattle.pp_text.specs.PrintedText.{processor_line}
-use Rattle.pp_text.specs.PrintingLaws.{◌▹◌, prints_on}
+use Rattle.pp_text.proofs.PrintingLemmas.{◌▹◌, prints_on}
 use Rattle.pp_state.proofs.whole_text.print_processor.Goals as goal
 
 pub returns : goal.returns

@@ -1,5 +1,5 @@
 use Rattle.std.proofs.Common.{◌∙◌, sym, subst}
-use Rattle.pp_text.specs.PrintingLaws.{prints_nothing}
+use Rattle.pp_text.proofs.PrintingLemmas.{prints_nothing}
 use Rattle.pp_text.specs.TextWriter.{Prints}
 use Rattle.pp_steps.proofs.PlaceLemmas.{centrals_go, centrals_stay}
 use Rattle.pp_steps.proofs.step_line.print_central.Goals as goal

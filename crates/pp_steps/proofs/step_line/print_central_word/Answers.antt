@@ -1,4 +1,4 @@
-use Rattle.pp_text.specs.PrintingLaws.{◌▹◌, prints_on}
+use Rattle.pp_text.proofs.PrintingLemmas.{◌▹◌, prints_on}
 use Rattle.pp_steps.proofs.PlaceLemmas.{central_changed}
 use Rattle.pp_steps.proofs.step_line.print_central_word.Goals as goal
 

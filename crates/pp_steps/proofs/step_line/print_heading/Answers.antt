@@ -1,5 +1,5 @@
 use Rattle.std.proofs.Common.{refl}
-use Rattle.pp_text.specs.PrintingLaws.{◌▹◌, prints_on}
+use Rattle.pp_text.proofs.PrintingLemmas.{◌▹◌, prints_on}
 use Rattle.pp_steps.proofs.LineLemmas.{heading_in_pieces}
 use Rattle.pp_steps.proofs.step_line.print_heading.Goals as goal
 

@@ -1,4 +1,4 @@
-use Rattle.pp_text.specs.PrintingLaws.{◌▹◌}
+use Rattle.pp_text.proofs.PrintingLemmas.{◌▹◌}
 use Rattle.pp_steps.specs.StepLine.{held_line}
 use Rattle.pp_steps.proofs.step_line.print_held_line.Goals as goal
 

@@ -1,6 +1,6 @@
 use Rattle.std.proofs.Common.{◌≡◌, ℕ, ap, ◌∙◌, sym, subst, slice_index}
 use Rattle.pp_machine.specs.Processor.{Processor}
-use Rattle.pp_text.specs.PrintingLaws.{prints_on}
+use Rattle.pp_text.proofs.PrintingLemmas.{prints_on}
 use Rattle.pp_text.specs.TextWriter.{Prints}
 use Rattle.pp_steps.specs.Stores.{IsApart}
 use Rattle.pp_steps.proofs.PlaceLemmas.{places_here, places_round}

@@ -1,5 +1,5 @@
 use Rattle.std.proofs.Common.{◌≡◌, ◌+◌, arith}
-use Rattle.pp_text.specs.PrintingLaws.{prints_nothing, prints_on, range_flat}
+use Rattle.pp_text.proofs.PrintingLemmas.{prints_nothing, prints_on, range_flat}
 use Rattle.pp_steps.specs.StepLine.{place_text}
 use Rattle.pp_steps.proofs.step_line.print_range.Goals as goal
 

@@ -5,7 +5,7 @@ use Rattle.pp_machine.specs.NeedAndEffect.{need, processor_after}
 use Rattle.pp_machine.specs.Processor.{Processor}
 use Rattle.pp_machine.specs.PpNo.{processor_index}
 use Rattle.pp_machine.specs.declared.need.Need.{Need}
-use Rattle.pp_text.specs.PrintingLaws.{◌▹◌}
+use Rattle.pp_text.proofs.PrintingLemmas.{◌▹◌}
 use Rattle.pp_steps.specs.StepLine.{step_line}
 use Rattle.pp_steps.proofs.LineLemmas.{stepped_central, stepped_processor}
 use Rattle.pp_steps.proofs.step_line.print_step_line.Goals as goal

@@ -4,15 +4,15 @@ use Rattle.pp_machine.specs.MachineState.{MachineState}
 use Rattle.pp_machine.specs.MachineStep.{stepped}
 use Rattle.pp_machine.specs.PpNo.{processor_count}
 use Rattle.pp_machine.specs.Run.{barrel, run}
-use Rattle.pp_machine.specs.RunLaws.{barrel_more}
+use Rattle.pp_machine.proofs.RunLawLemmas.{barrel_more}
 use Rattle.pp_run.specs.RunSteps.{RunStep}
 use Rattle.pp_text.specs.TextWriter.{Prints}
-use Rattle.pp_text.specs.PrintingLaws.{prints_nothing, prints_then}
+use Rattle.pp_text.proofs.PrintingLemmas.{prints_nothing, prints_then}
 use Rattle.pp_run.specs.BareMachine.{StandsFor, progress}
 use Rattle.pp_steps.specs.Choice.{chosen_steps, is_chosen}
 use Rattle.pp_steps.specs.Cursor.{each_cursor, no_cursor, past_step}
 use Rattle.pp_steps.specs.declared.cursor.Cursor.{Cursor}
-use Rattle.pp_word.specs.Tables.{length-tabulate}
+use Rattle.pp_word.proofs.TableLemmas.{length-tabulate}
 use Rattle.pp_steps.specs.StepsText.{kind_text, steps_text}
 use Rattle.pp_steps.proofs.ChosenSteps.{chosen_from, chosen_more, chosen_parts, few_chosen, next_chosen, none_left, step_in}
 use Rattle.pp_steps.proofs.TextOfSteps.{IsSoFar, everything, nothing_so_far, turn_told}

@@ -1,6 +1,6 @@
 use Rattle.std.proofs.Common.{sym}
 use Rattle.std.proofs.lemmas.Bool.{cond-false, ne_eqb}
-use Rattle.pp_text.specs.PrintingLaws.{prints_on}
+use Rattle.pp_text.proofs.PrintingLemmas.{prints_on}
 use Rattle.pp_text.proofs.held_text.print_count.Goals as goal
 
 pub returns-then-count-ne0 : goal.returns-then-count-ne0

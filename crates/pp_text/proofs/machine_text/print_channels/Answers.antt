@@ -1,10 +1,9 @@
 use Rattle.std.proofs.Common.{◌≡◌, ℕ, ◌<◌, subst, arith, below_more}
-use Rattle.pp_channel.specs.ChannelNo.{all_channels, channel_count, channel_index, channel_number}
-use Rattle.pp_channel.specs.ChannelPlaces.{channel_places}
+use Rattle.pp_channel.specs.ChannelNo.{all_channels, channel_count, channel_index, channel_number, channel_places}
 use Rattle.pp_channel.specs.History.{history_on}
 use Rattle.pp_text.specs.TextLaw.{HistoryFits}
 use Rattle.pp_text.specs.PrintedText.{used_channel_line}
-use Rattle.pp_text.specs.PrintingLaws.{prints_nothing, prints_on, walk_zero, walk_more}
+use Rattle.pp_text.proofs.PrintingLemmas.{prints_nothing, prints_on, walk_zero, walk_more}
 use Rattle.pp_text.proofs.machine_text.print_channels.Goals as goal
 
 pub loop-place-init : goal.loop-place-init

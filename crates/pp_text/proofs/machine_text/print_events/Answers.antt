@@ -1,5 +1,5 @@
 use Rattle.std.proofs.Common.{◌<◌, length, arith, rules}
-use Rattle.pp_text.specs.PrintingLaws.{prints_nothing, prints_on}
+use Rattle.pp_text.proofs.PrintingLemmas.{prints_nothing, prints_on}
 use Rattle.pp_text.proofs.TextLawLemmas.{events_go_on, told_so_far}
 use Rattle.pp_text.proofs.machine_text.print_events.Goals as goal
 

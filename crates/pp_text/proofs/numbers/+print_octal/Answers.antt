@@ -1,5 +1,5 @@
 use Rattle.std.proofs.Common.{◌<◌, arith}
-use Rattle.pp_text.specs.PrintingLaws.{prints_on}
+use Rattle.pp_text.proofs.PrintingLemmas.{prints_on}
 use Rattle.pp_text.proofs.OctalLemmas.{octal_more}
 use Rattle.pp_text.proofs.numbers.+print_octal.Goals as goal
 

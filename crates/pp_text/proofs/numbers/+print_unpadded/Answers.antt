@@ -1,5 +1,5 @@
 use Rattle.std.proofs.Common.{◌<◌, arith, sym}
-use Rattle.pp_text.specs.PrintingLaws.{prints_on}
+use Rattle.pp_text.proofs.PrintingLemmas.{prints_on}
 use Rattle.pp_text.proofs.TextLemmas.{unpadded_more}
 use Rattle.pp_text.proofs.numbers.+print_unpadded.Goals as goal
 

@@ -1,5 +1,5 @@
 use Rattle.std.proofs.Common.{refl}
-use Rattle.pp_text.specs.PrintingLaws.{◌▹◌, prints_on}
+use Rattle.pp_text.proofs.PrintingLemmas.{◌▹◌, prints_on}
 use Rattle.pp_text.proofs.TextLemmas.{event_line_in_pieces}
 use Rattle.pp_text.proofs.printed_line.print_event.Goals as goal
 

@@ -1,6 +1,6 @@
 use Rattle.std.proofs.Common.{append_assoc}
 use Rattle.pp_text.specs.PrintedText.{processor_line}
-use Rattle.pp_text.specs.PrintingLaws.{◌▹◌, prints_on}
+use Rattle.pp_text.proofs.PrintingLemmas.{◌▹◌, prints_on}
 use Rattle.pp_text.proofs.printed_line.print_processor.Goals as goal
 
 pub returns-clause-text : goal.returns-clause-text

@@ -1,6 +1,6 @@
 use Rattle.std.proofs.Common.{◌++◌, ap, codes, sym, ◌∙◌, ℕ}
 use Rattle.pp_word.specs.Numeral.{octal}
-use Rattle.pp_text.specs.PrintingLaws.{prints_on}
+use Rattle.pp_text.proofs.PrintingLemmas.{prints_on}
 use Rattle.pp_text.specs.Standing.{block_place_text}
 use Rattle.pp_text.proofs.standing.print_block_place.Goals as goal
 

@@ -4,7 +4,7 @@ use Rattle.pp_channel.specs.History.{active, waiting}
 use Rattle.pp_channel.specs.declared.event.Event.{Event}
 use Rattle.pp_word.specs.Numeral.{octal}
 use Rattle.pp_text.specs.PrintedText.{channel_line, channel_text, line_end}
-use Rattle.pp_text.specs.PrintingLaws.{◌▹◌, prints_on}
+use Rattle.pp_text.proofs.PrintingLemmas.{◌▹◌, prints_on}
 use Rattle.pp_text.proofs.state_text.print_channel_line.Goals as goal
 
 full_line : (c : ℕ) (h : List Event) → (length h == 0) ≡ false → (((codes "CH" ++ octal 2 c) ++ codes " ") ++ channel_text (active h) (waiting h)) ++ line_end ≡ channel_line c h

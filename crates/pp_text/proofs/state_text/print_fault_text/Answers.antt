@@ -1,4 +1,4 @@
-use Rattle.pp_text.specs.PrintingLaws.{◌▹◌}
+use Rattle.pp_text.proofs.PrintingLemmas.{◌▹◌}
 use Rattle.pp_text.proofs.state_text.print_fault_text.Goals as goal
 
 pub returns : goal.returns

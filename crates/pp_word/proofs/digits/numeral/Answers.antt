@@ -1,5 +1,5 @@
 use Rattle.std.proofs.Common.{◌+◌, arith}
-use Rattle.pp_word.specs.NumeralLaws.{next_below, more_digits}
+use Rattle.pp_word.proofs.NumeralLemmas.{next_below, more_digits}
 use Rattle.pp_word.proofs.digits.numeral.Goals as goal
 
 pub overflow_mul-value : goal.overflow_mul-value

@@ -1,5 +1,5 @@
 use Rattle.std.proofs.Common.{arith}
-use Rattle.pp_word.specs.NumeralLaws.{decimal_long, decimal_numeral, decimal_of_six, decimal_read, length_digits, octal_numeral, octal_read}
+use Rattle.pp_word.proofs.NumeralLemmas.{decimal_long, decimal_numeral, decimal_of_six, decimal_read, length_digits, octal_numeral, octal_read}
 use Rattle.pp_word.proofs.digits.numeral_law.Goals as goal
 
 pub returns-clause-octal_width : goal.returns-clause-octal_width

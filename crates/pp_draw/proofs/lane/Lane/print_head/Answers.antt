@@ -1,5 +1,5 @@
 use Rattle.pp_draw.specs.Elements.{lane_head}
-use Rattle.pp_text.specs.PrintingLaws.{◌▹◌}
+use Rattle.pp_text.proofs.PrintingLemmas.{◌▹◌}
 use Rattle.pp_draw.proofs.lane.Lane.print_head.Goals as goal
 
 pub returns : goal.returns

@@ -1,8 +1,7 @@
 use Rattle.std.proofs.Common.{◌∙◌, ◌∷◌, [], List, false, length, replicate, get_or, sym, ap, subst}
 use Rattle.std.specs.Prelude.{Bool, if◌then◌else◌}
 use Rattle.std.proofs.lemmas.List.{length-replicate}
-use Rattle.pp_channel.specs.ChannelPlaces.{channel_places}
-use Rattle.pp_channel.specs.ChannelNo.{channel_count, channel_index}
+use Rattle.pp_channel.specs.ChannelNo.{channel_places, channel_count, channel_index}
 use Rattle.pp_channel.specs.declared.event.Event.{Event}
 use Rattle.pp_channel.specs.declared.event.Event.TheVariants.{Activate}
 use Rattle.pp_machine.specs.Headline.{HoldsOnChannel, events_on}

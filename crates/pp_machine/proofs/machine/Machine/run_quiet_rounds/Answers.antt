@@ -5,7 +5,7 @@ use Rattle.pp_machine.specs.Processor.{Processor}
 use Rattle.pp_machine.specs.PpNo.{processor_count}
 use Rattle.pp_machine.specs.Profile.{processors_in}
 use Rattle.pp_machine.specs.Quiet.{AreAhead}
-use Rattle.pp_machine.specs.ProfilePlaces.{most_processors}
+use Rattle.pp_machine.proofs.ProfileLemmas.{most_processors}
 use Rattle.pp_machine.proofs.QuietLemmas.{rounds_ahead}
 use Rattle.pp_machine.proofs.machine.Machine.run_quiet_rounds.Goals as goal
 

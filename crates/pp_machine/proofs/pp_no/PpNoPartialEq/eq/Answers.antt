@@ -1,6 +1,5 @@
 use Rattle.std.proofs.Common.{◌≡◌, ◌∙◌, sym, ap, nat_eq}
-use Rattle.pp_machine.specs.PpNo.{processor_index}
-use Rattle.pp_machine.specs.ProcessorPlaces.{processor_places}
+use Rattle.pp_machine.specs.PpNo.{processor_index, processor_places}
 use Rattle.pp_machine.proofs.pp_no.PpNoPartialEq.eq.Goals as goal
 
 pub returns : goal.returns

@@ -5,16 +5,12 @@ use native.Mathlib.Decide.{dec_lt}
 use Rattle.std.specs.Prelude.{IsTrue}
 use Rattle.std.specs.List.{flat_map, range_with_len}
 use Rattle.std.proofs.lemmas.Bool.{cases_eq, eq-eqb, ne_eqb}
-use Rattle.pp_word.specs.GappedNumbers.{ArePlaces, places, is_number, number_of, over_numbers}
+use Rattle.pp_word.specs.GappedNumbers.{is_number, number_of}
+use Rattle.pp_word.proofs.GappedNumberLemmas.{over_numbers}
 use Rattle.pp_word.specs.Tables.{tabulate}
-use Rattle.pp_channel.specs.ChannelNo.{names_channel}
-use Rattle.pp_channel.specs.ChannelPlaces.{channel_places, named_high}
-use Rattle.pp_machine.specs.PpNo.{all_processors, processor_count, names_processor, processor_index, processor_number}
-
-pub processor_places : ArePlaces 0o12 processor_count names_processor
-    processor_index processor_number
-unfolding names_processor processor_index processor_number
-processor_places = places 0o12 6
+use Rattle.pp_channel.specs.ChannelNo.{names_channel, channel_places}
+use Rattle.pp_channel.proofs.ChannelNoLemmas.{named_high}
+use Rattle.pp_machine.specs.PpNo.{all_processors, processor_count, processor_places, names_processor, processor_index, processor_number}
 
 -- the number of a place is n's exactly if the place is
 pub number_at : (place n : ℕ) → place < processor_count

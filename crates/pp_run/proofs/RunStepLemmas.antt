@@ -6,14 +6,13 @@ use Rattle.std.proofs.lemmas.Bool.{cases_eq, cases_lt, eq-eqb, ne_eqb, cond-true
 use Rattle.std.proofs.lemmas.List.{length-map, map-append, length-set, get_or-set_same, get_or-set_other, get_or-take, get_or_push, take-append-le, take_all}
 use Rattle.std.proofs.lemmas.List.Elements.{filter-append}
 use Rattle.std.proofs.lemmas.List.Sums.{count_by-le-length, length-filter, sum_by-cons}
-use Rattle.pp_word.specs.Tables.{get_or-tabulate, length-tabulate, tabulate_is}
+use Rattle.pp_word.proofs.TableLemmas.{get_or-tabulate, length-tabulate, tabulate_is}
 use Rattle.pp_machine.specs.MachineState.{MachineState}
 use Rattle.pp_machine.specs.MachineStep.{stepped}
-use Rattle.pp_machine.specs.PpNo.{processor_count, processor_index, processor_number, each_processor}
+use Rattle.pp_machine.specs.PpNo.{processor_count, processor_index, processor_number, each_processor, processor_places}
 use Rattle.pp_machine.specs.Profile.{processor_in_turn}
-use Rattle.pp_machine.specs.ProcessorPlaces.{processor_places}
 use Rattle.pp_machine.specs.Run.{barrel, run}
-use Rattle.pp_machine.specs.RunLaws.{length-barrel}
+use Rattle.pp_machine.proofs.RunLawLemmas.{length-barrel}
 use Rattle.pp_machine.specs.declared.profile.Profile.{Profile}
 use Rattle.pp_run.specs.RunSteps.{RunStep, is_of, run_steps, seen_of}
 

@@ -2,13 +2,10 @@
 use Rattle.std.proofs.Common.{◌≡◌, ℕ, ◌<◌, List, [], arith}
 use Rattle.std.specs.Prelude.{IsTrue}
 use Rattle.std.specs.List.{flat_map, range_with_len}
-use Rattle.pp_word.specs.GappedNumbers.{ArePlaces, places, is_number, number_of, over_numbers}
+use Rattle.pp_word.specs.GappedNumbers.{is_number, number_of}
+use Rattle.pp_word.proofs.GappedNumberLemmas.{over_numbers}
 use Rattle.pp_word.specs.Tables.{tabulate}
-use Rattle.pp_channel.specs.ChannelNo.{all_channels, channel_count, names_channel, channel_index, channel_number}
-
-pub channel_places : ArePlaces 0o14 channel_count names_channel channel_index channel_number
-unfolding names_channel channel_index channel_number
-channel_places = places 0o14 4
+use Rattle.pp_channel.specs.ChannelNo.{all_channels, names_channel, channel_number}
 
 -- a channel's number has two octal digits
 pub channel_fits : (c : ℕ) → IsTrue (names_channel c) → c < 0o100
