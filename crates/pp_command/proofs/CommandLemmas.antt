@@ -2,49 +2,40 @@
 use Rattle.std.proofs.Common.{◌≡◌, ◌∙◌, ℕ, ◌+◌, ◌-◌, ◌<◌, ◌≤◌, add-one, ap₂, arith, drop, drop-cons, fold, get_or, length, map, Bool, true, false, not, IsTrue, List, [], Option, Some, None, option_map, sym, subst, refl, inl, inr, codes}
 use Rattle.std.specs.Prelude.{Box, ◌≢◌, is_some}
 use Rattle.std.specs.Box.{box_value}
-use Rattle.clap.specs.Words.{App, HasKind, IsAmong, Kinds, Text, Row, HasMatchesOf, fault_of, is_simple, is_simple_and_free, found_of, kind_of, rows_of, subcommand_of, subcommand_rows, subcommand_rows_of, subcommand_name_of}
+use Rattle.clap.specs.Words.{App, HasKind, IsAmong, Kinds, Text, Row, HasMatchesOf, fault_of, is_simple_and_free, found_of, kind_of, rows_of, subcommand_of, subcommand_rows, subcommand_rows_of, subcommand_name_of}
 use Rattle.clap.specs.declared.error.Error.{Error}
 use Rattle.clap.specs.declared.error.kind.ErrorKind.TheVariants.{OutOfMemory}
 use Rattle.clap.specs.declared.parser.matches.Found.{Found}
 use Rattle.clap.specs.declared.parser.matches.SubCommand.{SubCommand}
 use Rattle.clap.specs.declared.parser.matches.ArgMatches.{ArgMatches}
 use Rattle.clap.specs.declared.parser.matches.ArgMatches.TheViews.{out-ArgMatches, out-SubCommand}
-use Rattle.clap.proofs.OnLiterals.{clap_on_literals}
 use Rattle.pp_bounds.specs.declared.window.Window.{Window}
 use Rattle.pp_machine.specs.Profile.{processors_in}
 use Rattle.pp_machine.specs.declared.profile.Profile.{Profile}
-use Rattle.pp_command.specs.CommandLine.{IsFaultBy, IsRefused, AsksForMore, AsksForText, ReadsEnd, ReadsNumber, ReadsProfile, ReadsTurn, ReadsTurns, ReadsWindow, ppsim, refusals}
+use Rattle.pp_command.specs.CommandLine.{IsFaultBy, IsRefused, ReadsAlike, AsksForMore, AsksForText, ReadsEnd, ReadsNumber, ReadsProfile, ReadsTurn, ReadsTurns, ReadsWindow, ppsim, refusals}
 use Rattle.pp_command.specs.declared.line_fault.LineFault.{LineFault}
 use Rattle.pp_command.specs.declared.line_fault.LineFault.TheVariants.{Memory, Refused, Number, Picture}
 use Rattle.pp_command.specs.declared.text_of.TextOf.{TextOf}
 
-simple : is_simple ppsim ≡ true
-unfolding clap_on_literals ppsim
-simple = refl
-
-simple_and_free : is_simple_and_free ppsim ≡ true
-unfolding clap_on_literals ppsim
-simple_and_free = refl
-
 -- a parse that succeeds has no refusal
-pub taken_words : (words : List Text) (app : App) → app ≡ ppsim → (is_simple_and_free app ≡ true → fault_of app words ≡ []) → refusals words ≡ []
+pub taken_words : (words : List Text) (app : App) → ReadsAlike words app → (is_simple_and_free app ≡ true → fault_of app words ≡ []) → refusals words ≡ []
 unfolding refusals
-taken_words words app e h = subst (λ a. is_simple_and_free a ≡ true → fault_of a words ≡ []) e h simple_and_free
+taken_words words app alike h = sym alike.fault ∙ h alike.free
 
 among : (kinds : Kinds) (error : Error) → HasKind kinds error → kind_of error ≢ OutOfMemory → IsAmong (kind_of error) kinds
 among kinds error (inl memory) other = absurd (other memory)
 among kinds error (inr kind) other = kind
 
 -- one that fails for another cause than memory fails by one of the refusals
-pub refused_words : (words : List Text) (app : App) (error : Error) (fault : LineFault) → app ≡ ppsim → (is_simple_and_free app ≡ true → HasKind (fault_of app words) error)
+pub refused_words : (words : List Text) (app : App) (error : Error) (fault : LineFault) → ReadsAlike words app → (is_simple_and_free app ≡ true → HasKind (fault_of app words) error)
     → IsFaultBy error fault → IsRefused words fault
 unfolding refusals
-refused_words words app error Memory e h by = tt
-refused_words words app error (Refused told) e h by =
-    let kinds = subst (λ a. is_simple_and_free a ≡ true → HasKind (fault_of a words) error) e h simple_and_free in
+refused_words words app error Memory alike h by = tt
+refused_words words app error (Refused told) alike h by =
+    let kinds = subst (λ (kinds : Kinds). HasKind kinds error) alike.fault (h alike.free) in
     rw (by.0) (among (fault_of ppsim words) error kinds by.1, by.1)
-refused_words words app error Number e h by = absurd by
-refused_words words app error Picture e h by = absurd by
+refused_words words app error Number alike h by = absurd by
+refused_words words app error Picture alike h by = absurd by
 
 pair_of : {Z : Type 0} (o : Option (Box SubCommand Z)) (name : Text) (rows : List Row) → Some name ≡ option_map (λ b. (out-SubCommand (box_value b)).name.now) o → Some rows ≡ option_map (λ p. p.1) (subcommand_rows o) → subcommand_rows o ≡ Some (name, rows)
 pair_of None name rows e h = cc
@@ -54,22 +45,19 @@ pair_of (Some x) name rows e h =
     rw (a, b) refl
 
 -- the command that a parse met, by the words
-pub met_command : (words : List Text) (app : App) (m : ArgMatches) (name : Text) (f : Found) → app ≡ ppsim → HasMatchesOf app words m
+pub met_command : (words : List Text) (app : App) (m : ArgMatches) (name : Text) (f : Found) → ReadsAlike words app → HasMatchesOf app words m
     → Some name ≡ subcommand_name_of m → Some (rows_of f) ≡ option_map (λ p. p.1) (subcommand_rows_of m)
     → subcommand_of ppsim words ≡ Some (name, rows_of f)
-met_command words app m name f is h e k =
-    let met = subst (λ a. HasMatchesOf a words m) is h in
-    sym (met simple).1 ∙ pair_of (out-ArgMatches m).subcommand name (rows_of f) e k
+met_command words app m name f alike h e k =
+    sym alike.subcommand ∙ sym (h alike.simple).1 ∙ pair_of (out-ArgMatches m).subcommand name (rows_of f) e k
 
 none_of : {Z : Type 0} (o : Option (Box SubCommand Z)) → None ≡ option_map (λ b. (out-SubCommand (box_value b)).name.now) o → subcommand_rows o ≡ None
 none_of None e = refl
 none_of (Some x) e = cc
 
 -- or none
-pub met_none : (words : List Text) (app : App) (m : ArgMatches) → app ≡ ppsim → HasMatchesOf app words m → None ≡ subcommand_name_of m → subcommand_of ppsim words ≡ None
-met_none words app m is h e =
-    let met = subst (λ a. HasMatchesOf a words m) is h in
-    sym (met simple).1 ∙ none_of (out-ArgMatches m).subcommand e
+pub met_none : (words : List Text) (app : App) (m : ArgMatches) → ReadsAlike words app → HasMatchesOf app words m → None ≡ subcommand_name_of m → subcommand_of ppsim words ≡ None
+met_none words app m alike h e = sym alike.subcommand ∙ sym (h alike.simple).1 ∙ none_of (out-ArgMatches m).subcommand e
 
 -- ---- options and commands, one by one
 

@@ -1,2 +1,3 @@
 mod CommandLemmas
+mod NamedCommands
 mod NumberListLemmas

@@ -1,7 +1,8 @@
 -- What a command line asks for, by the words that stand in it.
-use Rattle.std.specs.Prelude.{◌≡◌, ◌≢◌, ℕ, ◌-◌, ◌<◌, ◌≤◌, Bool, true, false, IsTrue, List, [], ◌∷◌, fold, map, replicate, Option, Some, None, Ok, codes}
+use Rattle.std.specs.Prelude.{◌≡◌, ◌≢◌, ℕ, ◌-◌, ◌<◌, ◌≤◌, Bool, true, false, IsTrue, if◌then◌else◌, List, [], ◌∷◌, ◌++◌, fold, map, replicate, Option, Some, None, Ok, bytes_eq, codes}
+use Rattle.std.specs.List.{list_any}
 use Rattle.std.specs.Str.Parse.{ParsesUnsigned}
-use Rattle.clap.specs.Words.{App, IsAmong, Kinds, Row, Rule, Text, fault_of, first_of, found_of, kind_of, new_app, new_rule, rows_of, subcommand_of, with_rule, with_subcommand}
+use Rattle.clap.specs.Words.{App, IsAmong, Kinds, Row, Rule, Text, fault_of, first_of, found_of, is_simple, is_simple_and_free, kind_of, new_app, new_rule, rows_of, subcommand_of, with_rule, with_subcommand}
 use Rattle.clap.specs.declared.builder.action.ArgAction.TheVariants.{Set, SetTrue}
 use Rattle.clap.specs.declared.error.Error.{Error}
 use Rattle.clap.specs.declared.error.kind.ErrorKind.TheVariants.{OutOfMemory}
@@ -44,45 +45,51 @@ processors_option = optional_value (codes "processors")
 abbrev pub file_argument : Rule
 file_argument = record (new_rule (codes "file")) { action = Some Set; value_names = 1 }
 
--- a command with these options, and a file
-abbrev pub command : Text → List Rule → App
-command name options = with_rule (fold with_rule (new_app name) options) file_argument
+-- a command: its name and its options
+abbrev pub Command : Type 0
+Command = Text × List Rule
 
--- a command that makes a run of some turns
-abbrev pub turns_command : Text → App
-turns_command name = command name (number_option (codes "turns") ∷ processors_option ∷ [])
+-- with these options, and a file
+abbrev pub app_of_command : Command → App
+app_of_command command =
+    with_rule (fold with_rule (new_app command.0) command.1) file_argument
+
+-- a command that makes a run of some turns, with these options besides
+abbrev pub turns : Text → List Rule → Command
+turns name options = (name, number_option (codes "turns") ∷ options ++ processors_option ∷ [])
 
 abbrev pub bare : App
 bare = record (new_app (codes "ppsim")) {
   top = record (new_app (codes "ppsim")).top { has_version = true; subcommand_required = true };
 }
 
--- an app with these commands as well
+-- an app with these apps as its commands as well
 abbrev pub with_commands : App → List App → App
 with_commands app commands = fold (λ app command. with_subcommand app command.top) app commands
 
 -- the commands, in the order in which help lists them
+abbrev pub commands : List Command
+commands = turns (codes "barrel") []
+    ∷ (
+      codes "threads",
+      number_option (codes "steps") ∷ number_option (codes "patience") ∷ processors_option ∷ [],
+    )
+    ∷ (codes "list", processors_option ∷ [])
+    ∷ turns (codes "dump") []
+    ∷ turns (codes "steps") (optional_value (codes "pp") ∷ optional_value (codes "ch")
+    ∷ optional_value (codes "from") ∷ optional_value (codes "to") ∷ [])
+    ∷ turns (codes "state") []
+    ∷ turns (codes "ends") []
+    ∷ turns (codes "memory") (number_option (codes "pp") ∷ optional_value (codes "first")
+    ∷ optional_value (codes "last") ∷ [])
+    ∷ turns (codes "central") (optional_value (codes "first") ∷ optional_value (codes "last") ∷ [])
+    ∷ turns (codes "sessions") (flag_option (codes "words") ∷ [])
+    ∷ turns (codes "races") []
+    ∷ turns (codes "draw") (optional_value (codes "from") ∷ optional_value (codes "to") ∷ [])
+    ∷ (codes "check", optional_value (codes "opened") ∷ []) ∷ []
+
 unfoldable pub ppsim : App
-ppsim = with_commands bare (turns_command (codes "barrel")
-    ∷ command (codes "threads")
-    (number_option (codes "steps") ∷ number_option (codes "patience") ∷ processors_option ∷ [])
-    ∷ command (codes "list") (processors_option ∷ [])
-    ∷ turns_command (codes "dump")
-    ∷ command (codes "steps") (number_option (codes "turns") ∷ optional_value (codes "pp")
-    ∷ optional_value (codes "ch") ∷ optional_value (codes "from") ∷ optional_value (codes "to")
-    ∷ processors_option ∷ [])
-    ∷ turns_command (codes "state")
-    ∷ turns_command (codes "ends")
-    ∷ command (codes "memory") (number_option (codes "turns") ∷ number_option (codes "pp")
-    ∷ optional_value (codes "first") ∷ optional_value (codes "last") ∷ processors_option ∷ [])
-    ∷ command (codes "central") (number_option (codes "turns") ∷ optional_value (codes "first")
-    ∷ optional_value (codes "last") ∷ processors_option ∷ [])
-    ∷ command (codes "sessions")
-    (number_option (codes "turns") ∷ flag_option (codes "words") ∷ processors_option ∷ [])
-    ∷ turns_command (codes "races")
-    ∷ command (codes "draw") (number_option (codes "turns") ∷ optional_value (codes "from")
-    ∷ optional_value (codes "to") ∷ processors_option ∷ [])
-    ∷ command (codes "check") (optional_value (codes "opened") ∷ []) ∷ [])
+ppsim = with_commands bare (map app_of_command commands)
 
 -- the kinds of refusal that clap's parse may give to the words: none if they are a command line
 unfoldable pub refusals : List Text → Kinds
@@ -276,6 +283,22 @@ rule_by value id = optional_value id
 abbrev pub rule_of_form : OptionForm → Rule
 rule_of_form form = record (rule_by form.value form.name.now) { required = form.required }
 
--- the app of a command of this form
-abbrev pub app_of_form : CommandForm → App
-app_of_form form = command form.name.now (map rule_of_form form.options.now)
+-- a command of this form
+abbrev pub command_of_form : CommandForm → Command
+command_of_form form = (form.name.now, map rule_of_form form.options.now)
+
+-- whether this is one of the words
+abbrev pub is_word : List Text → Text → Bool
+is_word words name = list_any (λ word. bytes_eq word name) words
+
+-- the app of a command: without options and file, if no word names it
+abbrev pub app_by : List Text → Command → App
+app_by words command =
+    if is_word words command.0 then app_of_command command else new_app command.0
+
+-- a parse makes the same of these words by this app and by `ppsim`
+pub record ReadsAlike (words : List Text) (app : App) : Type 0 where
+  pub simple : is_simple app ≡ true
+  pub free : is_simple_and_free app ≡ true
+  pub subcommand : subcommand_of app words ≡ subcommand_of ppsim words
+  pub fault : fault_of app words ≡ fault_of ppsim words

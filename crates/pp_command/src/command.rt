@@ -3,8 +3,8 @@
 ghost use Rattle.std.specs.Prelude.{◌≡◌, false, fold, map, IfOk};
 ghost use Rattle.clap.specs.Words.{app_of, new_app, rule_of, with_rule};
 ghost use Rattle.clap.specs.declared.builder.command.Command.TheViews.{out-Command as fields_of};
-ghost use Rattle.pp_command.specs.CommandLine.{bare, ppsim, with_commands};
-ghost use Rattle.pp_command.specs.CommandLine.{app_of_form, file_argument, rule_of_form};
+ghost use Rattle.pp_command.specs.CommandLine.{ReadsAlike, bare, with_commands};
+ghost use Rattle.pp_command.specs.CommandLine.{app_by, app_of_command, command_of_form, file_argument, is_word, rule_of_form};
 
 use crate::commands::{ABOUT, COMMANDS, EXAMPLE, FILE_HELP, MANUAL};
 use crate::number_range::NumberRange;
@@ -112,15 +112,31 @@ fn with_options<'a>(
     Ok(command)
 }
 
-/// A command of this form.
-fn command_of<'a>(alloc: Global, form: &CommandForm) -> Result<Command<'a>, AllocError>
-    ensures app { IfOk result (λ c. app_of c ≡ app_of_form form.now) }
+/// Whether this is one of the words.
+fn is_word(words: &[&str], name: &str) -> bool
+    ensures { result ≡ is_word (map (λ s. s.now) words.now) name.now }
+{
+    words.contains(&name)
+}
+
+/// A command of this form. It has its options and its file only if a word names it: a parse of the
+/// words looks at no others.
+fn command_of<'a>(
+    alloc: Global,
+    form: &CommandForm,
+    words: &[&str],
+) -> Result<Command<'a>, AllocError>
+    ensures app { IfOk result (λ c. app_of c
+        ≡ app_by (map (λ s. s.now) words.now) (command_of_form form.now)) }
     ensures local { IfOk result (λ c. (fields_of c).has_globals ≡ false) }
 {
     let command = Command::new(alloc, form.name)
         .about(form.about)
         .long_about(form.long_about)
         .after_help(form.example);
+    if !is_word(words, form.name) {
+        return Ok(command);
+    }
     let command = with_options(alloc, command, form.options)?;
     command.arg(file_argument(alloc))
 }
@@ -130,12 +146,13 @@ fn with_commands<'a>(
     alloc: Global,
     mut app: Command<'a>,
     forms: &[CommandForm],
+    words: &[&str],
 ) -> Result<Command<'a>, AllocError>
-    ensures { IfOk result (λ c. app_of c
-        ≡ with_commands (app_of app.entry) (map app_of_form forms.now)) }
+    ensures { IfOk result (λ c. app_of c ≡ with_commands (app_of app.entry)
+        (map (λ form. app_by (map (λ s. s.now) words.now) (command_of_form form)) forms.now)) }
 {
     for form in forms {
-        app = app.subcommand(command_of(alloc, form)?)?;
+        app = app.subcommand(command_of(alloc, form, words)?)?;
     }
     Ok(app)
 }
@@ -152,10 +169,9 @@ fn bare_command<'a>(alloc: Global) -> Command<'a>
         .subcommand_required(true)
 }
 
-/// The whole command line.
-#[tactic(auto, unfolding(crate::specs::CommandLine::ppsim))]
-pub(crate) fn command<'a>(alloc: Global) -> Result<Command<'a>, AllocError>
-    ensures { IfOk result (λ c. app_of c ≡ ppsim) }
+/// The command line, for these words.
+pub(crate) fn command<'a>(alloc: Global, words: &[&str]) -> Result<Command<'a>, AllocError>
+    ensures { IfOk result (λ c. ReadsAlike (map (λ s. s.now) words.now) (app_of c)) }
 {
-    with_commands(alloc, bare_command(alloc), &COMMANDS)
+    with_commands(alloc, bare_command(alloc), &COMMANDS, words)
 }

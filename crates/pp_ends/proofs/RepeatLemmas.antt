@@ -24,7 +24,7 @@ use Rattle.pp_machine.specs.declared.need.Need.{Need}
 use Rattle.pp_machine.specs.declared.need.Need.TheVariants.{Channel, Read, Write}
 use Rattle.pp_machine.specs.declared.profile.Profile.{Profile}
 use Rattle.pp_machine.specs.declared.profile.Profile.TheVariants.{Ten, Twenty}
-use Rattle.pp_machine.proofs.RunLawLemmas.{run_keeps}
+use Rattle.pp_machine.proofs.RunLemmas.{run_keeps}
 use Rattle.pp_run.proofs.StepFacts.{central_by, histories_by, history_elsewhere, history_here, length_histories, processors_by}
 use Rattle.pp_run.proofs.Moments.{run_histories}
 use Rattle.pp_ends.specs.Endings.{Repeats, StandAlike, after_turns}

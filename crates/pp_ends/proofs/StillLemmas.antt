@@ -10,7 +10,7 @@ use Rattle.pp_machine.specs.Processor.{Processor, no_processor}
 use Rattle.pp_machine.specs.Profile.{processor_in_turn}
 use Rattle.pp_machine.specs.PpNo.{processor_index}
 use Rattle.pp_machine.specs.Run.{run}
-use Rattle.pp_machine.proofs.RunLawLemmas.{barrel_more}
+use Rattle.pp_machine.proofs.RunLemmas.{barrel_more}
 use Rattle.pp_machine.specs.declared.need.Need.{Need}
 use Rattle.pp_machine.specs.declared.need.Need.TheVariants.{Nothing, Channel}
 use Rattle.pp_machine.specs.declared.trace.Trace.{Trace}

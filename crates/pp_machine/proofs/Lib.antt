@@ -3,7 +3,6 @@ mod BlockResultLemmas
 mod SignLemmas
 mod StoredLemmas
 mod HeadlineLemmas
-mod RunLemmas
 mod RoundLemmas
 mod DeadStartLemmas
 mod QuietLemmas
@@ -15,4 +14,4 @@ pub mod ReplayLemmas
 pub mod MemoryLemmas
 pub mod StepLemmas
 pub mod MachineStepLemmas
-pub mod RunLawLemmas
+pub mod RunLemmas

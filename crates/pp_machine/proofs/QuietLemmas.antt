@@ -30,7 +30,7 @@ use Rattle.pp_machine.specs.declared.profile.Profile.{Profile}
 use Rattle.pp_machine.proofs.ProfileLemmas.{most_processors, in_turn_at, no_rounds, next_round}
 use Rattle.pp_machine.proofs.StepLemmas.{nothing_at_rest, rest_changes_nothing}
 use Rattle.pp_machine.proofs.RoundLemmas.{barrel_rounds}
-use Rattle.pp_machine.proofs.RunLawLemmas.{barrel_more}
+use Rattle.pp_machine.proofs.RunLemmas.{barrel_more}
 
 -- the same channels and the same central memory, with other processors and other turns
 abbrev pub beside : List Processor → ℕ → MachineState → MachineState

@@ -13,7 +13,7 @@ use Rattle.pp_machine.specs.Rounds.{RestBetween, PassesOverRest, IsCut, whole_ro
 use Rattle.pp_machine.specs.Run.{run, barrel}
 use Rattle.pp_machine.proofs.MachineStepLemmas.{stepped_at_rest}
 use Rattle.pp_machine.proofs.ProfileLemmas.{index_in_turn, in_round, more_rounds, fewer_rounds}
-use Rattle.pp_machine.proofs.RunLawLemmas.{run-append, run_profile, barrel_more}
+use Rattle.pp_machine.proofs.RunLemmas.{run-append, run_profile, barrel_more}
 
 -- a step changes no other processor
 other_processor : (n place : ℕ) (m : MachineState) → place ≢ processor_index n → get_or (stepped n m).processors place no_processor ≡ get_or m.processors place no_processor

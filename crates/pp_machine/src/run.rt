@@ -13,7 +13,7 @@ impl<A: Allocator> Machine<A> {
     ghost use Rattle.pp_machine.specs.Run.{run};
 
     /// Makes one step of each processor of a list, in order, with any repeats.
-    #[tactic(auto, using(crate::proofs::RunLawLemmas::run_more, crate::proofs::RunLemmas::some_event))]
+    #[tactic(auto, using(crate::proofs::RunLemmas::run_more, crate::proofs::RunLemmas::some_event))]
     pub fn run_turns(&mut self, turns: &[PpNo]) -> Result<(), Cut>
         ensures ok { OnOk result (self.new ≡ run turns.now self.old) }
         ensures cut { IfErr result (λ c. self.new ≡ run (take c.done turns.now) self.old) }

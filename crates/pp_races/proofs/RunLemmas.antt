@@ -12,7 +12,7 @@ use Rattle.pp_machine.specs.NeedAndEffect.{need}
 use Rattle.pp_machine.specs.PpNo.{names_processor, processor_count}
 use Rattle.pp_machine.specs.Profile.{processor_in_turn}
 use Rattle.pp_machine.specs.Run.{run, barrel}
-use Rattle.pp_machine.proofs.RunLawLemmas.{length-barrel, run-append}
+use Rattle.pp_machine.proofs.RunLemmas.{length-barrel, run-append}
 use Rattle.pp_machine.specs.declared.need.Need.{Need}
 use Rattle.pp_machine.specs.declared.profile.Profile.{Profile}
 use Rattle.pp_run.proofs.RunStepLemmas.{take_barrel, turn_of_barrel}

@@ -9,7 +9,7 @@ use Rattle.pp_machine.specs.MachineState.{MachineState, history_of}
 use Rattle.pp_machine.specs.MachineStep.{stepped}
 use Rattle.pp_machine.specs.NeedAndEffect.{need}
 use Rattle.pp_machine.specs.Run.{run}
-use Rattle.pp_machine.proofs.RunLawLemmas.{run_more}
+use Rattle.pp_machine.proofs.RunLemmas.{run_more}
 use Rattle.pp_run.specs.Determinacy.{at_moment, processor_at, history_at, made_on, AdvancesAlone, MayFind}
 use Rattle.pp_run.specs.Determinacy.MayFind.{start, channel_advances, processor_advances, both_advance}
 use Rattle.pp_run.proofs.StepFacts.{grows, made_as_history, history_unless, length_processors, length_histories, length_central}

@@ -12,7 +12,7 @@ use Rattle.pp_machine.specs.MachineStep.{stepped}
 use Rattle.pp_machine.specs.PpNo.{processor_count, processor_index, processor_number, each_processor, processor_places}
 use Rattle.pp_machine.specs.Profile.{processor_in_turn}
 use Rattle.pp_machine.specs.Run.{barrel, run}
-use Rattle.pp_machine.proofs.RunLawLemmas.{length-barrel}
+use Rattle.pp_machine.proofs.RunLemmas.{length-barrel}
 use Rattle.pp_machine.specs.declared.profile.Profile.{Profile}
 use Rattle.pp_run.specs.RunSteps.{RunStep, is_of, run_steps, seen_of}
 

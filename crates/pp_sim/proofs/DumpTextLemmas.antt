@@ -2,7 +2,7 @@
 use Rattle.std.proofs.Common.{◌≡◌, ℕ, ◌≤◌, List, length, None, Ok, refl, ap, subst, ◌∙◌}
 use Rattle.pp_machine.specs.Run.{barrel, run}
 use Rattle.pp_machine.specs.declared.profile.Profile.{Profile}
-use Rattle.pp_machine.proofs.RunLawLemmas.{run_profile}
+use Rattle.pp_machine.proofs.RunLemmas.{run_profile}
 use Rattle.pp_deck.specs.DeckMeaning.{LoadedDeck, deck_meaning}
 use Rattle.pp_machine.specs.MachineState.{MachineState}
 use Rattle.pp_listing.specs.Dump.{GoesOnFrom, deck_to_go_on, dump, first_busy}

@@ -9,7 +9,7 @@ use Rattle.pp_machine.specs.MachineStep.{stepped}
 use Rattle.pp_machine.specs.Profile.{processor_in_turn}
 use Rattle.pp_machine.specs.Run.{barrel, run}
 use Rattle.pp_machine.specs.declared.profile.Profile.{Profile}
-use Rattle.pp_machine.proofs.RunLawLemmas.{barrel_more, length-barrel}
+use Rattle.pp_machine.proofs.RunLemmas.{barrel_more, length-barrel}
 use Rattle.pp_run.specs.RunSteps.{RunStep, run_steps}
 use Rattle.pp_run.proofs.RunStepLemmas.{barrel_steps_more, length-barrel_steps, run_steps-both, take_barrel, turn_of_barrel}
 use Rattle.pp_steps.specs.Choice.{chosen_steps, is_chosen}

@@ -5,7 +5,7 @@ use Rattle.pp_machine.specs.MachineStep.{stepped}
 use Rattle.pp_machine.specs.PpNo.{processor_number}
 use Rattle.pp_machine.specs.Profile.{processor_in_turn, processors_in}
 use Rattle.pp_machine.specs.Run.{barrel, run}
-use Rattle.pp_machine.proofs.RunLawLemmas.{barrel_more}
+use Rattle.pp_machine.proofs.RunLemmas.{barrel_more}
 use Rattle.pp_ends.specs.Rounds.{after_rounds}
 use Rattle.pp_ends.proofs.FoundLemmas.{after_one, in_first_round}
 use Rattle.pp_ends.proofs.rounds.run_round.Goals as goal

@@ -5,7 +5,7 @@ use Rattle.pp_run.specs.BareMachine.{StandsFor}
 use Rattle.pp_machine.specs.MachineState.{MachineState}
 use Rattle.pp_machine.specs.MachineStep.{stepped}
 use Rattle.pp_machine.specs.Profile.{processor_in_turn}
-use Rattle.pp_machine.proofs.RunLawLemmas.{barrel_more}
+use Rattle.pp_machine.proofs.RunLemmas.{barrel_more}
 use Rattle.pp_ends.specs.Endings.{IsStillFrom, TellsMove, WaitsAt, after_turns}
 use Rattle.pp_ends.proofs.StillLemmas.{still_after, still_more}
 use Rattle.pp_ends.proofs.run.run_telling.Goals as goal

@@ -1,7 +1,7 @@
 use Rattle.std.proofs.Common.{◌≡◌, ◌<◌, ◌+◌, ◌^◌, ℕ, List, inr, length, refl, sym, ap, ◌∙◌, subst, arith}
 use Rattle.pp_machine.specs.Profile.{processor_in_turn}
 use Rattle.pp_machine.specs.Run.{barrel, run}
-use Rattle.pp_machine.proofs.RunLawLemmas.{barrel_more}
+use Rattle.pp_machine.proofs.RunLemmas.{barrel_more}
 use Rattle.pp_run.specs.RunSteps.{IsMade, RunStep, barrel_step, run_steps}
 use Rattle.pp_run.proofs.RunStepLemmas.{barrel_steps_more, length-barrel_steps}
 use Rattle.pp_run.proofs.observed_run.run_observed.Goals as goal

@@ -2,7 +2,7 @@ use Rattle.std.proofs.Common.{ℕ, List, arith, refl, subst, sym}
 use Rattle.pp_check.specs.LawfulTrace.{AreLawful}
 use Rattle.pp_deck.specs.DeckText.{lines_of}
 use Rattle.pp_machine.specs.Run.{barrel, run}
-use Rattle.pp_machine.proofs.RunLawLemmas.{length-barrel}
+use Rattle.pp_machine.proofs.RunLemmas.{length-barrel}
 use Rattle.pp_sim.proofs.laws.checked_text_law.Goals as goal
 
 pub returns-clause-barrel : goal.returns-clause-barrel

@@ -5,7 +5,7 @@ use Rattle.pp_machine.specs.MachineState.{MachineState}
 use Rattle.pp_machine.specs.MachineStep.{stepped}
 use Rattle.pp_machine.specs.PpNo.{processor_count}
 use Rattle.pp_machine.specs.Run.{barrel, run}
-use Rattle.pp_machine.proofs.RunLawLemmas.{barrel_more}
+use Rattle.pp_machine.proofs.RunLemmas.{barrel_more}
 use Rattle.pp_run.specs.BareMachine.{StandsFor}
 use Rattle.pp_run.specs.RunSteps.{RunStep}
 use Rattle.pp_steps.specs.Choice.{chosen_steps, is_chosen}

@@ -9,7 +9,7 @@ use Rattle.pp_machine.specs.Run.{run, barrel}
 use Rattle.pp_machine.proofs.RoundLemmas.{passes_over_stepped, profile_after}
 use Rattle.pp_machine.proofs.RunLemmas.{some_event}
 use Rattle.pp_machine.proofs.ProfileLemmas.{in_turn_at}
-use Rattle.pp_machine.proofs.RunLawLemmas.{barrel_more}
+use Rattle.pp_machine.proofs.RunLemmas.{barrel_more}
 use Rattle.pp_machine.proofs.machine.Machine.run_round.Goals as goal
 
 pub step_in_barrel-requires : goal.step_in_barrel-requires
