@@ -49,7 +49,7 @@ file_argument = record (new_rule (codes "file")) { action = Some Set; value_name
 abbrev pub Command : Type 0
 Command = Text × List Rule
 
--- with these options, and a file
+-- what clap sees of it: these options, and a file
 abbrev pub app_of_command : Command → App
 app_of_command command =
     with_rule (fold with_rule (new_app command.0) command.1) file_argument
@@ -58,12 +58,13 @@ app_of_command command =
 abbrev pub turns : Text → List Rule → Command
 turns name options = (name, number_option (codes "turns") ∷ options ++ processors_option ∷ [])
 
+-- the program without a command
 abbrev pub bare : App
 bare = record (new_app (codes "ppsim")) {
   top = record (new_app (codes "ppsim")).top { has_version = true; subcommand_required = true };
 }
 
--- an app with these apps as its commands as well
+-- an app with these as its commands as well
 abbrev pub with_commands : App → List App → App
 with_commands app commands = fold (λ app command. with_subcommand app command.top) app commands
 
@@ -88,6 +89,7 @@ commands = turns (codes "barrel") []
     ∷ turns (codes "draw") (optional_value (codes "from") ∷ optional_value (codes "to") ∷ [])
     ∷ (codes "check", optional_value (codes "opened") ∷ []) ∷ []
 
+-- the whole command line
 unfoldable pub ppsim : App
 ppsim = with_commands bare (map app_of_command commands)
 

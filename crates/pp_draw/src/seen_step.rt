@@ -1,9 +1,8 @@
 //! Runs that see how each step found its processor.
 
-ghost use Rattle.std.specs.Prelude.{◌≡◌, map, IfErr, IfOk, OnOk};
+ghost use Rattle.std.specs.Prelude.{◌≡◌, map, IfErr, IfOk};
 ghost use Rattle.std.specs.List.{filter};
-ghost use Rattle.pp_machine.specs.Headline.{HoldsOnEachChannel};
-ghost use Rattle.pp_machine.specs.Run.{barrel, run};
+ghost use Rattle.pp_machine.specs.Run.{IsRunOf};
 ghost use Rattle.pp_run.specs.RunSteps.{IsCutAt};
 ghost use Rattle.pp_draw.specs.SeenStep.{IsKept, condition_by, found_in, is_shown, seen, seen_in_window};
 
@@ -32,15 +31,11 @@ pub fn run_seeing_steps<A: Allocator>(
     machine: &mut Machine<A>,
     window: Window,
 ) -> Result<Vec<SeenStep, A>, Cut>
-    ensures ran { OnOk result
-        (machine.new ≡ run (barrel machine.old.profile window.to) machine.old) }
+    ensures run { IsRunOf window.to result machine.old machine.new }
     ensures seen { IfOk result (λ steps. steps.items ≡ seen_in_window window machine.old) }
-    ensures cut { IfErr result (λ c.
-        machine.new ≡ run (barrel machine.old.profile c.done) machine.old) }
     // A run is cut only where an event or a step had to be kept.
     ensures cut_at { IfErr result (λ c.
         IsCutAt (IsKept window) window.to machine.old c.done) }
-    ensures headline { HoldsOnEachChannel machine.new }
 {
     let mut shown = ShownSteps {
         window,

@@ -10,7 +10,7 @@ use Rattle.pp_machine.specs.PpNo.{processor_count, processor_index}
 use Rattle.pp_machine.specs.Profile.{processors_in, processor_in_turn}
 use Rattle.pp_machine.specs.declared.profile.Profile.{Profile}
 use Rattle.pp_machine.specs.Rounds.{RestBetween, PassesOverRest, IsCut, whole_rounds}
-use Rattle.pp_machine.specs.Run.{run, barrel}
+use Rattle.pp_machine.specs.Run.{MakesEvent, run, barrel}
 use Rattle.pp_machine.proofs.MachineStepLemmas.{stepped_at_rest}
 use Rattle.pp_machine.proofs.ProfileLemmas.{index_in_turn, in_round, more_rounds, fewer_rounds}
 use Rattle.pp_machine.proofs.RunLemmas.{run-append, run_profile, barrel_more}
@@ -192,21 +192,25 @@ within_after rounds more all turns done m n before counted less within =
     omega (arith, few, counted, more_rounds p rounds more, fewer_rounds p (rounds + more) all within)
 
 -- the event of a step behind whole rounds
-pub event_after : (rounds turn done : ℕ) (m n o : MachineState) → n ≡ run (whole_rounds m.profile rounds) m → done ≡ rounds * processors_in m.profile
-    → IsSome (step_event (processor_in_turn n.profile turn) o) → IsSome (step_event (processor_in_turn m.profile (done + turn)) o)
-event_after rounds turn done m n o before counted made =
+pub event_after : (rounds turn done : ℕ) (m n : MachineState) → n ≡ run (whole_rounds m.profile rounds) m → done ≡ rounds * processors_in m.profile
+    → MakesEvent n turn → MakesEvent m (done + turn)
+event_after rounds turn done m n before counted made =
     let p = m.profile in
     let here : processor_in_turn n.profile turn ≡ processor_in_turn p (done + turn) =
     ap (λ q. processor_in_turn q turn) (profile_after (whole_rounds p rounds) m n before) ∙ sym (in_round p rounds turn) ∙ ap (λ k. processor_in_turn p (k + turn)) (sym counted) in
-    subst (λ k. IsSome (step_event k o)) here made
+    subst (λ (o : MachineState). IsSome (step_event (processor_in_turn p (done + turn)) o))
+    (turns_after rounds turn done m n (run (barrel n.profile turn) n) before counted refl)
+    (subst (λ (k : ℕ). IsSome (step_event k (run (barrel n.profile turn) n))) here made)
 
 -- a cut run behind whole rounds
 pub cut_after : (rounds more all turns done : ℕ) (m n o : MachineState) → n ≡ run (whole_rounds m.profile rounds) m → done ≡ rounds * processors_in m.profile
     → IsCut (more * processors_in n.profile) turns n o → rounds + more ≤ all → IsCut (all * processors_in m.profile) (done + turns) m o
 cut_after rounds more all turns done m n o before counted cut within = record {
   ran = turns_after rounds turns done m n o before counted cut.ran;
-  within = within_after rounds more all turns done m n before counted cut.within within;
-  at_event = event_after rounds turns done m n o before counted cut.at_event;
+  at_event = (
+    within_after rounds more all turns done m n before counted cut.at_event.0 within,
+    event_after rounds turns done m n before counted cut.at_event.1,
+  );
 }
 
 pub ruleset passes = (passes_from_end, passes_from_running, passes_from_rest, passes_from_start)

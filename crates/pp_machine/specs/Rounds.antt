@@ -1,12 +1,11 @@
 -- Rounds of the barrel in which processors at rest are passed over: a step of theirs counts a turn,
 -- and does nothing else. (Only private contracts cite this.)
-use Rattle.std.specs.Prelude.{◌≡◌, ℕ, ◌*◌, ◌<◌, ◌≤◌, List, IsSome, slice_index, slice_index_or}
+use Rattle.std.specs.Prelude.{◌≡◌, ℕ, ◌*◌, ◌<◌, ◌≤◌, List, slice_index, slice_index_or}
 use Rattle.pp_machine.specs.MachineState.{MachineState}
-use Rattle.pp_machine.specs.MachineStep.{step_event}
 use Rattle.pp_machine.specs.Processor.{Processor, no_processor, IsAtRest}
 use Rattle.pp_machine.specs.PpNo.{processor_count}
-use Rattle.pp_machine.specs.Profile.{processors_in, processor_in_turn}
-use Rattle.pp_machine.specs.Run.{run, barrel}
+use Rattle.pp_machine.specs.Profile.{processors_in}
+use Rattle.pp_machine.specs.Run.{IsCutAtEvent, run, barrel}
 use Rattle.pp_machine.specs.declared.profile.Profile.{Profile}
 
 -- from one place of the barrel, or its end, to another all processors are at rest
@@ -28,5 +27,4 @@ whole_rounds profile rounds = barrel profile (rounds * processors_in profile)
 -- a run of the barrel that was cut after `done` steps of `all`, at a step that makes an event
 pub record IsCut (all done : ℕ) (old new : MachineState) : Type 0 where
   pub ran : new ≡ run (barrel old.profile done) old
-  pub within : done < all
-  pub at_event : IsSome (step_event (processor_in_turn old.profile done) new)
+  pub at_event : IsCutAtEvent all old done

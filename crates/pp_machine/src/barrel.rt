@@ -1,7 +1,7 @@
 //! The barrel: what `Machine::run_turns` does with the list of its turns. All else here is speed:
 //! rounds that are quiet are made processor by processor, and processors at rest are passed over.
 
-ghost use Rattle.std.specs.Prelude.{◌≡◌, ◌*◌, ◌<◌, ◌≤◌, length, IfErr, IsSome, OnOk};
+ghost use Rattle.std.specs.Prelude.{◌≡◌, ◌*◌, ◌<◌, ◌≤◌, length, IfErr, OnOk};
 ghost use Rattle.pp_machine.specs.PpNo.{processor_count};
 ghost use Rattle.pp_machine.specs.Rounds.{RestBetween, PassesOverRest};
 
@@ -35,23 +35,17 @@ const LONG_QUIET: u32 = 2048;
 
 impl<A: Allocator> Machine<A> {
     ghost use Rattle.pp_machine.specs.Headline.{HoldsOnEachChannel};
-    ghost use Rattle.pp_machine.specs.MachineStep.{step_event};
-    ghost use Rattle.pp_machine.specs.Profile.{processors_in, processor_in_turn};
+    ghost use Rattle.pp_machine.specs.Profile.{processors_in};
     ghost use Rattle.pp_machine.specs.Rounds.{whole_rounds, IsCut};
     ghost use Rattle.pp_machine.specs.declared.profile.Profile.{Profile};
     ghost use Rattle.pp_machine.specs.MachineState.{MachineState};
-    ghost use Rattle.pp_machine.specs.Run.{run, barrel};
+    ghost use Rattle.pp_machine.specs.Run.{IsCutAtEvent, IsRunOf, run, barrel};
 
     /// Runs `turns` turns of the barrel from its first processor on, in rounds of ten or of twenty
     /// by its profile. Processors at rest are passed over.
     pub fn run_barrel(&mut self, turns: u32) -> Result<(), Cut>
-        ensures ok { OnOk result (self.new ≡ run (barrel self.old.profile turns) self.old) }
-        ensures cut { IfErr result (λ c. self.new ≡ run (barrel self.old.profile c.done) self.old) }
-        ensures within { IfErr result (λ c. c.done < turns) }
-        // A run is cut only at a step that makes an event.
-        ensures cut_at_event { IfErr result (λ c.
-            IsSome (step_event (processor_in_turn self.old.profile c.done) self.new)) }
-        ensures headline { HoldsOnEachChannel self.new }
+        ensures run { IsRunOf turns result self.old self.new }
+        ensures cut_at_event { IfErr result (λ c. IsCutAtEvent turns self.old c.done) }
     {
         // Reveals to the proof that the machine is sound.
         let _sound = &self.turns;

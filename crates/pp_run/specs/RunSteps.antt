@@ -1,10 +1,10 @@
 -- The steps of a run.
-use Rattle.std.specs.Prelude.{◌≡◌, ℕ, ◌+◌, ◌<◌, ◌⊎◌, ◌==◌, Bool, IsSome, List, [], ◌∷◌, map}
+use Rattle.std.specs.Prelude.{◌≡◌, ℕ, ◌+◌, ◌<◌, ◌⊎◌, ◌==◌, Bool, List, [], ◌∷◌, map}
 use Rattle.std.specs.List.{filter}
 use Rattle.pp_machine.specs.MachineState.{MachineState}
-use Rattle.pp_machine.specs.MachineStep.{step_event, step_outcome, stepped}
+use Rattle.pp_machine.specs.MachineStep.{step_outcome, stepped}
 use Rattle.pp_machine.specs.Profile.{processor_in_turn}
-use Rattle.pp_machine.specs.Run.{barrel, run}
+use Rattle.pp_machine.specs.Run.{IsCutAtEvent, barrel, run}
 use Rattle.pp_machine.specs.declared.outcome.Outcome.{Outcome}
 
 -- a step: its processor, and the machine before it
@@ -46,14 +46,9 @@ barrel_step m turns = record {
   before = run (barrel m.profile turns) m;
 }
 
--- whether it makes an event, which is kept in the trace
-abbrev pub MakesEvent : MachineState → ℕ → Type 0
-MakesEvent m turns =
-    IsSome (step_event (processor_in_turn m.profile turns) (run (barrel m.profile turns) m))
-
 -- A run of `turns` turns is cut after `done` of them, when something had to be kept: before a step
 -- that makes an event, or after a step that is kept itself.
 abbrev pub IsCutAt : (RunStep → Type 0) → ℕ → MachineState → ℕ → Type 0
 IsCutAt Keeps turns m done =
-    ((done < turns) × MakesEvent m done)
+    IsCutAtEvent turns m done
     ⊎ ((last : ℕ) × (done ≡ last + 1) × (last < turns) × Keeps (barrel_step m last))

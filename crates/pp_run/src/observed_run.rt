@@ -1,8 +1,7 @@
 //! An observed run.
 
-ghost use Rattle.std.specs.Prelude.{◌≡◌, [], IfErr, OnOk};
-ghost use Rattle.pp_machine.specs.Headline.{HoldsOnEachChannel};
-ghost use Rattle.pp_machine.specs.Run.{barrel, run};
+ghost use Rattle.std.specs.Prelude.{[], IfErr, OnOk};
+ghost use Rattle.pp_machine.specs.Run.{IsRunOf, barrel};
 ghost use Rattle.pp_run.specs.RunSteps.{IsCutAt, RunStep, run_steps};
 
 use crate::observer::Observer;
@@ -18,11 +17,9 @@ pub fn run_observed<A: Allocator, O: Observer<A>>(
     observer: &mut O,
 ) -> Result<(), Cut>
     requires { O.HasSeen observer.old [] observer.old }
-    ensures ran { OnOk result (machine.new ≡ run (barrel machine.old.profile turns) machine.old) }
+    ensures run { IsRunOf turns result machine.old machine.new }
     ensures seen { OnOk result (O.HasSeen observer.old
         (run_steps (barrel machine.old.profile turns) machine.old) observer.new) }
-    ensures cut { IfErr result (λ c.
-        machine.new ≡ run (barrel machine.old.profile c.done) machine.old) }
     // A run is cut only when an event or a step had to be kept.
     ensures cut_at { IfErr result (λ c.
         IsCutAt (O.Keeps observer.old) turns machine.old c.done) }
@@ -30,7 +27,6 @@ pub fn run_observed<A: Allocator, O: Observer<A>>(
     ensures unkept { IfErr result (λ c. ((step : RunStep) → ¬ O.Keeps observer.old step)
         → O.HasSeen observer.old (run_steps (barrel machine.old.profile c.done) machine.old)
         observer.new) }
-    ensures headline { HoldsOnEachChannel machine.new }
 {
     // Reveals to the proof that the machine is sound.
     let _sound = machine.turns();

@@ -1,10 +1,7 @@
 //! Runs that count what their steps did.
 
-ghost use Rattle.std.specs.Prelude.{◌≡◌, ◌+◌, ◌<◌, ◌^◌, ◌++◌, ◌∷◌, [], List, length, IfErr, IfOk, IsSome, OnOk};
-ghost use Rattle.pp_machine.specs.Headline.{HoldsOnEachChannel};
-ghost use Rattle.pp_machine.specs.MachineStep.{step_event};
-ghost use Rattle.pp_machine.specs.Profile.{processor_in_turn};
-ghost use Rattle.pp_machine.specs.Run.{barrel, run};
+ghost use Rattle.std.specs.Prelude.{◌≡◌, ◌+◌, ◌<◌, ◌^◌, ◌++◌, ◌∷◌, [], List, length, IfErr, IfOk};
+ghost use Rattle.pp_machine.specs.Run.{IsCutAtEvent, IsRunOf, barrel};
 ghost use Rattle.pp_machine.specs.declared.outcome.Outcome.{Outcome};
 ghost use Rattle.pp_run.specs.RunSteps.{run_steps};
 ghost use Rattle.pp_run.specs.StepCounts.{counts_of, each_step_counts};
@@ -64,16 +61,10 @@ pub fn run_counting_steps<A: Allocator>(
     machine: &mut Machine<A>,
     turns: u32,
 ) -> Result<[StepCounts; PROCESSORS], Cut>
-    ensures ran { OnOk result (machine.new ≡ run (barrel machine.old.profile turns) machine.old) }
+    ensures run { IsRunOf turns result machine.old machine.new }
     ensures counts { IfOk result (λ counts.
         counts ≡ each_step_counts (run_steps (barrel machine.old.profile turns) machine.old)) }
-    ensures cut { IfErr result (λ c.
-        machine.new ≡ run (barrel machine.old.profile c.done) machine.old) }
-    ensures within { IfErr result (λ c. c.done < turns) }
-    // A run is cut only at a step that makes an event.
-    ensures cut_at_event { IfErr result (λ c.
-        IsSome (step_event (processor_in_turn machine.old.profile c.done) machine.new)) }
-    ensures headline { HoldsOnEachChannel machine.new }
+    ensures cut_at_event { IfErr result (λ c. IsCutAtEvent turns machine.old c.done) }
 {
     let mut counts = EachStepCounts([StepCounts::NONE; PROCESSORS]);
     run_observed(machine, turns, &mut counts)?;

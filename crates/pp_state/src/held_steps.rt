@@ -1,10 +1,7 @@
 //! Runs that count held steps.
 
-ghost use Rattle.std.specs.Prelude.{◌≡◌, ◌<◌, IfErr, IfOk, IsSome, OnOk};
-ghost use Rattle.pp_machine.specs.Headline.{HoldsOnEachChannel};
-ghost use Rattle.pp_machine.specs.MachineStep.{step_event};
-ghost use Rattle.pp_machine.specs.Profile.{processor_in_turn};
-ghost use Rattle.pp_machine.specs.Run.{barrel, run};
+ghost use Rattle.std.specs.Prelude.{◌≡◌, IfErr, IfOk};
+ghost use Rattle.pp_machine.specs.Run.{IsCutAtEvent, IsRunOf, barrel};
 ghost use Rattle.pp_run.specs.RunSteps.{run_steps};
 ghost use Rattle.pp_state.specs.HeldSteps.{each_held_steps};
 
@@ -18,16 +15,10 @@ pub fn run_counting_held<A: Allocator>(
     machine: &mut Machine<A>,
     turns: u32,
 ) -> Result<[u32; PROCESSORS], Cut>
-    ensures ran { OnOk result (machine.new ≡ run (barrel machine.old.profile turns) machine.old) }
+    ensures run { IsRunOf turns result machine.old machine.new }
     ensures held { IfOk result (λ held.
         held ≡ each_held_steps (run_steps (barrel machine.old.profile turns) machine.old)) }
-    ensures cut { IfErr result (λ c.
-        machine.new ≡ run (barrel machine.old.profile c.done) machine.old) }
-    ensures within { IfErr result (λ c. c.done < turns) }
-    // A run is cut only at a step that makes an event.
-    ensures cut_at_event { IfErr result (λ c.
-        IsSome (step_event (processor_in_turn machine.old.profile c.done) machine.new)) }
-    ensures headline { HoldsOnEachChannel machine.new }
+    ensures cut_at_event { IfErr result (λ c. IsCutAtEvent turns machine.old c.done) }
 {
     let counts = run_counting_steps(machine, turns)?;
     Ok(counts.map(|own| own.last_held))

@@ -48,8 +48,12 @@ loop-turn-preserved g c =
       headline = c.step.ensures.headline;
     }
 
-pub returns-in_default-see-clause-cut : goal.returns-in_default-see-clause-cut
-returns-in_default-see-clause-cut g c = rw c.from-in_default-see.ensures (ran g (goal.at.returns-in_default-see-clause-cut g c).In-Ok)
+pub returns-in_default-see-clause-run : goal.returns-in_default-see-clause-run
+returns-in_default-see-clause-run g c = record {
+  ran = tt;
+  cut = rw c.from-in_default-see.ensures (ran g (goal.at.returns-in_default-see-clause-run g c).In-Ok);
+  headline = c.step.ensures.headline;
+}
 
 pub returns-in_default-see-clause-cut_at : goal.returns-in_default-see-clause-cut_at
 returns-in_default-see-clause-cut_at g c = inr (c.loop-turn.turn, ap (λ (t : ℕ). t + 1) c.from-in_default-see.ensures, c.loop-turn-test.true, kept g c)

@@ -15,9 +15,9 @@ returns g c = λ profile bytes meant same.
       deck = _;
       meant = meant;
       is = record {
-        text_is = ap (printed named) c.in_ok-run_barrel.ensures.ok;
-        headline = subst HoldsOnEachChannel c.in_ok-run_barrel.ensures.ok c.run_barrel.ensures.headline;
-        fits = subst (FitsItsText named) c.in_ok-run_barrel.ensures.ok c.write_text.ensures.fits;
+        text_is = ap (printed named) c.in_ok-run_barrel.ensures.run.ran;
+        headline = subst HoldsOnEachChannel c.in_ok-run_barrel.ensures.run.ran c.run_barrel.ensures.run.headline;
+        fits = subst (FitsItsText named) c.in_ok-run_barrel.ensures.run.ran c.write_text.ensures.fits;
       };
     })
     c.write_text.ensures.written)

@@ -16,7 +16,7 @@ returns g c = λ profile bytes meant same.
     let told =
     ap (λ (flags : List Bool). drawing c.args.window flags after c.as_slice.result.now) c.in_use-shown.ensures
     ∙ ap (λ (steps : List SeenStep). drawing c.args.window shown after steps) c.as_slice.ensures.value
-    ∙ ap (λ (m : MachineState). drawing c.args.window shown m c.in_ok-steps.steps.items) c.in_ok-steps.ensures.ran
+    ∙ ap (λ (m : MachineState). drawing c.args.window shown m c.in_ok-steps.steps.items) c.in_ok-steps.ensures.run.ran
     ∙ ap (λ (steps : List SeenStep). drawing c.args.window shown (ran_to before) steps) c.in_ok-steps.ensures.seen in
     rw c.answer_to.ensures (answers_after profile c.args.window.to (λ turns. drawing_of_run c.args.window) bytes _ _ after c.write_drawing.result _ _
-    meant c.in_ok-steps.ensures.ran c.run_seeing_steps.ensures.headline told c.write_drawing.ensures)
+    meant c.in_ok-steps.ensures.run.ran c.run_seeing_steps.ensures.run.headline told c.write_drawing.ensures)

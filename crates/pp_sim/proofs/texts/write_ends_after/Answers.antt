@@ -25,7 +25,7 @@ returns g c = λ profile bytes meant same.
         ends = c.in_ok-ending.ensures;
         looped = c.in_ok-loops.ensures;
         text_is = ap (λ (flags : List Bool). ends_text flags ending turns c.run_barrel.new.self loops) c.in_use-shown.ensures
-            ∙ ap (λ (m : MachineState). ends_text shown ending turns m loops) c.in_ok-run_barrel.ensures.ok
+            ∙ ap (λ (m : MachineState). ends_text shown ending turns m loops) c.in_ok-run_barrel.ensures.run.ran
             ∙ ap (λ (t : ℕ). ends_text shown ending turns (run (barrel load.profile t) load) loops) c.turn.ensures;
       };
     })

@@ -9,6 +9,6 @@ pub returns : goal.returns
 returns g c = λ profile bytes meant same.
     let n = c.args.processor in
     let bounds = c.args.bounds in
-    let told = ap (memory_text bounds) c.pp.ensures ∙ ap (λ (m : MachineState). memory_text bounds (processor_of n m)) c.in_ok-run_barrel.ensures.ok in
+    let told = ap (memory_text bounds) c.pp.ensures ∙ ap (λ (m : MachineState). memory_text bounds (processor_of n m)) c.in_ok-run_barrel.ensures.run.ran in
     rw c.answer_to.ensures (answers_after profile c.args.turns (memory_after n bounds) bytes _ _ _ c.write_memory.result _ _
-    meant c.in_ok-run_barrel.ensures.ok c.run_barrel.ensures.headline told c.write_memory.ensures)
+    meant c.in_ok-run_barrel.ensures.run.ran c.run_barrel.ensures.run.headline told c.write_memory.ensures)

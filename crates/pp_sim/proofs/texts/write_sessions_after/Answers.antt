@@ -15,7 +15,7 @@ returns g c = λ profile bytes meant same.
     let after = c.run_counting_steps.new.machine in
     let told =
     ap (λ (flags : List Bool). sessions_text words flags after c.in_ok-counts.counts) c.in_use-shown.ensures
-    ∙ ap (λ (m : MachineState). sessions_text words shown m c.in_ok-counts.counts) c.in_ok-counts.ensures.ran
+    ∙ ap (λ (m : MachineState). sessions_text words shown m c.in_ok-counts.counts) c.in_ok-counts.ensures.run.ran
     ∙ ap (λ (counts : List StepCounts). sessions_text words shown (run (barrel before.profile c.args.turns) before) counts) c.in_ok-counts.ensures.counts in
     rw c.answer_to.ensures (answers_after profile c.args.turns (sessions_after words) bytes _ _ after c.write_sessions.result _ _
-    meant c.in_ok-counts.ensures.ran c.run_counting_steps.ensures.headline told c.write_sessions.ensures)
+    meant c.in_ok-counts.ensures.run.ran c.run_counting_steps.ensures.run.headline told c.write_sessions.ensures)

@@ -21,7 +21,7 @@ returns g c =
     let ran_on : MachineState → MachineState = λ (m : MachineState). run (barrel m.profile turns) m in
     let same : c.in_ok-after.after.machine ≡ before =
     ap (λ (deck : LoadedDeck). deck.machine) (one_deck (deck_meaning c.args.deck.now.profile c.args.deck.now.bytes.now) _ _ c.in_ok-after.ensures.ok c.requires) in
-    let ran : c.run_counting_held.new.machine ≡ ran_on before = c.in_ok-held.ensures.ran ∙ ap ran_on same in
+    let ran : c.run_counting_held.new.machine ≡ ran_on before = c.in_ok-held.ensures.run.ran ∙ ap ran_on same in
     let counted : c.in_ok-held.held ≡ each_held_steps (run_steps (barrel before.profile turns) before) =
     c.in_ok-held.ensures.held ∙ ap (λ (m : MachineState). each_held_steps (run_steps (barrel m.profile turns) m)) same in
     let told =
@@ -29,7 +29,7 @@ returns g c =
     ∙ ap (λ (m : MachineState). state_text shown before m c.in_ok-held.held) ran
     ∙ ap (λ (held : List ℕ). state_text shown before (ran_on before) held) counted in
     rw c.answer_to.ensures (answers_after c.args.deck.now.profile turns state_after c.args.deck.now.bytes.now _ _ c.run_counting_held.new.machine c.write_state.result _ _
-    c.requires ran c.run_counting_held.ensures.headline told c.write_state.ensures)
+    c.requires ran c.run_counting_held.ensures.run.headline told c.write_state.ensures)
 
 pub returns-in_err-after : goal.returns-in_err-after
 returns-in_err-after g c =

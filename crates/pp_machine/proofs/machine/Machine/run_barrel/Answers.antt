@@ -20,37 +20,41 @@ run_passing-requires-clause-round g c =
 whole_and_rest : (p : Profile) (round turns : ℕ) → round ≡ processors_in p → turns / round * processors_in p + turns % round ≡ turns
 whole_and_rest p round turns is = subst (λ k. turns / k * processors_in p + turns % k ≡ turns) (sym is) (rounds_and_rest p turns)
 
-pub returns-in-Ok-clause-ok : goal.returns-in-Ok-clause-ok
-returns-in-Ok-clause-ok g c =
+pub returns-in-Ok-clause-run : goal.returns-in-Ok-clause-run
+returns-in-Ok-clause-run g c =
     let m = c.args.self.now in
     let whole = c.args.turns / c.round-round.result in
     let rest = c.args.turns % c.round-round.result in
     let one : 1 * rest ≡ rest = omega arith in
     let all : whole * processors_in m.profile + rest ≡ c.args.turns = whole_and_rest m.profile c.round-round.result c.args.turns c.round-round.ensures in
-    turns_after whole rest (whole * processors_in m.profile) m c.run_rounds.new.self c.run_passing.new.self c.in_default.ensures.ok refl (c.in-Ok.ensures.ok ∙ ap (λ k. run (barrel c.run_rounds.new.self.profile k) c.run_rounds.new.self) one) ∙ ap (λ k. run (barrel m.profile k) m) all
+    record {
+      ran = turns_after whole rest (whole * processors_in m.profile) m c.run_rounds.new.self c.run_passing.new.self c.in_default.ensures.ok refl (c.in-Ok.ensures.ok ∙ ap (λ k. run (barrel c.run_rounds.new.self.profile k) c.run_rounds.new.self) one) ∙ ap (λ k. run (barrel m.profile k) m) all;
+      cut = tt;
+      headline = c.run_passing.ensures.headline;
+    }
 
-pub returns-in-Err-run_passing-clause-cut : goal.returns-in-Err-run_passing-clause-cut
-returns-in-Err-run_passing-clause-cut g c =
+pub returns-in-Err-run_passing-clause-run : goal.returns-in-Err-run_passing-clause-run
+returns-in-Err-run_passing-clause-run g c =
     let m = c.args.self.now in
-    turns_after (c.args.turns / c.round-round.result) c.in-Err-run_passing.before (c.from.result * c.from-in-Err-run_passing.result) m c.run_rounds.new.self c.run_passing.new.self c.in_default.ensures.ok (counted_rounds m.profile c.from.result c.from-in-Err-run_passing.result (c.args.turns / c.round-round.result) c.round-round.result c.from.ensures c.from-in-Err-run_passing.ensures c.round-round.ensures) c.in-Err-run_passing.ensures.cut.ran
+    record {
+      ran = tt;
+      cut = turns_after (c.args.turns / c.round-round.result) c.in-Err-run_passing.before (c.from.result * c.from-in-Err-run_passing.result) m c.run_rounds.new.self c.run_passing.new.self c.in_default.ensures.ok (counted_rounds m.profile c.from.result c.from-in-Err-run_passing.result (c.args.turns / c.round-round.result) c.round-round.result c.from.ensures c.from-in-Err-run_passing.ensures c.round-round.ensures) c.in-Err-run_passing.ensures.cut.ran;
+      headline = c.run_passing.ensures.headline;
+    }
 
 pub returns-in-Err-run_passing-clause-cut_at_event : goal.returns-in-Err-run_passing-clause-cut_at_event
 returns-in-Err-run_passing-clause-cut_at_event g c =
     let m = c.args.self.now in
-    event_after (c.args.turns / c.round-round.result) c.in-Err-run_passing.before (c.from.result * c.from-in-Err-run_passing.result) m c.run_rounds.new.self c.run_passing.new.self c.in_default.ensures.ok (counted_rounds m.profile c.from.result c.from-in-Err-run_passing.result (c.args.turns / c.round-round.result) c.round-round.result c.from.ensures c.from-in-Err-run_passing.ensures c.round-round.ensures) c.in-Err-run_passing.ensures.cut.at_event
+    let counted = counted_rounds m.profile c.from.result c.from-in-Err-run_passing.result (c.args.turns / c.round-round.result) c.round-round.result c.from.ensures c.from-in-Err-run_passing.ensures c.round-round.ensures in (
+      omega (arith, c.in-Err-run_passing.ensures.cut.at_event.0, counted, whole_and_rest m.profile c.round-round.result c.args.turns c.round-round.ensures),
+      event_after (c.args.turns / c.round-round.result) c.in-Err-run_passing.before (c.from.result * c.from-in-Err-run_passing.result) m c.run_rounds.new.self c.in_default.ensures.ok counted c.in-Err-run_passing.ensures.cut.at_event.1,
+    )
 
-pub returns-in-Err-clause-cut : goal.returns-in-Err-clause-cut
-returns-in-Err-clause-cut g c = c.in-Err.ensures.cut.ran
-
-pub returns-in-Err-clause-within : goal.returns-in-Err-clause-within
-returns-in-Err-clause-within g c =
-    omega (arith, c.in-Err.ensures.cut.within, whole_and_rest c.args.self.now.profile c.round-round.result c.args.turns c.round-round.ensures)
+pub returns-in-Err-clause-run : goal.returns-in-Err-clause-run
+returns-in-Err-clause-run g c = record { ran = tt; cut = c.in-Err.ensures.cut.ran; headline = c.run_rounds.ensures.headline }
 
 pub returns-in-Err-clause-cut_at_event : goal.returns-in-Err-clause-cut_at_event
-returns-in-Err-clause-cut_at_event g c = c.in-Err.ensures.cut.at_event
-
-pub returns-in-Err-run_passing-clause-within : goal.returns-in-Err-run_passing-clause-within
-returns-in-Err-run_passing-clause-within g c =
-    let p = c.args.self.now.profile in
-    let counted = counted_rounds p c.from.result c.from-in-Err-run_passing.result (c.args.turns / c.round-round.result) c.round-round.result c.from.ensures c.from-in-Err-run_passing.ensures c.round-round.ensures in
-    omega (arith, c.in-Err-run_passing.ensures.cut.within, counted, whole_and_rest p c.round-round.result c.args.turns c.round-round.ensures)
+returns-in-Err-clause-cut_at_event g c = (
+  omega (arith, c.in-Err.ensures.cut.at_event.0, whole_and_rest c.args.self.now.profile c.round-round.result c.args.turns c.round-round.ensures),
+  c.in-Err.ensures.cut.at_event.1,
+)

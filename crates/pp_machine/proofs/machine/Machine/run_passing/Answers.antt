@@ -25,8 +25,10 @@ returns-in-Err-clause-cut g c =
     let so_far : c.from.result * c.from-in-Err.result ≡ done * c.args.turns = ap (λ k. k * c.from-in-Err.result) c.from.ensures ∙ ap (λ k. done * k) c.from-in-Err.ensures in
     record {
       ran = turns_after done c.in-Err.before (c.from.result * c.from-in-Err.result) m c.loop-left.self c.run_round.new.self ran (so_far ∙ whole) c.in-Err.ensures.cut.ran;
-      within = rw so_far (turns_left done c.args.rounds c.args.turns c.in-Err.before (omega arith) c.in-Err.ensures.cut.within);
-      at_event = event_after done c.in-Err.before (c.from.result * c.from-in-Err.result) m c.loop-left.self c.run_round.new.self ran (so_far ∙ whole) c.in-Err.ensures.cut.at_event;
+      at_event = (
+        rw so_far (turns_left done c.args.rounds c.args.turns c.in-Err.before (omega arith) c.in-Err.ensures.cut.at_event.0),
+        event_after done c.in-Err.before (c.from.result * c.from-in-Err.result) m c.loop-left.self ran (so_far ∙ whole) c.in-Err.ensures.cut.at_event.1,
+      );
     }
 
 pub loop-left-preserved : goal.loop-left-preserved
