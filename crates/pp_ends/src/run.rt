@@ -23,8 +23,7 @@ pub fn find_ending<A: Allocator + Copy, B: Allocator>(
 ) -> Result<Ending, Memory>
     ensures { IfOk result (λ ending. IsEnding ending turns machine.now) }
 {
-    // The call says to the proof that the machine is sound.
-    let _sound = machine.turns();
+    machine.is_sound();
     if let Some(ending) = quiet_ending(alloc, machine, turns)? {
         return Ok(ending);
     }

@@ -47,8 +47,7 @@ impl<A: Allocator> Machine<A> {
         ensures run { IsRunOf turns result self.old self.new }
         ensures cut_at_event { IfErr result (λ c. IsCutAtEvent turns self.old c.done) }
     {
-        // Reveals to the proof that the machine is sound.
-        let _sound = &self.turns;
+        self.is_sound();
         let round = self.round();
         let whole = turns / round;
         if let Err(done) = self.run_rounds(whole) {

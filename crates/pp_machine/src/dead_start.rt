@@ -35,8 +35,7 @@ impl<A: Allocator> Machine<A> {
         ensures headline { HoldsOnEachChannel self.new }
     {
         let answer = self.open_below(waiting, PROCESSORS);
-        // Reveals to the proof what holds of every machine.
-        let _turns = self.turns();
+        self.is_sound();
         answer
     }
 
@@ -50,8 +49,7 @@ impl<A: Allocator> Machine<A> {
         ensures ok { OnOk result (self.new ≡ dead_started (take count waiting.now) self.old) }
         ensures unchanged_after_memory { OnErr result (self.new ≡ self.old) }
     {
-        // Reveals to the proof what holds of every machine.
-        let _turns = self.turns();
+        self.is_sound();
         if count == 0 {
             return Ok(());
         }

@@ -23,8 +23,7 @@ impl<A: Allocator> Machine<A> {
             IsSome (step_event (slice_index turns.now c.done) self.new)) }
         ensures headline { HoldsOnEachChannel self.new }
     {
-        // Reveals to the proof that the machine is sound.
-        let _sound = &self.turns;
+        self.is_sound();
         for (i, n) in turns.iter().enumerate() {
             if self.step(*n).is_err() {
                 return Err(Cut { done: i as u64 });

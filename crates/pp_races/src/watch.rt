@@ -161,6 +161,7 @@ fn take_event<A: Allocator>(
         → AreWatched (stepped n machine.now) (made n c op.now event.now machine.now w)
         low.new looks.new findings.new.items) }
 {
+    machine.is_sound();
     let trace = machine.events();
     let entry = entry_place(n, c);
     let goes_on = goes_on_at(machine.pp(n), c, op);

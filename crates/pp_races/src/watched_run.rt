@@ -40,8 +40,7 @@ pub(crate) fn print_run<A: Allocator, W: Write>(
     ensures printed_first { IfErr result (λ verdict. PrintsFirst W.contents text.old text.new Same
         verdict (findings (barrel machine.old.profile turns) machine.old)) }
 {
-    // The call says to the proof that the machine is sound.
-    let _sound = machine.turns();
+    machine.is_sound();
     let profile = machine.profile();
     let mut verdict = Verdict::Same;
     for turn in 0..turns {

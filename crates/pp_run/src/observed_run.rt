@@ -28,8 +28,7 @@ pub fn run_observed<A: Allocator, O: Observer<A>>(
         → O.HasSeen observer.old (run_steps (barrel machine.old.profile c.done) machine.old)
         observer.new) }
 {
-    // Reveals to the proof that the machine is sound.
-    let _sound = machine.turns();
+    machine.is_sound();
     let profile = machine.profile();
     for turn in 0..turns {
         let n = in_turn(profile, u64::from(turn));

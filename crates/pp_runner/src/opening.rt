@@ -23,8 +23,7 @@ pub fn opening_line<A: Allocator + Copy>(
     requires { 1 ≤ shares }
     ensures { IfOk result (HasOpened machine.now shares shares) }
 {
-    // Reveals to the proof what holds of every machine.
-    let _turns = machine.turns();
+    machine.is_sound();
     let mut line = open_lines_beside(alloc, CHANNELS as u32, shares, machine.central().words())?;
     for place in 0..CHANNELS {
         let channel = ChannelNo::at(place);

@@ -62,8 +62,7 @@ pub fn run_threads<R: Threads + Wait + Sync, G: Gate + Sync, A: Allocator + Copy
     requires { machine.now.trace ≡ [] }
     ensures { IfOk result (λ report. IsReportOf limits machine.now report) }
 {
-    // Reveals to the proof what holds of every machine.
-    let _turns = machine.turns();
+    machine.is_sound();
     let site = Site {
         alloc,
         size: machine.central().size(),

@@ -201,8 +201,7 @@ fn write_raced<A: Allocator + Copy, W: Write>(
         (W.contents writer.old) (W.contents writer.new) }
 {
     let events = count_events(alloc, deck, turns)?;
-    // The call says to the proof that the machine is a whole one.
-    let _whole = loaded.machine.turns();
+    loaded.machine.is_sound();
     answer_to_report(write_races(alloc, writer, &mut loaded.machine, turns, &events))
 }
 

@@ -20,7 +20,7 @@ overflow_mul-result-2 g c =
 
 pub returns-in_default-2 : goal.returns-in_default-2
 returns-in_default-2 g c =
-    let sound = c.turns-sound.ensures.sound in
+    let sound = c.is_sound.ensures in
     record {
       moves = c.in_ok-ending.ensures.moves (subst (λ o. IsNone o) (sym c.in_default.is) refl);
       goes_on = goes_on_without_period c.args.machine.now (record { channels = sound.channels; headline = sound.headline })
@@ -30,7 +30,7 @@ returns-in_default-2 g c =
 
 pub returns-in_default-3 : goal.returns-in_default-3
 returns-in_default-3 g c =
-    let sound = c.turns-sound.ensures.sound in
+    let sound = c.is_sound.ensures in
     record {
       moves = c.in_ok-ending.ensures.moves (subst (λ o. IsNone o) (sym c.in_default.is) refl);
       goes_on = goes_on_without_start c.args.machine.now (record { channels = sound.channels; headline = sound.headline })
@@ -41,7 +41,7 @@ returns-in_default-3 g c =
 
 pub returns : goal.returns
 returns g c =
-    let sound = c.turns-sound.ensures.sound in (
+    let sound = c.is_sound.ensures in (
       c.in_ok-ending.ensures.moves (subst (λ o. IsNone o) (sym c.in_default.is) refl),
       repeats_first c.args.machine.now (record { channels = sound.channels; headline = sound.headline })
           c.args.turns (c.args.turns / c.round_of-round.result) c.in-Some-2.period c.in-Some-3.start c.round_of-round.result

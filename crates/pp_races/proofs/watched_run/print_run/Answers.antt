@@ -20,7 +20,7 @@ use Rattle.pp_races.proofs.watched_run.print_run.Goals as goal
 
 pub loop-turn-init : goal.loop-turn-init
 loop-turn-init g c = record {
-  run = run_begins c.args.machine.now.profile c.args.turns c.args.machine.now c.args.tables.now c.turns-sound.ensures.sound.channels c.requires;
+  run = run_begins c.args.machine.now.profile c.args.turns c.args.machine.now c.args.tables.now c.is_sound.ensures.channels c.requires;
   printed = findings_none _ _ _;
 }
 
@@ -55,7 +55,7 @@ loop-turn-preserved g c =
       found = c.clear.new.self;
     })
     c.take_step.new.findings.items
-    c.turns-sound.ensures.sound.channels c.loop-turn-test.true is names (c.wants-need.ensures.need ∙ ap need c.pp.ensures) c.in-Ok-step.ensures.step.ok
+    c.is_sound.ensures.channels c.loop-turn-test.true is names (c.wants-need.ensures.need ∙ ap need c.pp.ensures) c.in-Ok-step.ensures.step.ok
     c.take_step.ensures.sound c.in-Ok.ensures.index
     (λ w are. rw (low_new, looks_new) (taken w (subst (λ (low : List Low). AreWatched now w low c.deref_mut-in-loop-turn.result.now tables.found.items) (sym low_is) (subst (λ (looks : List Looks). AreWatched now w tables.low.items looks tables.found.items) (sym looks_is) are))))
     (λ m w are. rw uses_new (used m w (subst (λ (uses : List WordUse). AreUses w uses) (sym uses_is) are)))
@@ -80,7 +80,7 @@ print_shared-requires g c =
     let m = c.args.machine.now in
     let words : length c.deref-4.result.now ≡ length c.loop-turn.machine.central = ap (λ (uses : List _). length uses) c.deref-4.ensures.value ∙ c.loop-turn.invariant.run.kept.words in
     let ran : length c.loop-turn.machine.central ≡ length m.central = ap (λ (x : MachineState). length x.central) c.loop-turn.invariant.run.ran ∙ run_central (barrel m.profile c.loop-turn.turn) m in
-    omega (arith, words, ran, c.turns-sound.ensures.sound.central.size.most)
+    omega (arith, words, ran, c.is_sound.ensures.central.size.most)
 
 pub returns-clause-printed : goal.returns-clause-printed
 returns-clause-printed g c =
@@ -95,5 +95,5 @@ returns-clause-printed g c =
 
 pub returns-clause-same : goal.returns-clause-same
 returns-clause-same g c =
-    run_tells c.args.machine.now.profile c.args.turns c.loop-turn.turn c.args.machine.now c.loop-turn.machine c.loop-turn.tables c.turns-sound.ensures.sound.processors c.turns-sound.ensures.sound.channels (omega arith) c.loop-turn.invariant.run
+    run_tells c.args.machine.now.profile c.args.turns c.loop-turn.turn c.args.machine.now c.loop-turn.machine c.loop-turn.tables c.is_sound.ensures.processors c.is_sound.ensures.channels (omega arith) c.loop-turn.invariant.run
     c.in-Ok-find_unsettled.ensures.turns

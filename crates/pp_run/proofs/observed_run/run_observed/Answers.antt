@@ -32,7 +32,7 @@ pub loop-turn-init : goal.loop-turn-init
 loop-turn-init g c = record {
   ran = refl;
   seen = c.requires;
-  headline = c.turns-sound.ensures.sound.headline;
+  headline = c.is_sound.ensures.headline;
 }
 
 pub loop-turn-preserved : goal.loop-turn-preserved

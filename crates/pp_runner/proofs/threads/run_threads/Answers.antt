@@ -34,7 +34,7 @@ close_with-requires g c =
     let crew = c.in_ok-crew.crew.items in
     let ended = c.in_ok-crew.ensures in
     let few = most_processors c.args.machine.now.profile in
-    let each : length loads ≡ vec_len c.in_ok-first.lines = length-take-le (vec_len c.in_ok-first.lines) c.args.machine.now.processors (omega (arith, c.turns-turns.ensures.sound.processors, few, many)) in
+    let each : length loads ≡ vec_len c.in_ok-first.lines = length-take-le (vec_len c.in_ok-first.lines) c.args.machine.now.processors (omega (arith, c.is_sound.ensures.processors, few, many)) in
     let shares = ended_shares c.size.result steps (2 * steps + 1) c.of-family.result.value loads crew first ended in (
       -- what lines leave together takes as much memory as a report
       c.requires-raw.1.1.1.1.1.1.1.1.0,
@@ -63,7 +63,7 @@ returns g c =
     let ended = c.in_ok-crew.ensures in
     let closed = c.in_ok-logs.ensures.channels in
     let few = most_processors p in
-    let each : length loads ≡ vec_len c.in_ok-first.lines = length-take-le (vec_len c.in_ok-first.lines) processors (omega (arith, c.turns-turns.ensures.sound.processors, few, many)) in
+    let each : length loads ≡ vec_len c.in_ok-first.lines = length-take-le (vec_len c.in_ok-first.lines) processors (omega (arith, c.is_sound.ensures.processors, few, many)) in
     let shares = ended_shares size steps (2 * steps + 1) family loads crew first ended in
     let whole = joined_whole first lines in
     let known : IsRecordedBy (all_joined first lines).log.entries (all_joined first lines).view.seen channels = closed.known.all_known (omega (arith, shares, whole, each, many, c.in_ok-first.ensures.first.shares, c.in_ok-first.ensures.first.whole)) in
@@ -102,7 +102,7 @@ returns g c =
 
 pub run_first-requires-after_bounds : goal.run_first-requires-after_bounds
 run_first-requires-after_bounds g c κs within = record {
-  each = c.turns-turns.ensures.sound.processors;
+  each = c.is_sound.ensures.processors;
   count = let most = most_processors c.args.machine.now.profile in omega (arith, most, c.in_ok-first.ensures.each_processor, c.in_ok-first.lines.ok.0);
   some = let some = some_processors c.args.machine.now.profile in omega (arith, some, c.in_ok-first.ensures.each_processor, c.in_ok-first.lines.ok.0);
   central = ap (λ (l : LineState). length l.view.central) c.of-family.ensures ∙ (ap length c.in_ok-first.ensures.first.central ∙ sym (c.size.ensures.value ∙ ap length c.central.ensures));

@@ -9,6 +9,6 @@ returns g c =
     (λ some. record {
       deck = _;
       meant = c.requires;
-      is = record { text_is = refl; machine = c.turns-whole.ensures.sound; same = c.write_races.ensures.same some };
+      is = record { text_is = refl; machine = c.is_sound.ensures; same = c.write_races.ensures.same some };
     })
     c.write_races.ensures.written)

@@ -8,7 +8,7 @@ use Rattle.pp_machine.proofs.machine.Machine.+open_below.Goals as goal
 pub returns-then-count-eq0-clause-ok : goal.returns-then-count-eq0-clause-ok
 returns-then-count-eq0-clause-ok g t c =
     let none : c.args.count ≡ 0 = omega (arith, c.if-count-eq0.true) in
-    sym (ap (λ k. dead_started (take k c.args.waiting.now) c.args.self.now) none ∙ none_started c.args.self.now c.requires.before c.turns-turns.ensures.sound)
+    sym (ap (λ k. dead_started (take k c.args.waiting.now) c.args.self.now) none ∙ none_started c.args.self.now c.requires.before c.is_sound.ensures)
 
 pub let_wait-requires-clause-unused : goal.let_wait-requires-clause-unused
 let_wait-requires-clause-unused g t c =
