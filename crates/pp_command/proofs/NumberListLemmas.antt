@@ -1,11 +1,9 @@
 -- Lists of numbers, number by number.
-use Rattle.std.proofs.Common.{◌≡◌, ℕ, ◌+◌, ◌==◌, ◌<◌, Bool, true, false, List, [], ◌∷◌, length, take, drop, replicate, Some, None, refl, sym, ap, ◌∙◌, subst, arith, inl, inr}
+use Rattle.std.proofs.Common.{◌≡◌, ℕ, ◌+◌, ◌==◌, ◌<◌, Bool, true, false, List, [], ◌∷◌, length, take, drop, Some, None, refl, sym, ap, ◌∙◌, subst, arith, inl, inr}
 use Rattle.std.specs.Prelude.{◌&&◌, ◌||◌, All, IsSome, IsTrue, position, slice_index_or, slice_set}
 use Rattle.std.proofs.lemmas.Bool.{cases_eq, eq-eqb, false≢true, ne_eqb}
-use Rattle.std.proofs.lemmas.List.{get_or_past, get_or-replicate, get_or-set_other, get_or-set_same, length-replicate, length-set}
+use Rattle.std.proofs.lemmas.List.{get_or-set_other, get_or-set_same, length-set}
 use Rattle.std.proofs.lemmas.List.Elements.{All-cons, All-nil, All-tail}
-use mathlib.Core.Logic.{dite}
-use native.Mathlib.Decide.{dec_lt}
 use Rattle.pp_channel.specs.ChannelNo.{channel_count, channel_index, names_channel, channel_places}
 use Rattle.pp_word.proofs.Pieces.{split_first, split_last}
 use Rattle.pp_machine.specs.PpNo.{is_named, names_processor, processor_count, processor_index, processor_places}
@@ -46,10 +44,6 @@ or_false : (b : Bool) → (b || false) ≡ b
 or_false true = refl
 or_false false = refl
 
-and_false : (b : Bool) → (b && false) ≡ false
-and_false true = refl
-and_false false = refl
-
 among_more : (names : ℕ → Bool) (n m : ℕ) (number : List ℕ) (more : List (List ℕ)) → numbered names number ≡ Some m → is_among names n (number ∷ more) ≡ ((m == n) || is_among names n more)
 among_more names n m number more is = rw is refl
 
@@ -79,12 +73,6 @@ all_flagged names places is_flagged text flags has = record {
 
 -- ---- flags in the order of places
 
--- where none is set, none is found
-none_set : (places place : ℕ) → slice_index_or (replicate places false) place false ≡ false
-none_set places place =
-    dite (dec_lt place places) (λ below. get_or-replicate places place false false below)
-    (λ no. let long = length-replicate places false in get_or_past (replicate places false) place false (omega (arith, long, no)))
-
 -- one more is set
 one_set : (index : ℕ → ℕ) (flags : List Bool) (m n : ℕ) → index m < length flags → (index n ≡ index m → n ≡ m) → slice_index_or (slice_set flags (index m) true) (index n) false ≡ (slice_index_or flags (index n) false || (m == n))
 one_set index flags m n below own = elim (cases_eq n m) [
@@ -105,9 +93,6 @@ one_channel flags d all names c =
     one_set channel_index flags d c (omega (arith, all, below)) (channel_places.one_place d c names)
 
 -- ---- processors
-
-pub no_processor : (n : ℕ) → is_named (replicate processor_count false) n ≡ false
-no_processor n = ap (λ (b : Bool). names_processor n && b) (none_set processor_count (processor_index n)) ∙ and_false (names_processor n)
 
 -- a number that names none is not the one that names one
 and_own : (a b c : Bool) → (c ≡ true → a ≡ true) → (a && (b || c)) ≡ ((a && b) || c)
