@@ -18,7 +18,7 @@ use std::process::ExitCode;
 use std::sync::Wait;
 use std::thread::Threads;
 
-/// The pages whose commands are run. Links at the top of the repository lead to the first three.
+/// The pages whose commands are run. Links at the top of the repository lead to the first four.
 const PAGES: [&str; 23] = [
     "README.md",
     "TUTORIAL.md",

@@ -73,7 +73,7 @@ pub(crate) const ABOUT: &str =
 pub(crate) const MANUAL: &str = handoff_example!(
     "\
 A deck has these lines. All its numbers are octal:
-  CENTRAL 10000     the size of central memory; only as the first line
+  CENTRAL 10000     the size of central memory; before all other lines but comments
   PP 0              what follows is for processor 0
   0100 1405 0300    stores these words from address 0100 on
   START 0100        the processor starts at 0100, with A = 0; START 0100 7 starts it with A = 7
@@ -136,8 +136,9 @@ Reads the deck from FILE or standard input. Prints to standard output a line for
 in order; the P, the A and the state of each processor that the deck names; and the state of each
 channel that has a history. What goes wrong is one line on standard error.
 
-FAULT 1 is an exchange jump, FAULT 2 a request to the central processor, FAULT 3 a channel that the
-machine does not have, and FAULT 4 an address past the end of central memory.
+FAULT 1 is an exchange jump and FAULT 2 a read of the central program address (there is no central
+processor); FAULT 3 is a channel that the machine does not have, and FAULT 4 an address past the end
+of central memory.
 
 Where the deck has a line DEAD, the processors without a section wait for their programs, each on
 the channel of its own number, as at a dead start.",
@@ -158,8 +159,9 @@ the greatest patience; beside other programs it takes many times as long.
 It also ends where it is refused memory for one more answer (MEMORY), and where a channel has had
 2^50 - 1 events (WORN).
 
-FAULT 1 is an exchange jump, FAULT 2 a request to the central processor, FAULT 3 a channel that the
-machine does not have, and FAULT 4 an address past the end of central memory.
+FAULT 1 is an exchange jump and FAULT 2 a read of the central program address (there is no central
+processor); FAULT 3 is a channel that the machine does not have, and FAULT 4 an address past the end
+of central memory.
 
 Reads the deck from FILE or standard input. Prints to standard output, channel by channel, a line
 for each event in order; the P, the A and the end of each processor that the deck names; and the
@@ -220,8 +222,9 @@ line, at the first of them: HELD, the channel with its flags, and how many there
 --ch, --from or --to only the steps chosen are printed, and counted. What goes wrong is one line on
 standard error.
 
-FAULT 1 is an exchange jump, FAULT 2 a request to the central processor, FAULT 3 a channel that the
-machine does not have, and FAULT 4 an address past the end of central memory.",
+FAULT 1 is an exchange jump and FAULT 2 a read of the central program address (there is no central
+processor); FAULT 3 is a channel that the machine does not have, and FAULT 4 an address past the end
+of central memory.",
         example: four_example!("steps --turns 40 --pp 0"),
         options: &[
             TURNS_OPTION,
@@ -248,8 +251,9 @@ its last steps in a row were; then the words of processors and of central memory
 those loaded, as lines of a deck; and the state of each channel that has a history. What goes wrong
 is one line on standard error.
 
-FAULT 1 is an exchange jump, FAULT 2 a request to the central processor, FAULT 3 a channel that the
-machine does not have, and FAULT 4 an address past the end of central memory.",
+FAULT 1 is an exchange jump and FAULT 2 a read of the central program address (there is no central
+processor); FAULT 3 is a channel that the machine does not have, and FAULT 4 an address past the end
+of central memory.",
         example: four_example!("state --turns 40"),
         options: RUN_OPTIONS,
     },
@@ -349,17 +353,17 @@ Runs a deck in the barrel, and says whether this one run tells the result of eve
 whether the processors, in whatever order they take their steps, end the same.
 
 Reads the deck from FILE or standard input. Prints to standard output a line for each step that
-races with an event of its channel, since it would have done something else BEFORE that event, which
-it came after, or AFTER it, which it came before: the turn, the processor, P and the instruction,
-the channel, and the event with its turn and its processor. Then a line for each processor that is
-still GOING ON, or that is HELD and would not have been BEFORE an event; and one for each central
-word (CM) that was WRITTEN BY one processor and USED BY another. The last line is SAME IN EVERY
-ORDER if it is the only one, NO RACE SO FAR if all others are of processors going on, and else MAY
-DIFFER. What goes wrong is one line on standard error.
+may race with an event of its channel: it came after the event and would have done something else
+BEFORE it, or came before and would have done something else AFTER it. The line has the turn, the
+processor, P and the instruction, the channel, and the event with its turn and its processor. Then
+a line for each processor that is still GOING ON, or that is HELD and would not have been BEFORE an
+event; and one for each central word (CM) that was WRITTEN BY one processor and USED BY another. The
+last line is SAME IN EVERY ORDER if it is the only one, NO RACE SO FAR if all others are of
+processors going on, and else MAY DIFFER. What goes wrong is one line on standard error.
 
 MAY DIFFER may stand where nothing differs: each processor is looked at with one channel at a time,
-so an order that another channel or a word of memory brings about is not seen, and each look counts
-of a loop that polls a channel. SAME IN EVERY ORDER never stands where something differs.",
+so an order that another channel or a word of memory brings about is not seen, and in a loop that
+polls a channel each look counts. SAME IN EVERY ORDER never stands where something differs.",
         example: handoff_example!("races --turns 40"),
         options: RUN_OPTIONS,
     },

@@ -1,4 +1,4 @@
-//! Rounds of the barrel in which each step is quiet: it makes no event and writes no central word.
+//! Rounds of the barrel in which each step is quiet: it makes no event and uses no central word.
 
 ghost use Rattle.std.specs.Prelude.{◌≡◌, ◌-◌, ◌<◌, ◌≤◌, [], None, IfSome, IsNone, IsSome, IsTrue, false, length, slice_index_or, vec_len};
 ghost use Rattle.pp_channel.specs.Answer.{event_of, reply_to};

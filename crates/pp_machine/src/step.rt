@@ -82,8 +82,7 @@ impl<A: Allocator> Machine<A> {
     }
 
     /// One step of a processor in the barrel, as `step` makes it. What a step needs is asked of its
-    /// instruction alone here, and the barrel has the only call, so that it is compiled in place: a
-    /// turn then costs half as much.
+    /// instruction alone here, and the barrel has the only call, so that it is compiled in place.
     #[tactic(auto, using(crate::proofs::MachineStepLemmas::steps_at_rest))]
     pub(crate) fn step_in_barrel(&mut self, n: PpNo) -> Result<Outcome, Memory>
         requires place { processor_index n < processors_in self.old.profile }

@@ -1,4 +1,4 @@
-//! The banks in which workers share central memory.
+//! The banks of locked central memory.
 
 ghost use Rattle.std.specs.Prelude.{◌≡◌, ◌<◌, IfOk, replicate, slice_index, slice_set};
 ghost use Rattle.pp_runner.specs.Banks.{StandsAt, IsBankOf};

@@ -1,4 +1,4 @@
-//! Central memory that workers share.
+//! Central memory behind locks, which threads may share; no run uses it.
 
 ghost use Rattle.std.specs.Prelude.{◌≡◌, ◌<◌, ◌≤◌, ◌↔◌, length, IsNone, IsTrue, IfOk, IfSome};
 ghost use Rattle.pp_runner.specs.Banks.{StandsAt};

@@ -57,8 +57,8 @@ pub fn threads_text_law<A: Allocator>()
 }
 
 /// What `barrel_text` and `threads_text` write is a lawful trace, which `check_text` accepts if the
-/// channels that it takes as open are those that dead start opened: of every deck after any turns,
-/// and of every run by threads in which no channel has 10^19 events.
+/// channels that it takes as open are those that dead start opened: of every deck after fewer than
+/// 10^19 turns, and of every run by threads in which no channel has 10^19 events.
 pub fn checked_text_law<A: Allocator>()
     ensures barrel { (profile : Profile) (bytes text : List ℕ) (deck : LoadedDeck) (turns : ℕ)
         → deck_meaning profile bytes ≡ Ok deck → turns < 10 ^ 19 → IsBarrelText turns deck text

@@ -1,4 +1,4 @@
-//! Runs of decks, the texts of these runs, listings and dumps, and the program that writes them.
+//! Runs of decks, their texts and views, checks of traces, and the program that writes them.
 #![tactic(auto)]
 
 mod deck_bytes;

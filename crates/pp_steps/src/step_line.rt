@@ -61,7 +61,7 @@ pub(crate) fn print_step_line<A: Allocator, W: Write>(
 }
 
 /// Prints the line of held steps in a row of a processor, and their number:
-/// `000031 PP01 0201 7105 0300  IAM 0300,05   A=000004 HELD CH05 ACTIVE EMPTY x1` and a line feed.
+/// `000031 PP01 0201            IAM 05        A=000004 HELD CH05 ACTIVE EMPTY x1` and a line feed.
 pub(crate) fn print_held_line<A: Allocator, W: Write>(
     text: &mut TextWriter<W>,
     n: PpNo,

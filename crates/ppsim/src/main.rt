@@ -1,5 +1,5 @@
-//! Simulates the peripheral processors and data channels of a Control Data 6600: reads an octal
-//! deck from standard input, runs it, and prints the text of the run.
+//! The simulator of the peripheral processors and data channels of a Control Data 6600: does what
+//! its command line asks for, over a deck or a trace from standard input or a file.
 #![tactic(auto)]
 
 use pp_sim::run_main;
