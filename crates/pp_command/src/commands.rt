@@ -379,8 +379,8 @@ words that were lost; and a lane for each processor that the deck names or that 
 start, where it was running, held and by which channel, in a block, stopped or at fault. Turns go
 from left to right. What goes wrong is one line on standard error.
 
-A picture has at most 2000 turns. Of a longer run, give the first turn to draw and the one before
-which the picture ends: --turns 999999 --from 5000 --to 6000.",
+A picture has at most 2000 turns, none after those of --turns. Of a longer run, give the first turn
+to draw and the one before which the picture ends: --turns 999999 --from 5000 --to 6000.",
         example: handoff_example!("draw --turns 40"),
         options: &[
             TURNS_OPTION,
