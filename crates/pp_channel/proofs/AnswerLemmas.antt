@@ -84,24 +84,6 @@ goes_on (ChanOp.Put v) (Holding w) e is = absurd cc
 goes_on ChanOp.Take Inactive e is = absurd cc
 goes_on ChanOp.Take Empty e is = absurd cc
 
--- where it has none, no event of the operation may come next
-stays : (e : Event) (s : State) → event_at (operation_of e) s ≡ None → step s e ≡ None
-stays Event.Activate Inactive is = absurd cc
-stays Event.Activate Empty is = refl
-stays Event.Activate (Holding w) is = refl
-stays Event.Disconnect Inactive is = refl
-stays Event.Disconnect Empty is = absurd cc
-stays Event.Disconnect (Holding w) is = absurd cc
-stays (Event.Put v) Inactive is = refl
-stays (Event.Put v) Empty is = absurd cc
-stays (Event.Put v) (Holding w) is = refl
-stays (Event.Take v) Inactive is = refl
-stays (Event.Take v) Empty is = refl
-stays (Event.Take v) (Holding w) is = absurd cc
-stays (Event.Function v) Inactive is = absurd cc
-stays (Event.Function v) Empty is = refl
-stays (Event.Function v) (Holding w) is = refl
-
 -- an event that may come next is the table's
 taken_event : (w v : ℕ) (b : Bool) → (v == w) ≡ b → (t : State) → (if b then Some Empty else None) ≡ Some t → event_at ChanOp.Take (Holding w) ≡ Some (Event.Take v)
 taken_event w v true same t on = ap (λ x. Some (Event.Take x)) (sym (eqb-true v w same))

@@ -15,7 +15,7 @@ mod numbered;
 mod reply;
 mod seen;
 
-pub use answer::{answer_law, event_by, flags_after, reply_made, reply_shown, word_put};
+pub use answer::{answer_law, event_by, flags_after, reply_made, reply_shown};
 pub use chan_op::ChanOp;
 pub use channel::Channel;
 pub use channel_no::{CHANNELS, ChannelNo};

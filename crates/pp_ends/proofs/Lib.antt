@@ -5,4 +5,5 @@ pub mod StandLemmas
 pub mod QuietLemmas
 pub mod FoundLemmas
 pub mod OneEnding
+pub mod FinalEnding
 pub mod LoopLemmas

@@ -102,7 +102,7 @@ channels_alike n c one other l k a rest e f =
     ap (λ (hs : List (List Event)). channel_state (get_or hs (channel_index c) [])) (histories_by n other rest f) ∙ a.channels c
     ∙ ap (λ (hs : List (List Event)). channel_state (get_or hs (channel_index c) [])) (sym (histories_by n one rest e))
 
-stepped_alike : (n : ℕ) (one other : MachineState) → IsLawfulMachine one → IsLawfulMachine other
+pub stepped_alike : (n : ℕ) (one other : MachineState) → IsLawfulMachine one → IsLawfulMachine other
     → StandAlike one other → StandAlike (stepped n one) (stepped n other)
 stepped_alike n one other l k a =
     let pp = processor_of n one in

@@ -82,6 +82,26 @@ quiet_run (n ∷ ns) m q =
     subst (λ (k : MachineState). AreSameButTurns m (run ns k)) (sym step)
     (quiet_run ns later (quiet_later (counted m.turns) m q))
 
+-- a machine that is quiet stays quiet
+quiet_on : (k t : ℕ) (m : MachineState) → IsQuiet (after_turns t m) → IsQuiet (after_turns (t + k) m)
+quiet_on zero t m q =
+    let same : t ≡ t + zero = omega arith in
+    subst (λ (u : ℕ). IsQuiet (after_turns u m)) same q
+quiet_on (suc k) t m q =
+    let before = quiet_on k t m q in
+    let now : MachineState = after_turns (t + k) m in
+    let turn = processor_in_turn m.profile (t + k) in
+    let next : (t + k) + 1 ≡ t + suc k = omega arith in
+    let step : after_turns ((t + k) + 1) m ≡ record now { turns = counted now.turns } =
+    barrel_more m.profile (t + k) m ∙ waited turn now (before.waits turn) in
+    subst (λ (u : ℕ). IsQuiet (after_turns u m)) next
+    (subst IsQuiet (sym step) (quiet_later (counted now.turns) now before))
+
+pub quiet_from : (t u : ℕ) (m : MachineState) → t ≤ u → IsQuiet (after_turns t m) → IsQuiet (after_turns u m)
+quiet_from t u m low q =
+    let all : t + (u - t) ≡ u = omega (arith, low) in
+    subst (λ (i : ℕ). IsQuiet (after_turns i m)) all (quiet_on (u - t) t m q)
+
 -- over turns that wait the machine stays
 still_on : (k t : ℕ) (m : MachineState)
     → ((u : ℕ) → t ≤ u → u < t + k → WaitsAt u m)

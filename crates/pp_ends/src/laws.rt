@@ -1,7 +1,7 @@
 //! The law of endings. The function does nothing: its contract says what is proved of the
 //! definitions.
 
-ghost use Rattle.std.specs.Prelude.{◌≡◌, ℕ, ◌+◌, ◌*◌, List, length};
+ghost use Rattle.std.specs.Prelude.{◌≡◌, ◌≢◌, ℕ, ◌+◌, ◌*◌, List, length};
 ghost use Rattle.pp_channel.specs.ChannelNo.{channel_count};
 ghost use Rattle.pp_machine.specs.Headline.{HoldsOnEachChannel};
 ghost use Rattle.pp_machine.specs.MachineState.{MachineState, processor_of};
@@ -9,12 +9,14 @@ ghost use Rattle.pp_machine.specs.MachineStep.{stepped};
 ghost use Rattle.pp_machine.specs.Run.{run};
 ghost use Rattle.pp_run.specs.Determinacy.{IsQuiet, Waits};
 ghost use Rattle.pp_ends.specs.declared.ending.Ending.{Ending};
+ghost use Rattle.pp_ends.specs.declared.ending.Ending.TheVariants.{GoingOn};
 ghost use Rattle.pp_ends.specs.Endings.{AreSameButTurns, EndsQuietFrom, IsEnding, Repeats, StandAlike, after_turns};
 
 /// A step that leaves its processor as it was waits: it makes no event and writes no central word.
 /// No list of steps whatever changes anything but the turns counted of a machine that is quiet; and
 /// a run that ends quiet has left it the same from the turn on that the ending names. A run that
-/// repeats stands the same after any number of its periods. No run has two endings.
+/// repeats stands the same after any number of its periods. No run has two endings, and the ending
+/// of a run, unless it goes on, is that of every longer run.
 #[tactic(auto, using(crate::proofs::MoveLemmas::kept_waits, // a step that moves nothing
 crate::proofs::StillLemmas::quiet_run, // a quiet run
 crate::proofs::StillLemmas::same_from))]
@@ -29,4 +31,7 @@ pub fn ends_law()
         → StandAlike (after_turns t m) (after_turns (t + k * n) m) }
     ensures one { (one other : Ending) (turns : ℕ) (m : MachineState) → IsEnding one turns m
         → IsEnding other turns m → one ≡ other }
+    ensures lasts { (ending : Ending) (turns more : ℕ) (m : MachineState)
+        → length m.histories ≡ channel_count → HoldsOnEachChannel m → ending ≢ GoingOn
+        → IsEnding ending turns m → IsEnding ending (turns + more) m }
 {}

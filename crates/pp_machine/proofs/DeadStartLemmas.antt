@@ -52,15 +52,6 @@ waits_other place bs c below other =
     ap (λ b. names_processor c && b) (same_in_front place (processor_index c) bs apart))
     (λ (t : names_processor c ≡ false). rw t refl) (cases_Bool (names_processor c))
 
--- a processor that does not wait changes nothing
-pub passed_over : (place : ℕ) (bs : List Bool) (m : MachineState) → place < processor_count → get_or bs place false ≡ false → dead_started (take (place + 1) bs) m ≡ dead_started (take place bs) m
-passed_over place bs m below not_waiting =
-    let same : (c : ℕ) → waits (take (place + 1) bs) c ≡ waits (take place bs) c = λ c.
-    dite (ℕ_discrete c (processor_number place))
-    (λ (is : c ≡ processor_number place). ap (waits (take (place + 1) bs)) is ∙ (waits_next place bs below ∙ not_waiting) ∙ sym (ap (waits (take place bs)) is ∙ waits_not_yet place bs below))
-    (λ (other : c ≢ processor_number place). waits_other place bs c below other) in
-    ap (λ p. started p m) (λ i c. same c i)
-
 -- no channel was opened before the first turn
 pub not_opened : (m : MachineState) (c : ℕ) → IsBeforeFirstTurn m → HoldsOnEachChannel m → IsTrue (names_channel c) → is_opened c m ≡ false
 not_opened m c before headline named =
