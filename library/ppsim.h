@@ -59,6 +59,7 @@ ppsim_answer ppsim_barrel(ppsim_memory *, uint32_t processors, uint32_t turns, P
 ppsim_answer ppsim_list(ppsim_memory *, uint32_t processors, PPSIM_DECK_AND_ROOM);
 ppsim_answer ppsim_dump(ppsim_memory *, uint32_t processors, uint32_t turns, PPSIM_DECK_AND_ROOM);
 ppsim_answer ppsim_state(ppsim_memory *, uint32_t processors, uint32_t turns, PPSIM_DECK_AND_ROOM);
+ppsim_answer ppsim_ends(ppsim_memory *, uint32_t processors, uint32_t turns, PPSIM_DECK_AND_ROOM);
 ppsim_answer ppsim_sessions(ppsim_memory *, uint32_t processors, uint32_t turns,
                             PPSIM_DECK_AND_ROOM);
 ppsim_answer ppsim_races(ppsim_memory *, uint32_t processors, uint32_t turns, PPSIM_DECK_AND_ROOM);
@@ -66,6 +67,12 @@ ppsim_answer ppsim_races(ppsim_memory *, uint32_t processors, uint32_t turns, PP
 /* pp is a processor of the machine, or PPSIM_NAMED; from, as turns, is the first turn shown. */
 ppsim_answer ppsim_steps(ppsim_memory *, uint32_t processors, uint32_t turns, uint8_t pp,
                          uint32_t from, PPSIM_DECK_AND_ROOM);
+
+/* The words from first to last, which is at most 07777, or 0377777 in central memory. */
+ppsim_answer ppsim_memory_words(ppsim_memory *, uint32_t processors, uint32_t turns, uint8_t pp,
+                                uint32_t first, uint32_t last, PPSIM_DECK_AND_ROOM);
+ppsim_answer ppsim_central_words(ppsim_memory *, uint32_t processors, uint32_t turns,
+                                 uint32_t first, uint32_t last, PPSIM_DECK_AND_ROOM);
 
 /* The turns from one on and before another, at most PPSIM_MOST_DRAWN of them. */
 ppsim_answer ppsim_draw(ppsim_memory *, uint32_t processors, uint32_t from, uint32_t to,

@@ -19,8 +19,8 @@ import pathlib
 import threading
 from collections.abc import Iterable
 
-__all__ = ["Fault", "MemoryFault", "NumberFault", "barrel", "check", "draw", "dump", "listing",
-           "races", "sessions", "state", "steps"]
+__all__ = ["Fault", "MemoryFault", "NumberFault", "barrel", "central", "check", "draw", "dump",
+           "ends", "listing", "memory", "races", "sessions", "state", "steps"]
 
 _BAD_NUMBER, _NO_MEMORY, _TOO_LONG = 2, 4, 5
 _NAMED = 255
@@ -69,8 +69,9 @@ _buffers = _Buffers()
 _library = ctypes.CDLL(str(pathlib.Path(__file__).with_name("libppsim.so")))
 _U8, _U32, _TEXT = ctypes.c_uint8, ctypes.c_uint32, [ctypes.c_char_p, ctypes.c_size_t]
 _NUMBERS = {"barrel": [_U32, _U32], "list": [_U32], "dump": [_U32, _U32], "state": [_U32, _U32],
-            "sessions": [_U32, _U32], "races": [_U32, _U32], "steps": [_U32, _U32, _U8, _U32],
-            "draw": [_U32, _U32, _U32], "check": _TEXT}
+            "ends": [_U32, _U32], "sessions": [_U32, _U32], "races": [_U32, _U32],
+            "memory_words": [_U32, _U32, _U8, _U32, _U32], "central_words": [_U32] * 4,
+            "steps": [_U32, _U32, _U8, _U32], "draw": [_U32, _U32, _U32], "check": _TEXT}
 for _name, _types in _NUMBERS.items():
     _export = getattr(_library, f"ppsim_{_name}")
     _export.restype = _Answer
@@ -123,6 +124,23 @@ def dump(deck: str | bytes, *, turns: int, processors: int = 10) -> str:
 def state(deck: str | bytes, *, turns: int, processors: int = 10) -> str:
     """How things stand after a run, and what it has changed."""
     return _call("state", [processors, turns], deck)
+
+
+def ends(deck: str | bytes, *, turns: int, processors: int = 10) -> str:
+    """How a run ends, as far as these turns show."""
+    return _call("ends", [processors, turns], deck)
+
+
+def memory(deck: str | bytes, *, turns: int, pp: int, first: int = 0, last: int = 0o7777,
+           processors: int = 10) -> str:
+    """The words of the memory of processor `pp` after a run, from `first` to `last`."""
+    return _call("memory_words", [processors, turns, pp, first, last], deck)
+
+
+def central(deck: str | bytes, *, turns: int, first: int = 0, last: int = 0o377777,
+            processors: int = 10) -> str:
+    """The words of central memory after a run that are not 0, from `first` to `last`."""
+    return _call("central_words", [processors, turns, first, last], deck)
 
 
 def sessions(deck: str | bytes, *, turns: int, processors: int = 10) -> str:

@@ -1,10 +1,11 @@
 const $ = id => document.getElementById(id);
 const make = (tag, properties) => Object.assign(document.createElement(tag), properties);
 const bytesOf = text => new TextEncoder().encode(text);
-const WRITTEN = 0, NO_MEMORY = 4, TOO_LONG = 5; // statuses of an answer
+const WRITTEN = 0, BAD_NUMBER = 2, NO_MEMORY = 4, TOO_LONG = 5; // statuses of an answer
 const LAST_TURN = 999999, MOST_DRAWN = 2000, STEPS_SHOWN = 200, MOST_BUTTONS = 2000;
 const MOST_BYTES = 1048577, MOST_IN_ADDRESS = 32768; // the first is one more than a deck may have
 const NAMED = 255; // in place of a processor's number: those in use
+const LAST_PLACE = 0o7777, LAST_ADDRESS = 0o377777;
 
 // ---- the library
 let library, idle = null;
@@ -34,7 +35,8 @@ function call(name, numbers, input, channels, megabytes = 4) {
   if (isBack && !isCut && megabytes === 4) idle = instance; // one that has grown does not shrink
   if (isCut && megabytes < 1024) return call(name, numbers, input, channels, 4 * megabytes);
   const words = bytes.subarray(room, room + Number(view.getBigUint64(answer + 16, true)));
-  return { status, line, text: isCut ? 'out of memory' : new TextDecoder().decode(words) };
+  const said = isCut ? 'out of memory' : status === BAD_NUMBER ? 'number out of range' : null;
+  return { status, line, text: said ?? new TextDecoder().decode(words) };
 }
 
 // ---- the deck as it stands, and its views
@@ -61,6 +63,14 @@ const VIEWS = { // for each: the words of the command that prints the same, and 
   Events: ofTurn('barrel'),
   Sessions: ofTurn('sessions'),
   Races: ofTurn('races'),
+  Ends: ofTurn('ends'),
+  Memory: {
+    words: t => `memory --turns ${t} --pp ${$('pp').value}`,
+    ask: t => ask('memory_words', t, parseInt($('pp').value, 8), 0, LAST_PLACE),
+  },
+  Central: {
+    words: t => `central --turns ${t}`, ask: t => ask('central_words', t, 0, LAST_ADDRESS),
+  },
   Listing: { words: () => 'list', ask: () => ask('list') },
   Dump: ofTurn('dump'),
   Check: {
@@ -134,6 +144,7 @@ function show() {
   if (name === 'Steps' || name === 'Events') $('text').scrollTop = $('text').scrollHeight;
   if (name === 'Check') markLine('trace', isWritten ? 0 : line);
   $('checked').hidden = name !== 'Check';
+  $('whose').hidden = name !== 'Memory';
   $('at').textContent = at;
   const of20 = processors() === 20 && name !== 'Check' ? ' --processors 20' : '';
   $('words').textContent = `ppsim ${VIEWS[name].words(at)}${of20}`;
@@ -275,7 +286,9 @@ function drag(e) {
 async function begin() {
   library = await WebAssembly.compile(Uint8Array.fromBase64(MODULE));
   $('picture').attachShadow({ mode: 'open' });
-  $('example').append(...Object.keys(EXAMPLES).map(name => make('option', { textContent: name })));
+  const options = names => names.map(name => make('option', { textContent: name }));
+  $('example').append(...options(Object.keys(EXAMPLES)));
+  $('pp').append(...options([...Array(20).keys()].map(n => (n < 10 ? n : n + 6).toString(8))));
   recall();
   const clicks = { play, save: saveFile, take: takeEvents, open: () => $('file').click() };
   for (const [id, does] of Object.entries(clicks)) $(id).onclick = does;

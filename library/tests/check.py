@@ -14,6 +14,10 @@ CALLS = {
     "list": lambda deck, p: ppsim.listing(deck, processors=p),
     "dump --turns 300": lambda deck, p: ppsim.dump(deck, turns=300, processors=p),
     "state --turns 123": lambda deck, p: ppsim.state(deck, turns=123, processors=p),
+    "ends --turns 300": lambda deck, p: ppsim.ends(deck, turns=300, processors=p),
+    "memory --turns 300 --pp 1 --first 76 --last 210":
+        lambda deck, p: ppsim.memory(deck, turns=300, pp=1, first=0o76, last=0o210, processors=p),
+    "central --turns 300": lambda deck, p: ppsim.central(deck, turns=300, processors=p),
     "sessions --turns 300": lambda deck, p: ppsim.sessions(deck, turns=300, processors=p),
     "races --turns 300": lambda deck, p: ppsim.races(deck, turns=300, processors=p),
     "steps --turns 5000": lambda deck, p: ppsim.steps(deck, turns=5000, processors=p),
@@ -65,6 +69,8 @@ for path in sorted(EXAMPLES.glob("*.text")):
 raises(ppsim.NumberFault, lambda: ppsim.state("", turns=-1))
 raises(ValueError, lambda: ppsim.state("", turns=2**32 + 5))
 raises(ppsim.NumberFault, lambda: ppsim.steps("", turns=1, pp=255))
+raises(ppsim.NumberFault, lambda: ppsim.memory("", turns=1, pp=0o12))
+raises(ppsim.NumberFault, lambda: ppsim.central("", turns=1, last=0o400000))
 raises(ppsim.Fault, lambda: ppsim.listing("\u00e9"))
 print(f"module and program: {same} the same, {differ} differ")
 sys.exit(1 if differ else 0)

@@ -28,10 +28,12 @@ WebAssembly.Memory.prototype.grow = function (pages) {
 const OPTIONS = {
   barrel: ['processors', 'turns'], dump: ['processors', 'turns'], state: ['processors', 'turns'],
   sessions: ['processors', 'turns'], races: ['processors', 'turns'], list: ['processors'],
+  ends: ['processors', 'turns'], memory: ['processors', 'turns', 'pp', 'first', 'last'],
+  central: ['processors', 'turns', 'first', 'last'],
   steps: ['processors', 'turns', 'pp', 'from'], draw: ['processors', 'from', 'to', 'turns'],
   check: ['opened'],
 };
-const NAMES = Object.keys(OPTIONS);
+const NAMES = Object.keys(OPTIONS), LAST = { memory: '7777', central: '377777' };
 
 /** The call for these words, or nothing where the library has none, as for what is no number. */
 function callFor([name, ...words], input) {
@@ -46,15 +48,21 @@ function callFor([name, ...words], input) {
   given.processors ??= '10';
   given.from ??= '0';
   given.to ??= given.turns;
+  given.first ??= '0';
+  given.last ??= LAST[name] ?? '0';
   if (given.pp !== undefined && !/^[0-7]{1,2}$/.test(given.pp)) return null;
   given.pp = String(given.pp === undefined ? 255 : parseInt(given.pp, 8));
+  for (const it of ['first', 'last']) {
+    if (!/^[0-7]{1,9}$/.test(given[it])) return null;
+    given[it] = String(parseInt(given[it], 8));
+  }
   const numbers = known.map(it => given[it]);
   if (!numbers.every(it => /^\d{1,9}$/.test(it))) return null;
   if (name === 'draw') { // a window has no turns but its own
     const turns = Number(numbers.pop());
     if (turns < Number(given.to) || turns > 999999) return null;
   }
-  return () => call(name, numbers.map(Number), input);
+  return () => call(name in LAST ? `${name}_words` : name, numbers.map(Number), input);
 }
 
 let same = 0, refused = 0, differ = 0, others = 0;
@@ -156,7 +164,8 @@ function compareRandom() {
     const words = [name];
     if (known.includes('turns')) words.push('--turns', turns);
     if (known.includes('from')) words.push('--from', random(turns + 1));
-    if (known.includes('pp') && random(2)) words.push('--pp', random(10).toString(8));
+    const isChosen = known.includes('pp') && (name === 'memory' || random(2));
+    if (isChosen) words.push('--pp', random(10).toString(8));
     if (known.includes('processors')) words.push('--processors', of);
     compare(words.map(String), changed(all[random(all.length)]));
   }
@@ -224,6 +233,8 @@ function squeeze() {
     list: [[0], [19]],
     steps: [[10, 1, 10, 0], [10, 1, 254, 0], [10, 1000000, 255, 0], [10, 5, 255, 1000000]],
     draw: [[10, 2, 1], [10, 0, 2001], [10, 999000, 1000000], [10, most, 0], [5, 0, 1]],
+    memory_words: [[10, 1, 10, 0, 1], [10, 1, 255, 0, 1], [10, 1, 0, 5, 4], [10, 1, 0, 0, 0o10000]],
+    central_words: [[10, 1, 0, 0o400000], [10, 1, 3, 2], [10, 1000000, 0, 1]],
   };
   for (const [name, rows] of Object.entries(wrong)) {
     for (const numbers of rows) {

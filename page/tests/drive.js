@@ -133,7 +133,8 @@ async function first() {
 async function views() {
   const starts = {
     State: 'PP00', Steps: '000000 PP00 0100 7405', Events: '000000 PP00 CH05 ACN',
-    Sessions: 'CH05 SESSION 1', Races: 'SAME IN EVERY ORDER', Listing: 'CENTRAL 10000',
+    Sessions: 'CH05 SESSION 1', Races: 'SAME IN EVERY ORDER', Ends: 'AT REST FROM',
+    Memory: '0100  7405', Listing: 'CENTRAL 10000',
     Dump: 'not between programs: CH05 active', Check: 'lawful: 3 events',
   };
   for (const [name, start] of Object.entries(starts)) {
@@ -141,12 +142,21 @@ async function views() {
     await becomes(`${name} is shown`, `$('text').textContent.startsWith('${start}')`);
   }
   expect('the command is the view\'s', await value(`$('words').textContent === 'ppsim check'`));
+  await choose('Memory');
+  await value(`$('pp').value = '1'; $('pp').dispatchEvent(new Event('change', { bubbles: true }))`);
+  await becomes('the memory is that of the processor chosen',
+    `$('words').textContent === 'ppsim memory --turns 40 --pp 1'
+      && $('text').textContent.startsWith('0200  7005')`);
+  await choose('Check');
   await write('trace', '000000 PP00 CH05 ACN\n000020 PP00 CH05 TAK 0007\n');
   await becomes('an unlawful trace is refused at its line',
     `$('text').textContent.startsWith('line 2: TAK 0007')
       && $('trace').classList.contains('faulty')
       && $('trace-numbers').querySelector('b').textContent === '2\\n'`);
   await picture('check');
+  await show({ example: 'central_block', view: 'Central' });
+  await becomes('central memory is shown', `$('text').textContent.startsWith('000005  0001000200')
+    && $('words').textContent === 'ppsim central --turns 50'`);
 }
 
 async function faults() {

@@ -1,7 +1,8 @@
 -- The numbers that a host passes.
-use Rattle.std.specs.Prelude.{◌≡◌, ℕ, ◌-◌, ◌==◌, ◌&&◌, Bool, true, false, nat_le, List, [], ◌∷◌, replicate, slice_set, Option, None, Some, if◌then◌else◌}
+use Rattle.std.specs.Prelude.{◌≡◌, ℕ, ◌-◌, ◌==◌, ◌&&◌, Bool, true, false, nat_le, nat_lt, List, [], ◌∷◌, replicate, slice_set, Option, None, Some, if◌then◌else◌}
 use Rattle.pp_channel.specs.ChannelNo.{channel_count}
 use Rattle.pp_command.specs.ChannelList.{AreListed}
+use Rattle.pp_bounds.specs.declared.bounds.Bounds.{Bounds}
 use Rattle.pp_bounds.specs.declared.window.Window.{Window}
 use Rattle.pp_machine.specs.PpNo.{processor_count, processor_index}
 use Rattle.pp_machine.specs.Profile.{has_processor}
@@ -24,6 +25,15 @@ alone n = slice_set (replicate processor_count false) (processor_index n) true
 abbrev pub only_of : Profile → ℕ → Option (Option (List Bool))
 only_of profile n = if n == 255 then Some None
     else (if has_processor profile n then Some (Some (alone n)) else None)
+
+-- the processor of this number, if the machine has it
+abbrev pub processor_of : Profile → ℕ → Option ℕ
+processor_of profile n = if has_processor profile n then Some n else None
+
+-- the numbers from first to last, if they lie within a memory of this size
+abbrev pub bounds_of : ℕ → ℕ → ℕ → Option Bounds
+bounds_of size first last = if nat_le first last && nat_lt last size
+    then Some (record { first = first; last = last }) else None
 
 -- the window from turn `from` up to but not including turn `to`, if a picture can show it
 abbrev pub window_of : ℕ → ℕ → Option Window

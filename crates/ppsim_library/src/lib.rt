@@ -9,12 +9,12 @@ mod over_bytes;
 ghost use Rattle.std.specs.Prelude.{◌≡◌, MatchOption, None, false, max};
 ghost use Rattle.fixed_arena.specs.Lending.{IsGivenBack};
 ghost use Rattle.ppsim_library.specs.Answered.{NeedsNoThreads, RefusesNumber, Tells, TellsOfTrace};
-ghost use Rattle.ppsim_library.specs.Numbers.{only_of, profile_of, window_of};
+ghost use Rattle.ppsim_library.specs.Numbers.{bounds_of, only_of, processor_of, profile_of, window_of};
 ghost use Rattle.pp_command.specs.declared.text_of.TextOf.{TextOf};
 ghost use Rattle.pp_command.specs.declared.work.Work.{Work};
 
 use crate::answer::{Answer, refused_number};
-use crate::numbers::{channels_of, only_of, profile_of, window_of};
+use crate::numbers::{bounds_of, channels_of, only_of, processor_of, profile_of, window_of};
 use crate::over_bytes::tell;
 use fixed_arena::{Memory, Slot, arena_in};
 use pp_sim::{ChosenSteps, TextOf, Work};
@@ -110,6 +110,93 @@ pub extern "C" fn ppsim_state(
         return refused_number();
     };
     let text = TextOf::State(turns);
+    tell_in(memory, Work::Deck { profile, text }, deck, out)
+}
+
+/// How a run ends, as far as `turns` turns show.
+#[unsafe(no_mangle)]
+pub extern "C" fn ppsim_ends(
+    memory: &mut Memory,
+    processors: u32,
+    turns: u32,
+    deck: &[u8],
+    out: &mut [u8],
+) -> Answer
+    ensures done { MatchOption (profile_of processors turns) (RefusesNumber result out.old out.new)
+        (λ profile. Tells (Work.Deck profile (TextOf.Ends turns)) deck.now
+        result out.old out.new) }
+    ensures memory { IsGivenBack memory.old memory.new }
+{
+    let Some(profile) = profile_of(processors, turns) else {
+        return refused_number();
+    };
+    let text = TextOf::Ends(turns);
+    tell_in(memory, Work::Deck { profile, text }, deck, out)
+}
+
+/// The words of processor `pp`'s memory after `turns` turns, at the places from `first` to `last`,
+/// at most 7777 (octal).
+#[unsafe(no_mangle)]
+pub extern "C" fn ppsim_memory_words(
+    memory: &mut Memory,
+    processors: u32,
+    turns: u32,
+    pp: u8,
+    first: u32,
+    last: u32,
+    deck: &[u8],
+    out: &mut [u8],
+) -> Answer
+    ensures done { MatchOption (profile_of processors turns) (RefusesNumber result out.old out.new)
+        (λ profile. MatchOption (processor_of profile pp) (RefusesNumber result out.old out.new)
+        (λ n. MatchOption (bounds_of 0o10000 first last) (RefusesNumber result out.old out.new)
+        (λ bounds. Tells (Work.Deck profile (TextOf.Memory turns n bounds)) deck.now
+        result out.old out.new))) }
+    ensures memory { IsGivenBack memory.old memory.new }
+{
+    let Some(profile) = profile_of(processors, turns) else {
+        return refused_number();
+    };
+    let Some(processor) = processor_of(profile, pp) else {
+        return refused_number();
+    };
+    let Some(bounds) = bounds_of(0o10000, first, last) else {
+        return refused_number();
+    };
+    let text = TextOf::Memory {
+        turns,
+        processor,
+        bounds,
+    };
+    tell_in(memory, Work::Deck { profile, text }, deck, out)
+}
+
+/// The central words that are not 0 after `turns` turns, at the addresses from `first` to `last`,
+/// at most 377777 (octal).
+#[unsafe(no_mangle)]
+pub extern "C" fn ppsim_central_words(
+    memory: &mut Memory,
+    processors: u32,
+    turns: u32,
+    first: u32,
+    last: u32,
+    deck: &[u8],
+    out: &mut [u8],
+) -> Answer
+    ensures done { MatchOption (profile_of processors turns) (RefusesNumber result out.old out.new)
+        (λ profile. MatchOption (bounds_of 0o400000 first last)
+        (RefusesNumber result out.old out.new)
+        (λ bounds. Tells (Work.Deck profile (TextOf.Central turns bounds)) deck.now
+        result out.old out.new)) }
+    ensures memory { IsGivenBack memory.old memory.new }
+{
+    let Some(profile) = profile_of(processors, turns) else {
+        return refused_number();
+    };
+    let Some(bounds) = bounds_of(0o400000, first, last) else {
+        return refused_number();
+    };
+    let text = TextOf::Central { turns, bounds };
     tell_in(memory, Work::Deck { profile, text }, deck, out)
 }
 

@@ -1,12 +1,12 @@
 //! The numbers that a host passes.
 
 ghost use Rattle.std.specs.Prelude.{◌≡◌, Bool, List, MatchOption};
-ghost use Rattle.ppsim_library.specs.Numbers.{AreChannels, only_of, profile_of, window_of};
+ghost use Rattle.ppsim_library.specs.Numbers.{AreChannels, bounds_of, only_of, processor_of, profile_of, window_of};
 
-use pp_bounds::{MOST_TURNS, Window};
+use pp_bounds::{Bounds, MOST_TURNS, Window};
 use pp_channel::CHANNELS;
 use pp_command::listed_channels;
-use pp_machine::{PROCESSORS, Profile};
+use pp_machine::{PROCESSORS, PpNo, Profile};
 
 /// The last turn of a run (decimal).
 const LAST_TURN: u32 = 999_999;
@@ -41,6 +41,21 @@ pub fn only_of(profile: Profile, number: u8) -> Option<Option<[bool; PROCESSORS]
     let mut alone = [false; PROCESSORS];
     alone[n.index()] = true;
     Some(Some(alone))
+}
+
+/// The processor of this number; nothing if the machine has none.
+pub fn processor_of(profile: Profile, number: u8) -> Option<PpNo>
+    ensures { result ≡ processor_of profile number }
+{
+    profile.processor(number)
+}
+
+/// The places or addresses from `first` to `last`; nothing if they do not lie, in this order, in a
+/// memory of `size` words.
+pub fn bounds_of(size: u32, first: u32, last: u32) -> Option<Bounds>
+    ensures { result ≡ bounds_of size first last }
+{
+    Bounds::new(first, last, size)
 }
 
 /// The window from turn `from` up to but not including turn `to`; nothing if it ends before it
