@@ -1,7 +1,7 @@
 -- What holds of each of a list of histories, by place and by channel.
 use Rattle.std.proofs.Common.{ℕ, zero, suc, List, [], ◌∷◌, arith}
 use Rattle.std.specs.Prelude.{All, slice_index_or}
-use Rattle.pp_channel.specs.ChannelNo.{channel_index}
+use Rattle.pp_numbers.specs.ChannelNo.{channel_index}
 use Rattle.pp_channel.specs.History.{IsLawful, HasTwelveBitWords, history_on}
 use Rattle.pp_channel.specs.declared.event.Event.{Event}
 use Rattle.pp_channel.proofs.HistoryLemmas.{lawful_empty}

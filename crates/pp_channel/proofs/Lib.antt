@@ -2,7 +2,6 @@ mod CourseLemmas
 mod ChannelStateLemmas
 mod KeptLemmas
 -- facts of the definitions, which proofs of other crates cite
-pub mod ChannelNoLemmas
 pub mod HistoryWalk
 pub mod HistoryLemmas
 pub mod LawLemmas

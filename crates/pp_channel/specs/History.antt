@@ -5,7 +5,7 @@
 use Rattle.std.specs.Prelude.{◌≡◌, ℕ, ◌+◌, ◌^◌, ◌<◌, Bool, true, false, ◌&&◌, ◌==◌, List, ◌∷◌, ◌++◌, length, map, All, Option, Some, None, is_some, unwrap_or, if◌then◌else◌, option_to_list, filter_map, flat_map, [], slice_index_or}
 use Rattle.std.specs.List.{last_or, after_last}
 use Rattle.pp_channel.specs.Session.{Session, body, puts, takes}
-use Rattle.pp_channel.specs.ChannelNo.{channel_count, channel_index}
+use Rattle.pp_numbers.specs.ChannelNo.{channel_count, channel_index}
 use Rattle.pp_channel.specs.declared.event.Event.{Event}
 
 -- an idle stretch: only function codes

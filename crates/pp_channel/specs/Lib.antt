@@ -1,4 +1,3 @@
-pub mod ChannelNo
 pub mod Session
 pub mod History
 pub mod Answer

@@ -10,7 +10,7 @@ use Rattle.pp_channel.proofs.HistoryLemmas.{Fits as FitsState, active_at, full_a
 use Rattle.pp_channel.proofs.HistoryWalk.{State, Inactive}
 use Rattle.pp_word.proofs.LastElements.{last_or-push}
 use Rattle.pp_channel.specs.Answer.{channel_state}
-use Rattle.pp_channel.specs.ChannelNo.{names_channel}
+use Rattle.pp_numbers.specs.ChannelNo.{names_channel}
 use Rattle.pp_channel.specs.History.{IsLawful, active, full, waiting, history_on}
 use Rattle.pp_channel.specs.declared.channel_state.ChannelState.{ChannelState}
 use Rattle.pp_channel.specs.declared.event.Event.{Event}
@@ -19,7 +19,7 @@ use Rattle.pp_machine.specs.Headline as headline
 use Rattle.pp_machine.specs.MachineState.{MachineState, history_of}
 use Rattle.pp_machine.specs.declared.trace.Trace.{Trace}
 use Rattle.pp_deck.specs.DeckText.{lines_of}
-use Rattle.pp_machine.specs.PpNo.{is_named}
+use Rattle.pp_numbers.specs.PpNo.{is_named}
 use Rattle.pp_text.specs.PrintedText.{printed}
 use Rattle.pp_text.specs.TextLaw.{EventFits}
 use Rattle.pp_check.specs.LawfulTrace.{AreLawful, Fits, IsLawfulTrace, event_on, events_on, history, is_opened, last_turn, parsed_lines, opening, turn_of, turns}

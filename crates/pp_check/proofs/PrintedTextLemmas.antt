@@ -7,13 +7,13 @@ use Rattle.std.proofs.lemmas.List.{append-nil}
 use Rattle.std.proofs.lemmas.List.Elements.{All-cons, All-head, All-nil, All-tail}
 use Rattle.std.proofs.lemmas.List.Splits.{slice_split_at}
 use Rattle.std.proofs.lemmas.List.Sums.{AllPass-from_list_all}
-use Rattle.pp_channel.specs.ChannelNo.{all_channels, names_channel}
+use Rattle.pp_numbers.specs.ChannelNo.{all_channels, names_channel}
 use Rattle.pp_channel.specs.History.{active, waiting, history_on}
 use Rattle.pp_channel.specs.declared.event.Event.{Event}
 use Rattle.pp_deck.proofs.FieldTextLemmas.{is_plain, no_fields, plain_least}
 use Rattle.pp_deck.specs.DeckText.{fields_of, is_line_feed, lines_of}
 use Rattle.pp_machine.specs.MachineState.{MachineState, processor_of}
-use Rattle.pp_machine.specs.PpNo.{all_processors, names_processor, processor_index, is_named}
+use Rattle.pp_numbers.specs.PpNo.{all_processors, names_processor, processor_index, is_named}
 use Rattle.pp_machine.specs.declared.trace.Trace.{Trace}
 use Rattle.pp_text.specs.PrintedText.{each_below, event_line, channel_line, line_end, named_processor_line, printed, state_text, used_channel_line}
 use Rattle.pp_text.proofs.PrintingLemmas.{channels_by_number, numbered_channel_line, processors_by_number}

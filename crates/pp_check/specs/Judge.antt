@@ -1,7 +1,7 @@
 -- What the judge keeps of the lines so far. (Only private contracts cite this.)
 use Rattle.std.specs.Prelude.{◌≡◌, ℕ, ◌+◌, Bool, List, [], ◌∷◌, ◌++◌, length, false, IsTrue, count_by, slice_index_or, Result, Ok, Err, Option, None, Some, if◌then◌else◌}
 use Rattle.pp_channel.specs.Answer.{channel_state}
-use Rattle.pp_channel.specs.ChannelNo.{channel_count, channel_index, names_channel}
+use Rattle.pp_numbers.specs.ChannelNo.{channel_count, channel_index, names_channel}
 use Rattle.pp_check.specs.LawfulTrace.{IsLawfulTrace, events_on, history, is_opened, last_turn}
 use Rattle.pp_check.specs.TraceFault.{IsFlaw, IsFlawOf}
 use Rattle.pp_check.specs.TraceLine.{inactive}

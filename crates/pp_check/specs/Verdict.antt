@@ -1,6 +1,6 @@
 -- What is counted in a lawful trace.
 use Rattle.std.specs.Prelude.{ℕ, ◌+◌, ◌++◌, ◌&&◌, Bool, true, false, List, codes, length, nat_lt, count_by}
-use Rattle.pp_channel.specs.ChannelNo.{all_channels}
+use Rattle.pp_numbers.specs.ChannelNo.{all_channels}
 use Rattle.pp_channel.specs.declared.event.Event.{Event}
 use Rattle.pp_channel.specs.declared.event.Event.TheVariants.{Activate}
 use Rattle.pp_word.specs.Numeral.{short_decimal}

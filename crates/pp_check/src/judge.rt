@@ -1,7 +1,7 @@
 //! The judge of a trace, line by line.
 
 ghost use Rattle.std.specs.Prelude.{◌≡◌, ◌+◌, ◌*◌, ◌<◌, ◌≤◌, ◌^◌, [], Bool, List, Some, IsErr, IsTrue, OnOk, length};
-ghost use Rattle.pp_channel.specs.ChannelNo.{names_channel};
+ghost use Rattle.pp_numbers.specs.ChannelNo.{names_channel};
 ghost use Rattle.pp_deck.specs.DeckText.{fields_of};
 ghost use Rattle.pp_check.specs.Judge.{Happens, IsJudged, IsRead, Keeps, KeepsEvents, KeepsSome, standing_of};
 ghost use Rattle.pp_check.specs.LawfulTrace.{Fits, event_on};

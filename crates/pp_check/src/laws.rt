@@ -9,7 +9,7 @@ ghost use Rattle.pp_deck.specs.DeckText.{Fields, lines_of};
 ghost use Rattle.pp_machine.specs.Headline.{events_on as trace_events_on};
 ghost use Rattle.pp_machine.specs.MachineState.{MachineState};
 ghost use Rattle.pp_machine.specs.Run.{run};
-ghost use Rattle.pp_machine.specs.declared.profile.Profile.{Profile};
+ghost use Rattle.pp_numbers.specs.declared.profile.Profile.{Profile};
 ghost use Rattle.pp_text.specs.PrintedText.{printed};
 ghost use Rattle.pp_text.specs.TextLaw.{FitsItsText};
 ghost use Rattle.pp_check.specs.LawfulTrace.{AreLawful, IsLawfulTrace, events_on, history, parsed_lines, turns};

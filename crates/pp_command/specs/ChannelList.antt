@@ -1,6 +1,6 @@
 -- Lists of channels, like `1,5,13`.
 use Rattle.std.specs.Prelude.{ℕ, Bool, false, List, slice_index_or}
-use Rattle.pp_channel.specs.ChannelNo.{channel_count, channel_index, names_channel}
+use Rattle.pp_numbers.specs.ChannelNo.{channel_count, channel_index, names_channel}
 use Rattle.pp_command.specs.NumberList.{AreFlagged}
 
 -- the flag of channel c, among flags in the order of their places

@@ -7,14 +7,14 @@ use Rattle.clap.specs.declared.builder.action.ArgAction.TheVariants.{Set, SetTru
 use Rattle.clap.specs.declared.error.Error.{Error}
 use Rattle.clap.specs.declared.error.kind.ErrorKind.TheVariants.{OutOfMemory}
 use Rattle.clap.specs.declared.parser.matches.ArgMatches.{ArgMatches}
-use Rattle.pp_channel.specs.ChannelNo.{channel_count}
+use Rattle.pp_numbers.specs.ChannelNo.{channel_count}
 use Rattle.pp_command.specs.ChannelList.{AreListed}
 use Rattle.pp_command.specs.ProcessorList.{AreProcessorsListed}
-use Rattle.pp_bounds.specs.declared.window.Window.{Window}
-use Rattle.pp_machine.specs.Profile.{has_processor, processors_in}
-use Rattle.pp_bounds.specs.declared.bounds.Bounds.{Bounds}
-use Rattle.pp_machine.specs.declared.profile.Profile.{Profile}
-use Rattle.pp_bounds.specs.Limits.{AreLimits}
+use Rattle.pp_numbers.specs.declared.window.Window.{Window}
+use Rattle.pp_numbers.specs.Profile.{has_processor, processors_in}
+use Rattle.pp_numbers.specs.declared.bounds.Bounds.{Bounds}
+use Rattle.pp_numbers.specs.declared.profile.Profile.{Profile}
+use Rattle.pp_numbers.specs.Limits.{AreLimits}
 use Rattle.pp_command.specs.declared.command.CommandForm.{CommandForm}
 use Rattle.pp_command.specs.declared.command.OptionForm.{OptionForm}
 use Rattle.pp_command.specs.declared.command.ValueForm.{ValueForm}

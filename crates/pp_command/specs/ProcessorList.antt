@@ -1,8 +1,8 @@
 -- Lists of processors, like `0,1,11`.
 use Rattle.std.specs.Prelude.{ℕ, Bool, List}
-use Rattle.pp_machine.specs.PpNo.{is_named, processor_count}
-use Rattle.pp_machine.specs.Profile.{has_processor}
-use Rattle.pp_machine.specs.declared.profile.Profile.{Profile}
+use Rattle.pp_numbers.specs.PpNo.{is_named, processor_count}
+use Rattle.pp_numbers.specs.Profile.{has_processor}
+use Rattle.pp_numbers.specs.declared.profile.Profile.{Profile}
 use Rattle.pp_command.specs.NumberList.{AreFlagged}
 
 -- a text lists these processors of a profile, by flags in the barrel's order

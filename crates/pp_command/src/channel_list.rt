@@ -1,12 +1,12 @@
 //! Lists of channels.
 
 ghost use Rattle.std.specs.Prelude.{◌≡◌, Bool, List, MatchOption};
-ghost use Rattle.pp_channel.specs.ChannelNo.{names_channel};
+ghost use Rattle.pp_numbers.specs.ChannelNo.{names_channel};
 ghost use Rattle.pp_command.specs.ChannelList.{AreListed};
 ghost use Rattle.pp_command.specs.NumberList.{numbered};
 
 use crate::number_list::first_number;
-use pp_channel::{CHANNELS, ChannelNo};
+use pp_numbers::{CHANNELS, ChannelNo};
 use pp_word::numeral;
 
 /// The channels of a list like `1,5,13`, by flags in the order of their places. The numbers have

@@ -1,16 +1,14 @@
 //! The values of options.
 
 ghost use Rattle.std.specs.Prelude.{◌≡◌, ◌-◌, ◌≤◌, ◌↔◌, IsTrue, codes, option_map, IfSome, IsSome};
-ghost use Rattle.pp_bounds.specs.Limits.{AreLimits};
+ghost use Rattle.pp_numbers.specs.Limits.{AreLimits};
 ghost use Rattle.pp_command.specs.CommandLine.{Finds, ReadsAddress, ReadsBounds, ReadsChannels, ReadsChosen, ReadsEnd, ReadsNumber, ReadsProcessor, ReadsProcessors, ReadsProfile, ReadsTurn, ReadsFlag, ReadsTurns, ReadsWindow, value_in};
 
 use crate::channel_list::listed_channels;
 use crate::number_range::{FROM, PATIENCE, STEPS, TURNS};
 use crate::processor_list::listed_processors;
 use clap::ArgMatches;
-use pp_bounds::{Bounds, Limits, MOST_TURNS, Window};
-use pp_channel::CHANNELS;
-use pp_machine::{PROCESSORS, PpNo, Profile};
+use pp_numbers::{Bounds, CHANNELS, Limits, MOST_TURNS, PROCESSORS, PpNo, Profile, Window};
 
 /// The value of an option, if the words give it one.
 pub(crate) fn value_of<'a>(matches: &ArgMatches<'a>, id: &str) -> Option<&'a str>

@@ -8,9 +8,7 @@ use crate::option_values::{
     turns_of, window_of,
 };
 use clap::ArgMatches;
-use pp_bounds::{Bounds, Window};
-use pp_channel::CHANNELS;
-use pp_machine::{PROCESSORS, PpNo, Profile};
+use pp_numbers::{Bounds, CHANNELS, PROCESSORS, PpNo, Profile, Window};
 
 /// Which steps of a run are chosen: those that all four fields choose.
 #[derive(Clone, Copy)]

@@ -1,9 +1,7 @@
 //! What a command line asks for.
 
 use crate::text_of::TextOf;
-use pp_bounds::Limits;
-use pp_channel::CHANNELS;
-use pp_machine::Profile;
+use pp_numbers::{CHANNELS, Limits, Profile};
 
 /// The work that a command line asks for.
 #[derive(Clone, Copy)]

@@ -6,16 +6,16 @@ use Rattle.std.proofs.lemmas.Bool.Decides.{leb_tells}
 use Rattle.std.proofs.lemmas.List.{ext_get_or, get_or_past, get_or-replicate, length-replicate}
 use Rattle.std.proofs.lemmas.List.FromFn.{length-map-range_with_len, get_or-map-range_with_len}
 use Rattle.std.proofs.lemmas.List.Folds.{list_any_at}
-use Rattle.pp_channel.specs.ChannelNo.{channel_count, channel_index, channel_number, names_channel, channel_places}
+use Rattle.pp_numbers.specs.ChannelNo.{channel_count, channel_index, channel_number, names_channel, channel_places}
 use Rattle.pp_channel.specs.declared.event.Event.{Event}
 use Rattle.pp_channel.specs.declared.event.Event.TheVariants.{Activate}
 use Rattle.pp_machine.specs.DeadStart.{WaitsWithin, waiting_on, waits, processor_started, history_started, processors_started, histories_started, opened_where, dead_started}
 use Rattle.pp_machine.specs.MachineState.{MachineState, processor_of, history_of, is_opened}
 use Rattle.pp_machine.specs.Processor.{no_processor}
-use Rattle.pp_machine.specs.PpNo.{names_processor, processor_count, processor_index, processor_number, each_processor, processor_places}
-use Rattle.pp_machine.specs.Profile.{processors_in, has_processor}
-use Rattle.pp_machine.proofs.PpNoLemmas.{channel_of_processor}
-use Rattle.pp_machine.proofs.ProfileLemmas.{unnamed_lacks, has_at}
+use Rattle.pp_numbers.specs.PpNo.{names_processor, processor_count, processor_index, processor_number, each_processor, processor_places}
+use Rattle.pp_numbers.specs.Profile.{processors_in, has_processor}
+use Rattle.pp_numbers.proofs.PpNoLemmas.{channel_of_processor}
+use Rattle.pp_numbers.proofs.ProfileLemmas.{unnamed_lacks, has_at}
 use Rattle.pp_deck.specs.DeckLaw.{WaitsAtDeadStart}
 use Rattle.pp_deck.specs.DeckLine.{Line, dead_start}
 use Rattle.pp_word.specs.Tables.{tabulate}
@@ -23,7 +23,7 @@ use Rattle.pp_word.proofs.TableLemmas.{length-tabulate, get_or-tabulate, tabulat
 use Rattle.pp_deck.specs.DeckLoad.{is_dead_start, asks_dead_start, is_named, processor_loaded}
 use Rattle.pp_deck.specs.DeckMeaning.{LoadedDeck, set_by, unnamed_in, with_dead_start}
 use Rattle.pp_deck.proofs.LawLemmas.{named_here, some_line, some_name, named_some}
-use Rattle.pp_machine.specs.declared.profile.Profile.{Profile}
+use Rattle.pp_numbers.specs.declared.profile.Profile.{Profile}
 
 -- ---- a machine at dead start, place by place
 

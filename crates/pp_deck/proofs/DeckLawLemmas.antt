@@ -2,14 +2,14 @@
 use Rattle.std.proofs.Common.{◌≡◌, ℕ, ◌<◌, Bool, true, false, cond, IsTrue, List, [], ◌∷◌, length, get_or, Option, Some, None, Ok, Err, if◌then◌else◌, refl, sym, ap, subst, ◌∙◌, ◌++◌, append-nil}
 use Rattle.std.specs.Prelude.{option_map, position, slice_index, Some, None}
 use Rattle.std.proofs.lemmas.List.{length-replicate}
-use Rattle.pp_channel.specs.ChannelNo.{channel_count}
+use Rattle.pp_numbers.specs.ChannelNo.{channel_count}
 use Rattle.pp_channel.specs.declared.event.Event.{Event}
 use Rattle.pp_channel.specs.declared.event.Event.TheVariants.{Activate}
 use Rattle.pp_machine.specs.DeadStart.{waiting_on}
 use Rattle.pp_machine.specs.MachineState.{processor_of, history_of, is_opened}
 use Rattle.pp_machine.specs.Processor.{Processor, word_at}
-use Rattle.pp_machine.specs.PpNo.{names_processor, processor_count, processor_index, processor_number}
-use Rattle.pp_machine.proofs.ProfileLemmas.{processor_named}
+use Rattle.pp_numbers.specs.PpNo.{names_processor, processor_count, processor_index, processor_number}
+use Rattle.pp_numbers.proofs.ProfileLemmas.{processor_named}
 use Rattle.pp_deck.specs.DeckLaw.{NamesWithin, SetsWord, SetsCentralWord, Starts, registers_of, at_rest, HoldsLast, WaitsAtDeadStart, KeepsDeckLaw, line_of}
 use Rattle.pp_deck.specs.DeckLine.{Line}
 use Rattle.pp_deck.specs.DeckLoad.{word_for, central_word_for, start_in, asks_dead_start, central_loaded, processor_loaded, is_named}
@@ -21,7 +21,7 @@ use Rattle.pp_deck.proofs.LawLemmas.{processor_here, place_here, registers_here,
 use Rattle.pp_word.proofs.TableLemmas.{length-tabulate}
 use Rattle.pp_deck.proofs.LoadedRangeLemmas.{named_has, said_in_range}
 use Rattle.pp_deck.proofs.MemoryLemmas.{length-central_loaded}
-use Rattle.pp_machine.specs.declared.profile.Profile.{Profile}
+use Rattle.pp_numbers.specs.declared.profile.Profile.{Profile}
 use Rattle.pp_channel.specs.History.{IsLawful}
 use Rattle.pp_channel.specs.Law.{KeepsLaw}
 use Rattle.pp_machine.specs.Headline.{HoldsOnEachChannel, events_on, opening_history}

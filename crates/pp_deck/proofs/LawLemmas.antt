@@ -11,7 +11,7 @@ use Rattle.pp_word.specs.Address.{place_count}
 use Rattle.pp_word.proofs.LastElements.{last_or_at}
 use Rattle.pp_machine.specs.MachineState.{processor_of}
 use Rattle.pp_machine.specs.Processor.{no_processor, word_at}
-use Rattle.pp_machine.specs.PpNo.{processor_count, names_processor, processor_number, processor_index, processor_places}
+use Rattle.pp_numbers.specs.PpNo.{processor_count, names_processor, processor_number, processor_index, processor_places}
 use Rattle.pp_machine.specs.declared.pp_state.PpState.TheVariants.{Running}
 use Rattle.pp_deck.specs.DeckLaw.{IsFor, StandsAt, SetsWord, SetsCentralWord, Starts, Registers, registers_of, at_rest, HoldsLast, line_of}
 use Rattle.pp_deck.specs.DeckLine.{Line, nothing, central_words, section, start, words}
@@ -20,7 +20,7 @@ use Rattle.pp_deck.specs.DeckMeaning.{set_by}
 use Rattle.pp_deck.proofs.SectionLemmas.{current_after, names, section_more}
 use Rattle.pp_word.proofs.GrowingLists.{last_of, or_else, range_more, last_of_more, filter_map_more}
 use Rattle.pp_word.proofs.TableLemmas.{length-tabulate, get_or-tabulate}
-use Rattle.pp_machine.specs.declared.profile.Profile.{Profile}
+use Rattle.pp_numbers.specs.declared.profile.Profile.{Profile}
 
 -- ---- the last number at which there is something
 

@@ -13,8 +13,8 @@ use Rattle.pp_word.proofs.TableLemmas.{length-tabulate, get_or-tabulate}
 use Rattle.pp_machine.specs.Central.{IsCentral}
 use Rattle.pp_machine.specs.PpMemory.{IsMemory}
 use Rattle.pp_machine.specs.Processor.{IsProcessor}
-use Rattle.pp_machine.specs.Profile.{has_processor}
-use Rattle.pp_machine.specs.declared.profile.Profile.{Profile}
+use Rattle.pp_numbers.specs.Profile.{has_processor}
+use Rattle.pp_numbers.specs.declared.profile.Profile.{Profile}
 use Rattle.pp_deck.specs.DeckLine.{Line, nothing, central_words, section, start, words}
 use Rattle.pp_deck.specs.DeckLoad.{word_for, central_word_for, start_in, is_for, section_of, lines_for, memory_of, central_loaded, processor_with, processor_loaded}
 use Rattle.pp_deck.specs.DeckMeaning.{has_fields, begins_section, line_at, size_of, parsed_deck}

@@ -9,8 +9,8 @@ use Rattle.pp_word.specs.Address.{place_count}
 use Rattle.pp_machine.specs.MachineState.{MachineState, new_machine}
 use Rattle.pp_machine.specs.PpMemory.{empty_memory}
 use Rattle.pp_machine.specs.Processor.{Processor, new_processor, no_processor, runs_from}
-use Rattle.pp_machine.specs.PpNo.{processor_count, processor_number, processor_index, each_processor}
-use Rattle.pp_machine.proofs.PpNoLemmas.{number_at}
+use Rattle.pp_numbers.specs.PpNo.{processor_count, processor_number, processor_index, each_processor}
+use Rattle.pp_numbers.proofs.PpNoLemmas.{number_at}
 use Rattle.pp_deck.specs.DeckLine.{Line, central_words, section, start, words, dead_start}
 use Rattle.pp_deck.specs.DeckLoad.{section_of, is_dead_start, asks_dead_start, is_for, lines_for, start_in, memory_of, central_loaded, processor_with, processor_loaded, is_named}
 use Rattle.pp_deck.specs.Reading.{Progress, before_lines, with_words, loaded_from, with_processor, after_line, after_lines, progress_of}
@@ -18,7 +18,7 @@ use Rattle.pp_deck.proofs.SectionLemmas.{machine_after, named_after, current_aft
 use Rattle.pp_word.proofs.GrowingLists.{last_of, or_else, last_of_more, filter_map_more}
 use Rattle.pp_word.proofs.TableLemmas.{get_or-tabulate, tabulate_same, tabulate_const, set-tabulate}
 use Rattle.pp_deck.proofs.MemoryLemmas.{memory_none, memory_set, memory_kept, central_none, central_set, central_kept}
-use Rattle.pp_machine.specs.declared.profile.Profile.{Profile}
+use Rattle.pp_numbers.specs.declared.profile.Profile.{Profile}
 
 module _ (profile : Profile) where
   -- ---- a processor, by the lines for it

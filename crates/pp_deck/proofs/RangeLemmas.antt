@@ -8,9 +8,9 @@ use Rattle.std.proofs.lemmas.Bool.{and_parts, leb-true, ltb-true}
 use Rattle.std.proofs.lemmas.List.Elements.{All-cons, All-nil}
 use Rattle.pp_word.specs.Address.{place_count}
 use Rattle.pp_word.specs.Numeral.{is_digit, numeral, value_of}
-use Rattle.pp_machine.specs.Profile.{has_processor}
-use Rattle.pp_machine.specs.declared.profile.Profile.{Profile}
-use Rattle.pp_machine.specs.declared.profile.Profile.TheVariants.{Ten}
+use Rattle.pp_numbers.specs.Profile.{has_processor}
+use Rattle.pp_numbers.specs.declared.profile.Profile.{Profile}
+use Rattle.pp_numbers.specs.declared.profile.Profile.TheVariants.{Ten}
 use Rattle.pp_deck.specs.OctalNumber.{number}
 use Rattle.pp_deck.specs.DeckLine.{Line, central_size, central_words, section, start, words, dead_start, keyword_of, line_by, number_then, ends_with, start_from, words_in, central_line, central_words_line, section_line, start_line, words_line, ◌>>=◌, line_after}
 use Rattle.pp_deck.specs.DeckMeaning.{begins_section, has_fields, is_processor_keyword, stated_size, size_by, size_in, size_of}

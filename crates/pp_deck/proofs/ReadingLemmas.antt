@@ -8,7 +8,7 @@ use Rattle.std.proofs.lemmas.List.{append-nil, get_or-replicate}
 use Rattle.std.proofs.lemmas.List.Elements.{filter_map-append}
 use Rattle.std.proofs.lemmas.List.Folds.{list_any_more}
 use Rattle.std.proofs.lemmas.List.Sums.{fold-append}
-use Rattle.pp_channel.specs.ChannelNo.{channel_count, channel_index, channel_places}
+use Rattle.pp_numbers.specs.ChannelNo.{channel_count, channel_index, channel_places}
 use Rattle.pp_machine.specs.DeadStart.{IsBeforeFirstTurn}
 use Rattle.pp_machine.specs.MachineState.{history_of}
 use Rattle.pp_deck.specs.Flaw.{code_of}
@@ -23,7 +23,7 @@ use Rattle.pp_deck.proofs.SectionLemmas.{after_line_parts}
 use Rattle.pp_word.proofs.GrowingLists.{range_more, range_append, filter_map_more}
 use Rattle.pp_deck.proofs.MemoryLemmas.{length-central_loaded}
 use Rattle.pp_deck.proofs.ProgressLemmas.{after_lines_is}
-use Rattle.pp_machine.specs.declared.profile.Profile.{Profile}
+use Rattle.pp_numbers.specs.declared.profile.Profile.{Profile}
 
 module _ (profile : Profile) where
   pub fault_at : List (List (List ℕ)) → ℕ → Option DeckFault

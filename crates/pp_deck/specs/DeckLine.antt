@@ -2,8 +2,8 @@
 use Rattle.std.specs.Prelude.{ℕ, ◌+◌, ◌&&◌, Bool, List, [], ◌∷◌, Result, Ok, Err, nat_lt, nat_le, codes, slice_index, if◌then◌else◌, bytes_eq}
 use Rattle.std.specs.Char.{is_ascii_digit}
 use Rattle.pp_word.specs.Address.{place_count}
-use Rattle.pp_machine.specs.Profile.{has_processor}
-use Rattle.pp_machine.specs.declared.profile.Profile.{Profile}
+use Rattle.pp_numbers.specs.Profile.{has_processor}
+use Rattle.pp_numbers.specs.declared.profile.Profile.{Profile}
 use Rattle.pp_deck.specs.DeckText.{Field, Fields}
 use Rattle.pp_deck.specs.OctalNumber.{number}
 use Rattle.pp_deck.specs.declared.flaw.Flaw.{Flaw}

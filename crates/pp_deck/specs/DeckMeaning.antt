@@ -4,9 +4,9 @@ use Rattle.std.specs.List.{list_any, range_with_len}
 use Rattle.std.specs.Result.{result_ok}
 use Rattle.pp_machine.specs.DeadStart.{dead_started}
 use Rattle.pp_machine.specs.MachineState.{MachineState}
-use Rattle.pp_machine.specs.PpNo.{processor_index, each_processor}
-use Rattle.pp_machine.specs.Profile.{has_processor}
-use Rattle.pp_machine.specs.declared.profile.Profile.{Profile}
+use Rattle.pp_numbers.specs.PpNo.{processor_index, each_processor}
+use Rattle.pp_numbers.specs.Profile.{has_processor}
+use Rattle.pp_numbers.specs.declared.profile.Profile.{Profile}
 use Rattle.pp_deck.specs.DeckLine.{Line, central_size, keyword_of, central_line, line_after}
 use Rattle.pp_deck.specs.DeckLoad.{machine_loaded, is_named, asks_dead_start}
 use Rattle.pp_deck.specs.DeckText.{Fields, is_line_feed, lines_of}

@@ -1,7 +1,7 @@
 -- Which processors of a loaded deck are in use.
 use Rattle.std.specs.Prelude.{ℕ, ◌||◌, Bool, List}
 use Rattle.pp_machine.specs.MachineState.{is_opened}
-use Rattle.pp_machine.specs.PpNo.{each_processor, is_named}
+use Rattle.pp_numbers.specs.PpNo.{each_processor, is_named}
 use Rattle.pp_deck.specs.DeckMeaning.{LoadedDeck}
 
 -- whether processor n is in use: the deck names it, or dead start had it wait for its program

@@ -2,8 +2,8 @@
 use Rattle.std.specs.Prelude.{◌≡◌, ℕ, ◌+◌, Bool, true, false, List, [], ◌∷◌, Option, None, Some, Result, Ok, Err, slice_set, replicate, fold}
 use Rattle.pp_machine.specs.MachineState.{MachineState, processor_of, new_machine}
 use Rattle.pp_machine.specs.Processor.{Processor, runs_from}
-use Rattle.pp_machine.specs.PpNo.{processor_count, processor_index}
-use Rattle.pp_machine.specs.declared.profile.Profile.{Profile}
+use Rattle.pp_numbers.specs.PpNo.{processor_count, processor_index}
+use Rattle.pp_numbers.specs.declared.profile.Profile.{Profile}
 use Rattle.pp_deck.specs.DeckLine.{Line, central_words, section, start, words, dead_start}
 use Rattle.pp_deck.specs.DeckLoad.{section_of, asks_dead_start}
 use Rattle.pp_deck.specs.DeckMeaning.{LoadedDeck, set_by}

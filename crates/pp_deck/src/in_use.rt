@@ -30,7 +30,7 @@ fn is_in_use<A: Allocator>(deck: &Deck<A>, n: PpNo) -> bool
 }
 
 /// Whether dead start had the processor wait for its program, on the channel of its own number.
-#[tactic(auto, using(pp_machine::proofs::PpNoLemmas::channel_of_processor))]
+#[tactic(auto, using(pp_numbers::proofs::PpNoLemmas::channel_of_processor))]
 fn has_waited<A: Allocator>(machine: &Machine<A>, n: PpNo) -> bool
     ensures { result ≡ is_opened n machine.now }
 {

@@ -8,7 +8,7 @@ ghost use Rattle.pp_deck.specs.DeckMeaning.{LoadedDeck, deck_meaning, parsed_dec
 ghost use Rattle.pp_deck.specs.Reading.{after_lines, progress_of};
 ghost use Rattle.pp_deck.specs.DeckText.{lines_of};
 ghost use Rattle.pp_machine.specs.Headline.{HoldsOnEachChannel};
-ghost use Rattle.pp_machine.specs.declared.profile.Profile.{Profile};
+ghost use Rattle.pp_numbers.specs.declared.profile.Profile.{Profile};
 
 use pp_channel::session_law;
 

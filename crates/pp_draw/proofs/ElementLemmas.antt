@@ -12,7 +12,7 @@ use Rattle.pp_draw.specs.declared.condition.Condition.TheVariants.{HeldBy}
 use Rattle.pp_draw.specs.declared.condition.Look.{Look}
 use Rattle.pp_draw.specs.declared.condition.Look.TheVariants.{Channel, Processor}
 use Rattle.pp_draw.specs.declared.part.Part.{Part}
-use Rattle.pp_bounds.specs.declared.window.Window.{Window}
+use Rattle.pp_numbers.specs.declared.window.Window.{Window}
 use Rattle.pp_draw.proofs.ReadLemmas.{IsBalanced, decimal_in_quotes, decimal_in_text, in_quotes, in_text, is_plain, plain-append, plain_octal}
 
 -- ---- plain texts

@@ -6,7 +6,7 @@ use Rattle.std.specs.Option.{option_map}
 use Rattle.std.proofs.lemmas.Bool.{cond-false, le-leb, leb-false, leb-true, lt-leb}
 use Rattle.pp_machine.specs.MachineState.{MachineState}
 use Rattle.pp_machine.specs.MachineStep.{counted, stepped}
-use Rattle.pp_machine.specs.PpNo.{processor_count}
+use Rattle.pp_numbers.specs.PpNo.{processor_count}
 use Rattle.pp_machine.specs.Run.{barrel}
 use Rattle.pp_run.specs.RunSteps.{RunStep, run_steps}
 use Rattle.pp_draw.specs.Condition.{goes_on}
@@ -17,7 +17,7 @@ use Rattle.pp_draw.specs.declared.condition.Look.{Look}
 use Rattle.pp_draw.specs.declared.condition.Look.TheVariants.{Processor}
 use Rattle.pp_draw.specs.declared.part.Phase.{Phase}
 use Rattle.pp_draw.specs.declared.seen_step.SeenStep.{SeenStep}
-use Rattle.pp_bounds.specs.declared.window.Window.{Window}
+use Rattle.pp_numbers.specs.declared.window.Window.{Window}
 use Rattle.pp_draw.proofs.ConditionLemmas.{last_is_drawn}
 
 -- ---- phases that have begun by a turn

@@ -6,8 +6,8 @@ use Rattle.pp_machine.specs.MachineState.{MachineState, history_of, processor_of
 use Rattle.pp_machine.specs.declared.pp_state.PpState.{PpState}
 use Rattle.pp_machine.specs.declared.pp_state.PpState.TheVariants.{Fault}
 use Rattle.pp_word.specs.Numeral.{octal}
-use Rattle.pp_channel.specs.ChannelNo.{channel_count, channel_index, channel_number}
-use Rattle.pp_machine.specs.PpNo.{processor_count, processor_index, processor_number}
+use Rattle.pp_numbers.specs.ChannelNo.{channel_count, channel_index, channel_number}
+use Rattle.pp_numbers.specs.PpNo.{processor_count, processor_index, processor_number}
 use Rattle.pp_text.specs.PrintedText.{channel_text, each_below, state_text}
 use Rattle.pp_draw.specs.DrawingText.{channel_lane, drawing, is_flagged, is_used, lane_text, lanes, lanes_above, processor_lane, used_among}
 use Rattle.pp_draw.specs.Elements.{band_element, free_after, label_element}
@@ -19,7 +19,7 @@ use Rattle.pp_draw.specs.Phases.{channel_phases, phases_from, processor_phases}
 use Rattle.pp_draw.specs.WellFormed.{IsWellFormed, at, before, behind, between, read}
 use Rattle.pp_draw.specs.declared.part.Phase.{Phase}
 use Rattle.pp_draw.specs.declared.seen_step.SeenStep.{SeenStep}
-use Rattle.pp_bounds.specs.declared.window.Window.{Window}
+use Rattle.pp_numbers.specs.declared.window.Window.{Window}
 use Rattle.pp_draw.proofs.ElementLemmas.{balanced_band, balanced_label, balanced_legend, balanced_style, balanced_tick, foot_read, head_read, lane_foot_read, lane_head_read, plain_channel, plain_processor, svg}
 use Rattle.pp_draw.proofs.ReadLemmas.{IsBalanced, balanced-append, balanced-if, in_text, is_plain, plain-append, plain_octal}
 

@@ -10,7 +10,7 @@ use Rattle.pp_draw.specs.Window.{band_width}
 use Rattle.pp_draw.specs.declared.condition.Look.{Look}
 use Rattle.pp_draw.specs.declared.part.Part.{Part}
 use Rattle.pp_draw.specs.declared.part.Phase.{Phase}
-use Rattle.pp_bounds.specs.declared.window.Window.{Window}
+use Rattle.pp_numbers.specs.declared.window.Window.{Window}
 
 abbrev pub look_in : Phase → Look
 look_in phase = phase.look

@@ -2,10 +2,10 @@
 -- number, between a legend and a scale of turns.
 use Rattle.std.specs.Prelude.{ℕ, zero, suc, ◌+◌, ◌==◌, Bool, false, not, List, [], ◌++◌, codes, length, slice_index_or, if◌then◌else◌}
 use Rattle.std.specs.Int.{from_bool}
-use Rattle.pp_channel.specs.ChannelNo.{channel_count, channel_index, channel_number}
+use Rattle.pp_numbers.specs.ChannelNo.{channel_count, channel_index, channel_number}
 use Rattle.pp_channel.specs.History.{active, waiting}
 use Rattle.pp_machine.specs.MachineState.{MachineState, history_of, processor_of}
-use Rattle.pp_machine.specs.PpNo.{processor_count, processor_index, processor_number}
+use Rattle.pp_numbers.specs.PpNo.{processor_count, processor_index, processor_number}
 use Rattle.pp_machine.specs.Run.{barrel, run}
 use Rattle.pp_deck.specs.DeckMeaning.{LoadedDeck}
 use Rattle.pp_deck.specs.InUse.{in_use}
@@ -18,7 +18,7 @@ use Rattle.pp_draw.specs.Phases.{channel_phases, processor_phases}
 use Rattle.pp_draw.specs.SeenStep.{seen_in_window}
 use Rattle.pp_draw.specs.declared.part.Phase.{Phase}
 use Rattle.pp_draw.specs.declared.seen_step.SeenStep.{SeenStep}
-use Rattle.pp_bounds.specs.declared.window.Window.{Window}
+use Rattle.pp_numbers.specs.declared.window.Window.{Window}
 
 -- how many of 0, 1, .. and count - 1 pass a test
 unfoldable pub count_below : ℕ → (ℕ → Bool) → ℕ

@@ -5,7 +5,7 @@ use Rattle.pp_draw.specs.Condition.{face_of}
 use Rattle.pp_draw.specs.Part.{is_visible, label_from}
 use Rattle.pp_draw.specs.Window.{band_width}
 use Rattle.pp_draw.specs.declared.part.Part.{Part}
-use Rattle.pp_bounds.specs.declared.window.Window.{Window}
+use Rattle.pp_numbers.specs.declared.window.Window.{Window}
 
 -- the tag of a rectangle of a class, at a place and of a size, without its end
 unfoldable pub rectangle_tag : List ℕ → ℕ → ℕ → ℕ → ℕ → List ℕ

@@ -4,7 +4,7 @@ use Rattle.pp_word.specs.Numeral.{short_decimal}
 use Rattle.pp_text.specs.PrintedText.{each_below}
 use Rattle.pp_draw.specs.Elements.{lane_top, rectangle_tag, text_element, text_tag}
 use Rattle.pp_draw.specs.Window.{band_width, place}
-use Rattle.pp_bounds.specs.declared.window.Window.{Window}
+use Rattle.pp_numbers.specs.declared.window.Window.{Window}
 
 -- the size of a picture with this many lanes; it has room for the legend
 abbrev pub picture_width : Window → ℕ

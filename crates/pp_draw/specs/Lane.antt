@@ -7,7 +7,7 @@ use Rattle.pp_draw.specs.Part.{part_of}
 use Rattle.pp_draw.specs.Phases.{phases_from}
 use Rattle.pp_draw.specs.declared.lane.Lane.{Lane}
 use Rattle.pp_draw.specs.declared.part.Phase.{Phase}
-use Rattle.pp_bounds.specs.declared.window.Window.{Window}
+use Rattle.pp_numbers.specs.declared.window.Window.{Window}
 
 -- the phase after those before, if there is one
 abbrev pub next_in : List Phase → Option Phase

@@ -6,7 +6,7 @@ use Rattle.pp_draw.specs.Window.{place}
 use Rattle.pp_draw.specs.declared.condition.Look.{Look}
 use Rattle.pp_draw.specs.declared.part.Part.{Part}
 use Rattle.pp_draw.specs.declared.part.Phase.{Phase}
-use Rattle.pp_bounds.specs.declared.window.Window.{Window}
+use Rattle.pp_numbers.specs.declared.window.Window.{Window}
 
 -- a phase lasts until the next, the last one to the end of the window
 abbrev pub end_of : Window → Option Phase → ℕ

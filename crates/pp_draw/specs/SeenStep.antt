@@ -4,7 +4,7 @@ use Rattle.std.specs.List.{filter}
 use Rattle.pp_machine.specs.MachineState.{MachineState, processor_of}
 use Rattle.pp_machine.specs.MachineStep.{step_outcome}
 use Rattle.pp_machine.specs.NeedAndEffect.{need}
-use Rattle.pp_machine.specs.PpNo.{processor_count}
+use Rattle.pp_numbers.specs.PpNo.{processor_count}
 use Rattle.pp_machine.specs.Run.{barrel}
 use Rattle.pp_machine.specs.declared.block.Block.{Block}
 use Rattle.pp_machine.specs.declared.need.Need.{Need}
@@ -19,7 +19,7 @@ use Rattle.pp_draw.specs.declared.condition.Condition.TheVariants.{InBlock, Held
 use Rattle.pp_draw.specs.declared.condition.Condition.TheVariants as conditions
 use Rattle.pp_draw.specs.declared.seen_step.Found.{Found}
 use Rattle.pp_draw.specs.declared.seen_step.SeenStep.{SeenStep}
-use Rattle.pp_bounds.specs.declared.window.Window.{Window}
+use Rattle.pp_numbers.specs.declared.window.Window.{Window}
 
 -- by the state of a processor: a running one is held by the channel that it needs, or else in a
 -- block or not

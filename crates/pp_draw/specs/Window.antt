@@ -1,6 +1,6 @@
 -- The turns that are drawn, and their places, in units of the picture.
 use Rattle.std.specs.Prelude.{ℕ, ◌*◌, ◌-◌, max, min, nat_le, if◌then◌else◌}
-use Rattle.pp_bounds.specs.declared.window.Window.{Window}
+use Rattle.pp_numbers.specs.declared.window.Window.{Window}
 
 -- how wide a turn is: narrower where there are many, but a word has room in ten turns
 abbrev pub turn_width : Window → ℕ

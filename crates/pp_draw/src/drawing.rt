@@ -1,7 +1,7 @@
 //! The drawing of a run: its rows of lanes, channels before processors, in a frame.
 
-ghost use Rattle.pp_channel.specs.ChannelNo.{channel_count, channel_number};
-ghost use Rattle.pp_machine.specs.PpNo.{processor_count, processor_number};
+ghost use Rattle.pp_numbers.specs.ChannelNo.{channel_count, channel_number};
+ghost use Rattle.pp_numbers.specs.PpNo.{processor_count, processor_number};
 ghost use Rattle.pp_text.specs.PrintedText.{each_below};
 ghost use Rattle.pp_text.specs.TextWriter.{Prints};
 ghost use Rattle.pp_text.specs.Written.{IsWritten};
@@ -11,7 +11,7 @@ use crate::frame::{print_foot, print_head, print_legend, print_style, print_tick
 use crate::lanes::{print_channel_lane, print_processor_lane};
 use crate::rows::lanes_above;
 use crate::seen_step::SeenStep;
-use pp_bounds::Window;
+use pp_numbers::Window;
 use pp_channel::{CHANNELS, ChannelNo};
 use pp_machine::{Machine, PROCESSORS, PpNo};
 use pp_text::{TextWriter, WriteFault};

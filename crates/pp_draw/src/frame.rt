@@ -7,7 +7,7 @@ ghost use Rattle.pp_draw.specs.Frame.{foot_text, head_text, legend_text, style_t
 
 use crate::elements::{print_rectangle_tag, print_text_tag};
 use crate::window::{band_width, place};
-use pp_bounds::Window;
+use pp_numbers::Window;
 use pp_text::{TextWriter, print_short_decimal};
 use std::io::Write;
 

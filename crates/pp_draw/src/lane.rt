@@ -11,7 +11,7 @@ use crate::elements::{print_band, print_label};
 use crate::frame::lane_top;
 use crate::part::{Part, Phase};
 use crate::window::band_width;
-use pp_bounds::Window;
+use pp_numbers::Window;
 use pp_text::{TextWriter, print_short_decimal};
 use std::io::Write;
 

@@ -12,7 +12,7 @@ use crate::part::Phase;
 use crate::rows::{is_used, lanes_above, used_among};
 use crate::seen_step::SeenStep;
 use crate::window::band_width;
-use pp_bounds::Window;
+use pp_numbers::Window;
 use pp_channel::{ChannelNo, Event};
 use pp_machine::{Machine, PROCESSORS, PpNo, Trace};
 use pp_text::{TextWriter, channel_name, print_channel_text, print_state_text, processor_name};

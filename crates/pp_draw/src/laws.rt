@@ -4,13 +4,13 @@
 ghost use Rattle.std.specs.Prelude.{◌≡◌, ◌↔◌, ◌+◌, ◌<◌, ◌≤◌, ◌^◌, ℕ, Bool, IfSome, IsFalse, IsTrue, List, [], ◌∷◌, ◌++◌, Option, None, Some, codes, map, if◌then◌else◌};
 ghost use Rattle.std.specs.List.{last_or};
 ghost use Rattle.std.specs.Option.{option_map};
-ghost use Rattle.pp_channel.specs.ChannelNo.{channel_index, names_channel};
+ghost use Rattle.pp_numbers.specs.ChannelNo.{channel_index, names_channel};
 ghost use Rattle.pp_channel.specs.declared.event.Event.{Event};
 ghost use Rattle.pp_channel.specs.declared.event.Event.TheVariants.{Disconnect, Put};
 ghost use Rattle.pp_machine.specs.Headline.{HoldsOnEachChannel};
 ghost use Rattle.pp_machine.specs.MachineState.{MachineState, history_of};
 ghost use Rattle.pp_machine.specs.MachineStep.{counted};
-ghost use Rattle.pp_machine.specs.PpNo.{names_processor, processor_count, processor_index};
+ghost use Rattle.pp_numbers.specs.PpNo.{names_processor, processor_count, processor_index};
 ghost use Rattle.pp_machine.specs.Run.{barrel};
 ghost use Rattle.pp_run.specs.RunSteps.{run_steps};
 ghost use Rattle.pp_draw.specs.Condition.{goes_on, is_sent};
@@ -27,7 +27,7 @@ ghost use Rattle.pp_draw.specs.declared.condition.Look.{Look};
 ghost use Rattle.pp_draw.specs.declared.condition.Look.TheVariants.{Channel, Processor};
 ghost use Rattle.pp_draw.specs.declared.part.Phase.{Phase};
 ghost use Rattle.pp_draw.specs.declared.seen_step.SeenStep.{SeenStep};
-ghost use Rattle.pp_bounds.specs.declared.window.Window.{Window};
+ghost use Rattle.pp_numbers.specs.declared.window.Window.{Window};
 
 /// What is drawn of processors is seen in the very steps of the run that the text of steps tells.
 /// A channel has a phase for each event of its history, in order and from the turn of the event on,

@@ -29,5 +29,5 @@ mod window;
 pub use condition::Condition;
 pub use drawing::write_drawing;
 pub use laws::drawing_law;
-pub use pp_bounds::{MOST_TURNS, Window};
+pub use pp_numbers::{MOST_TURNS, Window};
 pub use seen_step::{SeenStep, run_seeing_steps};

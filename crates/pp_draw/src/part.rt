@@ -5,7 +5,7 @@ ghost use Rattle.pp_draw.specs.Part.{is_visible, label_from, part_of};
 
 use crate::condition::Look;
 use crate::window::place;
-use pp_bounds::Window;
+use pp_numbers::Window;
 
 /// How a channel or a processor stands from a turn on (decimal), until its next phase.
 #[derive(Clone, Copy)]

@@ -1,8 +1,8 @@
 //! The rows of the lanes: those of the channels used, and below them those of the processors shown.
 
 ghost use Rattle.std.specs.Prelude.{◌≡◌, ◌+◌, ◌≤◌};
-ghost use Rattle.pp_channel.specs.ChannelNo.{channel_count};
-ghost use Rattle.pp_machine.specs.PpNo.{processor_count};
+ghost use Rattle.pp_numbers.specs.ChannelNo.{channel_count};
+ghost use Rattle.pp_numbers.specs.PpNo.{processor_count};
 ghost use Rattle.pp_draw.specs.DrawingText.{is_used, lanes_above, used_among};
 
 use pp_channel::{CHANNELS, ChannelNo};

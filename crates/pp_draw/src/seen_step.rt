@@ -7,7 +7,7 @@ ghost use Rattle.pp_run.specs.RunSteps.{IsCutAt};
 ghost use Rattle.pp_draw.specs.SeenStep.{IsKept, condition_by, found_in, is_shown, seen, seen_in_window};
 
 use crate::condition::Condition;
-use pp_bounds::Window;
+use pp_numbers::Window;
 use pp_channel::Memory;
 use pp_machine::{Block, Cut, Machine, Need, Outcome, PROCESSORS, PpNo, PpState};
 use pp_run::{Observer, run_observed};

@@ -3,7 +3,7 @@
 ghost use Rattle.std.specs.Prelude.{◌≡◌, ◌≤◌, ◌<◌, ◌^◌};
 ghost use Rattle.pp_draw.specs.Window.{band_width, place, turn_width};
 
-use pp_bounds::Window;
+use pp_numbers::Window;
 
 /// How wide a turn is drawn, in units of the picture.
 fn turn_width(window: Window) -> u64

@@ -3,10 +3,10 @@ use Rattle.std.proofs.Common.{◌≡◌, ℕ, zero, suc, ◌+◌, ◌-◌, ◌*�
 use Rattle.std.specs.Prelude.{Option, None, Some}
 use Rattle.std.proofs.lemmas.Bool.{cases_lt}
 use Rattle.pp_machine.specs.MachineState.{MachineState}
-use Rattle.pp_machine.specs.Profile.{processors_in}
+use Rattle.pp_numbers.specs.Profile.{processors_in}
 use Rattle.pp_machine.specs.Run.{barrel, run}
-use Rattle.pp_machine.specs.declared.profile.Profile.{Profile}
-use Rattle.pp_machine.specs.declared.profile.Profile.TheVariants.{Ten, Twenty}
+use Rattle.pp_numbers.specs.declared.profile.Profile.{Profile}
+use Rattle.pp_numbers.specs.declared.profile.Profile.TheVariants.{Ten, Twenty}
 use Rattle.pp_ends.specs.Endings.{FirstRepeats, Repeats, StandAlike, after_turns}
 use Rattle.pp_ends.specs.Rounds.{AreAlikeAfter, IsPeriod, IsStart, PeriodWithin, StartWithin, after_rounds}
 use Rattle.pp_ends.proofs.RepeatLemmas.{IsLawfulMachine, after_more, run_alike, run_lawful}

@@ -14,7 +14,7 @@ use Rattle.pp_machine.specs.MachineStep.{answer_to, stepped, step_event}
 use Rattle.pp_machine.specs.NeedAndEffect.{answered, if_running, need, next_step, processor_after, step_of}
 use Rattle.pp_machine.specs.Operand.{lower_six, operation}
 use Rattle.pp_machine.specs.Processor.{Processor}
-use Rattle.pp_machine.specs.Profile.{has_channel}
+use Rattle.pp_numbers.specs.Profile.{has_channel}
 use Rattle.pp_machine.specs.Step.{Step, local, probes, takes, does, reads, writes, need_of}
 use Rattle.pp_machine.specs.declared.answer.Answer.{Answer}
 use Rattle.pp_machine.specs.declared.answer.Answer.TheVariants as answers

@@ -5,7 +5,7 @@ use Rattle.std.specs.Option.{option_to_list}
 use Rattle.std.proofs.lemmas.Bool.{cases_eq, cases_lt}
 use Rattle.std.proofs.lemmas.List.{get_or_past, ext_get_or}
 use Rattle.pp_channel.specs.Answer.{channel_state, event_by, event_of, history_after, state_reply}
-use Rattle.pp_channel.specs.ChannelNo.{channel_count, channel_index, channel_places}
+use Rattle.pp_numbers.specs.ChannelNo.{channel_count, channel_index, channel_places}
 use Rattle.pp_channel.specs.History.{IsLawful}
 use Rattle.pp_channel.specs.declared.chan_op.ChanOp.{ChanOp}
 use Rattle.pp_channel.specs.declared.channel_state.ChannelState.{ChannelState}
@@ -16,14 +16,14 @@ use Rattle.pp_machine.specs.MachineState.{MachineState, processor_of, history_of
 use Rattle.pp_machine.specs.MachineStep.{answer_to, central_after, stepped}
 use Rattle.pp_machine.specs.NeedAndEffect.{need, processor_after}
 use Rattle.pp_machine.specs.Processor.{Processor, no_processor}
-use Rattle.pp_machine.specs.PpNo.{processor_index, processor_number, processor_count, processor_places}
-use Rattle.pp_machine.specs.Profile.{processor_in_turn, processors_in}
+use Rattle.pp_numbers.specs.PpNo.{processor_index, processor_number, processor_count, processor_places}
+use Rattle.pp_numbers.specs.Profile.{processor_in_turn, processors_in}
 use Rattle.pp_machine.specs.Run.{barrel, run}
 use Rattle.pp_machine.specs.declared.answer.Answer.{Answer}
 use Rattle.pp_machine.specs.declared.need.Need.{Need}
 use Rattle.pp_machine.specs.declared.need.Need.TheVariants.{Channel, Read, Write}
-use Rattle.pp_machine.specs.declared.profile.Profile.{Profile}
-use Rattle.pp_machine.specs.declared.profile.Profile.TheVariants.{Ten, Twenty}
+use Rattle.pp_numbers.specs.declared.profile.Profile.{Profile}
+use Rattle.pp_numbers.specs.declared.profile.Profile.TheVariants.{Ten, Twenty}
 use Rattle.pp_machine.proofs.RunLemmas.{run_keeps}
 use Rattle.pp_run.proofs.StepFacts.{central_by, histories_by, history_elsewhere, history_here, length_histories, processors_by}
 use Rattle.pp_run.proofs.Moments.{run_histories}

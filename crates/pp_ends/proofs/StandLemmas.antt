@@ -17,7 +17,7 @@ use Rattle.pp_machine.specs.NeedAndEffect.{answered, if_running, next_step, proc
 use Rattle.pp_machine.specs.Operand.{index, lower_six, operation, second_word}
 use Rattle.pp_machine.specs.PpMemory.{IsMemory}
 use Rattle.pp_machine.specs.Processor.{Processor, is_running, word_at}
-use Rattle.pp_machine.specs.Profile.{has_channel}
+use Rattle.pp_numbers.specs.Profile.{has_channel}
 use Rattle.pp_machine.specs.Step.{Step, local, probes, takes, does, reads, writes}
 use Rattle.pp_machine.specs.declared.answer.Answer.{Answer}
 use Rattle.pp_machine.specs.declared.answer.Answer.TheVariants as answers

@@ -2,9 +2,9 @@
 -- which places it loops; and the channels.
 use Rattle.std.specs.Prelude.{ℕ, Bool, List, [], ◌++◌, Option, None, Some, codes, if◌then◌else◌}
 use Rattle.std.specs.List.{flat_map}
-use Rattle.pp_channel.specs.ChannelNo.{all_channels}
+use Rattle.pp_numbers.specs.ChannelNo.{all_channels}
 use Rattle.pp_machine.specs.MachineState.{MachineState, processor_of}
-use Rattle.pp_machine.specs.PpNo.{all_processors, is_named}
+use Rattle.pp_numbers.specs.PpNo.{all_processors, is_named}
 use Rattle.pp_word.specs.Numeral.{decimal, octal, short_decimal}
 use Rattle.pp_text.specs.PrintedText.{line_end, processor_line, used_channel_line}
 use Rattle.pp_text.specs.Standing.{standing}

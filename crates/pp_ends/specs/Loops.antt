@@ -1,8 +1,8 @@
 -- Between which places a processor loops.
 use Rattle.std.specs.Prelude.{◌≡◌, ℕ, ◌+◌, ◌<◌, ◌≤◌, Bool, IsTrue, List, Option, None, Some, max, min, if◌then◌else◌, slice_index_or, slice_set}
 use Rattle.pp_machine.specs.MachineState.{MachineState, processor_of}
-use Rattle.pp_machine.specs.PpNo.{names_processor, processor_index}
-use Rattle.pp_machine.specs.Profile.{processor_in_turn}
+use Rattle.pp_numbers.specs.PpNo.{names_processor, processor_index}
+use Rattle.pp_numbers.specs.Profile.{processor_in_turn}
 use Rattle.pp_ends.specs.Endings.{MovesAt, after_turns}
 use Rattle.pp_ends.specs.declared.ending.Ending.{Ending}
 use Rattle.pp_ends.specs.declared.ending.Ending.TheVariants as endings

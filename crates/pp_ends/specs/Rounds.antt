@@ -1,7 +1,7 @@
 -- How a repetition is found, in rounds of the barrel. (Private contracts alone cite this.)
 use Rattle.std.specs.Prelude.{ℕ, ◌+◌, ◌*◌, ◌<◌, ◌≤◌, Option, None, Some}
 use Rattle.pp_machine.specs.MachineState.{MachineState}
-use Rattle.pp_machine.specs.Profile.{processors_in}
+use Rattle.pp_numbers.specs.Profile.{processors_in}
 use Rattle.pp_ends.specs.Endings.{StandAlike, after_turns}
 
 -- a machine after this many rounds

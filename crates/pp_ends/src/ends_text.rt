@@ -3,7 +3,7 @@
 ghost use Rattle.std.specs.Prelude.{◌≡◌, ◌++◌, codes};
 ghost use Rattle.std.specs.List.{flat_map};
 ghost use Rattle.pp_machine.specs.MachineState.{processor_of};
-ghost use Rattle.pp_machine.specs.PpNo.{all_processors};
+ghost use Rattle.pp_numbers.specs.PpNo.{all_processors};
 ghost use Rattle.pp_word.specs.Numeral.{octal};
 ghost use Rattle.pp_text.specs.PrintedText.{line_end, processor_line};
 ghost use Rattle.pp_text.specs.Standing.{standing};

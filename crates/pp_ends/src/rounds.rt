@@ -3,8 +3,8 @@
 ghost use Rattle.std.specs.Prelude.{◌≡◌, ◌+◌, ◌<◌, ◌^◌, ◌≤◌, ℕ, IfOk};
 ghost use Rattle.pp_run.specs.BareMachine.{StandsFor};
 ghost use Rattle.pp_machine.specs.MachineState.{MachineState};
-ghost use Rattle.pp_machine.specs.PpNo.{processor_count};
-ghost use Rattle.pp_machine.specs.Profile.{processors_in};
+ghost use Rattle.pp_numbers.specs.PpNo.{processor_count};
+ghost use Rattle.pp_numbers.specs.Profile.{processors_in};
 ghost use Rattle.pp_ends.specs.Rounds.{PeriodWithin, StartWithin, after_rounds};
 
 use crate::alike::stand_alike;

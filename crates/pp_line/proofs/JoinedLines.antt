@@ -7,7 +7,7 @@ use Rattle.std.proofs.lemmas.List.{append-nil, map-append}
 use Rattle.std.proofs.lemmas.List.Elements.{All-cons, All-nil, All-push, All-weaker}
 use Rattle.std.proofs.lemmas.List.Sums.{fold-append}
 use Rattle.pp_line.specs.Types.{Access, Entry, Event, LineView}
-use Rattle.pp_channel.specs.ChannelNo.{channel_index}
+use Rattle.pp_numbers.specs.ChannelNo.{channel_index}
 use Rattle.pp_line.specs.LineState.{LineState, joined, all_joined, lines_of, IsLogBeside, SeesAtLeast, AreClosed, AreInOneOrder}
 use Rattle.pp_line.specs.Order.{ExtendsEach, IsDrawnFrom, FindsWords, AreMade}
 use Rattle.pp_line.proofs.ListFacts.{All-front, All-back}

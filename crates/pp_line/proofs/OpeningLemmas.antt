@@ -12,7 +12,7 @@ use Rattle.std.proofs.lemmas.Option.{slice_get_within}
 use Rattle.pp_line.specs.Types.{ChanOp, Did, Entry, Event, Numbered, Reply, Saw, Seen}
 use Rattle.pp_channel.specs.declared.event.Event.TheVariants.{Activate}
 use Rattle.pp_channel.specs.Answer.{IsAnswer, seen_answered}
-use Rattle.pp_channel.specs.ChannelNo.{channel_count, channel_index}
+use Rattle.pp_numbers.specs.ChannelNo.{channel_count, channel_index}
 use Rattle.pp_channel.specs.Law.{IsPrefix}
 use Rattle.pp_line.specs.LineLog.{is_event, appended, with_seen, event_entry}
 use Rattle.pp_line.specs.LineState.{LineState, IsActed, IsWornOut, number_after}

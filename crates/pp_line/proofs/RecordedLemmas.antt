@@ -10,7 +10,7 @@ use Rattle.std.proofs.lemmas.List.Elements.{All-head, All-tail}
 use Rattle.std.proofs.lemmas.List.Sums.{sum_by-cons}
 use Rattle.std.proofs.lemmas.Option.{slice_get_within, get_or_from_slice_get}
 use Rattle.pp_line.specs.Types.{Did, Entry, Event, Saw, Seen}
-use Rattle.pp_channel.specs.ChannelNo.{channel_count, channel_index, channel_number, channel_places}
+use Rattle.pp_numbers.specs.ChannelNo.{channel_count, channel_index, channel_number, channel_places}
 use Rattle.pp_line.specs.Merge.{IsTrueAt, IsTrueOf, times_logged, Merges, no_opening, IsRecordedBy, with_recorded, with_entry}
 use Rattle.pp_channel.specs.History.{history_on}
 use Rattle.pp_line.proofs.MergeLemmas.{told_by, told_not}

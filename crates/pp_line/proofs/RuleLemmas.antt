@@ -9,7 +9,7 @@ use Rattle.std.specs.List.{All, flat_map, sum_by}
 use Rattle.std.proofs.lemmas.List.{append-nil, length-set, get_or-set_same, get_or-set_other}
 use Rattle.std.proofs.lemmas.List.Elements.{All-set, All-weaker}
 use Rattle.pp_line.specs.Types.{Access, Entry, Event, LineView, OnChannel, Read, Write}
-use Rattle.pp_channel.specs.ChannelNo.{channel_index, names_channel, channel_places}
+use Rattle.pp_numbers.specs.ChannelNo.{channel_index, names_channel, channel_places}
 use Rattle.pp_line.specs.ChannelWord.{number_in, flags_in}
 use Rattle.pp_channel.specs.Answer.{flags_of}
 use Rattle.pp_channel.specs.History.{IsLawful, HasTwelveBitWords, history_on}

@@ -10,7 +10,7 @@ use Rattle.std.proofs.lemmas.List.Sums.{sum_by_push}
 use Rattle.atomic_table.specs.Table.{Splits, Joins, opening}
 use Rattle.atomic_table.proofs.Lists.{at_set}
 use Rattle.pp_line.specs.Types.{Event, LineView}
-use Rattle.pp_channel.specs.ChannelNo.{channel_count, channel_index, channel_places}
+use Rattle.pp_numbers.specs.ChannelNo.{channel_count, channel_index, channel_places}
 use Rattle.pp_line.specs.ChannelWord.{history_word}
 use Rattle.pp_channel.specs.History.{IsLawful, HasTwelveBitWord, HasTwelveBitWords, history_on}
 use Rattle.pp_line.specs.LineView.{blank_view, first_view, parent_view, child_view, joined_view}

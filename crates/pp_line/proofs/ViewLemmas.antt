@@ -7,7 +7,7 @@ use Rattle.std.specs.List.{All}
 use Rattle.std.proofs.lemmas.List.{append-nil, length-append, length-set, take-append-le, take_all, get_or-set_same, length_push, get_or_push, length-take-le}
 use Rattle.std.proofs.lemmas.List.Elements.{All-nil, All-cons, All-append, All-push, All-weaker}
 use Rattle.pp_line.specs.Types.{Access, Entry, Event, FoundWord, LineView, OnChannel}
-use Rattle.pp_channel.specs.ChannelNo.{channel_count, channel_index, names_channel, channel_places}
+use Rattle.pp_numbers.specs.ChannelNo.{channel_count, channel_index, names_channel, channel_places}
 use Rattle.pp_line.specs.ChannelWord.{history_word, number_in}
 use Rattle.pp_channel.specs.History.{HasTwelveBitWords, history_on}
 use Rattle.pp_line.specs.LineView.{look_by, blank_view, parent_view, child_view, greater_of_each, joined_view, finds, makes}

@@ -1,7 +1,7 @@
 -- The log that a line writes of what it did and saw, and how the numbers along it go.
 use Rattle.std.specs.Prelude.{ℕ, ◌-◌, ◌==◌, ◌&&◌, Bool, true, false, not, List, [], ◌∷◌, ◌++◌, length, slice_set, Option, Some, None, if◌then◌else◌, ◌≡◌, ◌+◌, ◌≤◌, All, AllPairs, slice_index}
 use Rattle.std.specs.List.{last_or}
-use Rattle.pp_channel.specs.ChannelNo.{channel_index}
+use Rattle.pp_numbers.specs.ChannelNo.{channel_index}
 use Rattle.pp_line.specs.Types.{Entry, Event, Flags, Seen}
 
 -- A log: its entries in order, how many more it has room for, and whether its last entry is kept

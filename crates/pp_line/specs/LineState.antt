@@ -4,7 +4,7 @@ use Rattle.std.specs.declared.vec.Vec.{Vec}
 use Rattle.atomic_table.specs.Seated.{TableId}
 use Rattle.pp_line.specs.Types.{Access, ChanOp, Entry, Event, LineView, Numbered, Reply}
 use Rattle.pp_channel.specs.Answer.{IsAnswer, IsReady, event_answered, flags_of, flags_shown, only_looks, seen_answered}
-use Rattle.pp_channel.specs.ChannelNo.{channel_index}
+use Rattle.pp_numbers.specs.ChannelNo.{channel_index}
 use Rattle.pp_line.specs.ChannelWord.{number_in, greatest_number}
 use Rattle.pp_channel.specs.Law.{KeepsLaw}
 use Rattle.pp_line.specs.LineLog.{LogState, empty_log, event_entry, with_seen, seen_on}

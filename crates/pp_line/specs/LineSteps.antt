@@ -4,7 +4,7 @@ use Rattle.std.specs.Prelude.{◌≡◌, ◌≢◌, ℕ, ◌<◌, ◌≤◌, ◌
 use mathlib.Core.Option.{Option, none, some}
 use Rattle.atomic_table.specs.Table.{Me, Step}
 use Rattle.pp_line.specs.Types.{Access, Entry, Event, LineView, Seen}
-use Rattle.pp_channel.specs.ChannelNo.{channel_count, channel_index, names_channel}
+use Rattle.pp_numbers.specs.ChannelNo.{channel_count, channel_index, names_channel}
 use Rattle.pp_line.specs.ChannelWord.{history_word, number_in, flags_in}
 use Rattle.pp_line.specs.LineLog.{event_entry, IsWithin}
 use Rattle.pp_line.specs.Order.{IsTotalOrderOf, ExtendsEach, IsDrawnFrom, entries_among, FindsWords, AreMade}

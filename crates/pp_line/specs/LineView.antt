@@ -1,7 +1,7 @@
 -- What a line knows of the channels, and what its steps and calls make of that.
 use Rattle.std.specs.Prelude.{◌≡◌, ℕ, ◌+◌, ◌-◌, ◌≤◌, max, List, [], ◌∷◌, ◌++◌, length, map, zip, replicate, All, slice_set}
 use Rattle.pp_line.specs.Types.{Access, Entry, Event, LineView}
-use Rattle.pp_channel.specs.ChannelNo.{channel_count, channel_index}
+use Rattle.pp_numbers.specs.ChannelNo.{channel_count, channel_index}
 use Rattle.pp_line.specs.ChannelWord.{number_in, flags_in}
 use Rattle.pp_line.specs.LineLog.{event_entry, look_entry, seen_on}
 use Rattle.pp_line.specs.Merge.{IsTrueOf, IsRecordedBy}

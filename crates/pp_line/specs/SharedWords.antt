@@ -3,7 +3,7 @@
 use Rattle.std.specs.Prelude.{◌≡◌, ℕ, ◌+◌, ◌*◌, ◌<◌, ◌≤◌, ◌^◌, IsTrue, List, [], length, take, drop, All, flat_map, sum_by, slice_index}
 use Rattle.atomic_table.specs.Table.{State}
 use Rattle.pp_line.specs.Types.{Access, Event, FoundWord, LineView}
-use Rattle.pp_channel.specs.ChannelNo.{channel_count, channel_index, names_channel}
+use Rattle.pp_numbers.specs.ChannelNo.{channel_count, channel_index, names_channel}
 use Rattle.pp_line.specs.ChannelWord.{history_word}
 use Rattle.pp_line.specs.Merge.{Merges, no_opening}
 use Rattle.pp_channel.specs.History.{AreHistories, history_on}

@@ -4,7 +4,7 @@ mod closing;
 
 ghost use Rattle.std.specs.Prelude.{◌≡◌, ◌<◌, ◌≤◌, ◌+◌, ◌-◌, ◌^◌, ◌↔◌, ℕ, List, [], ◌∷◌, ◌++◌, Contains, true, IfOk, OnOk, OnErr, IfErr, IfSome, IfNone, IsTrue, MatchBool, length, slice_index};
 ghost use Rattle.pp_line.specs.Types.{Event, LineView};
-ghost use Rattle.pp_channel.specs.ChannelNo.{channel_count};
+ghost use Rattle.pp_numbers.specs.ChannelNo.{channel_count};
 ghost use Rattle.pp_line.specs.LineLog.{IsMonotone, IsWithin, seen_on, empty_log, event_entry, look_entry, appended, looked};
 ghost use Rattle.pp_line.specs.LineState.{LineState, IsSplitFrom, joined, SeesAtLeast, IsActed, IsWornOut, AreClosed, AreInOneOrder};
 ghost use Rattle.pp_line.specs.LineSteps.{IsLoad, IsWonExchange, IsLostExchange, IsLogOf};

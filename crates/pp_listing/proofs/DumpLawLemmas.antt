@@ -4,15 +4,15 @@ use Rattle.std.specs.Prelude.{IsTrue, ◌&&◌, filter_map}
 use Rattle.std.specs.List.{list_any, flat_map, range_with_len}
 use Rattle.std.proofs.lemmas.List.{get_or-replicate, length-map, append-nil}
 use Rattle.std.proofs.Math.ListN.{get_or-map}
-use Rattle.pp_channel.specs.ChannelNo.{all_channels, channel_count, channel_index, names_channel, channel_places}
+use Rattle.pp_numbers.specs.ChannelNo.{all_channels, channel_count, channel_index, names_channel, channel_places}
 use Rattle.pp_machine.specs.MachineState.{MachineState, processor_of, is_opened}
 use Rattle.pp_machine.specs.Processor.{Processor, IsProcessor, new_processor, no_processor, word_at}
-use Rattle.pp_machine.specs.PpNo.{all_processors, names_processor, processor_count, processor_index, processor_number, is_named, processor_places}
+use Rattle.pp_numbers.specs.PpNo.{all_processors, names_processor, processor_count, processor_index, processor_number, is_named, processor_places}
 use Rattle.pp_machine.specs.Run.{run}
 use Rattle.pp_machine.specs.declared.block.Block.{Block}
 use Rattle.pp_machine.specs.declared.pp_state.PpState.{PpState}
 use Rattle.pp_machine.specs.declared.pp_state.PpState.TheVariants.{Running, Stopped, Fault}
-use Rattle.pp_machine.specs.declared.profile.Profile.{Profile}
+use Rattle.pp_numbers.specs.declared.profile.Profile.{Profile}
 use Rattle.pp_deck.specs.DeckLoad.{processor_with}
 use Rattle.pp_deck.specs.DeckMeaning.{LoadedDeck, deck_meaning, with_dead_start}
 use Rattle.pp_word.proofs.TableLemmas.{length-tabulate, get_or-tabulate}

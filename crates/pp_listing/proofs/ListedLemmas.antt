@@ -9,7 +9,7 @@ use Rattle.std.proofs.lemmas.List.Folds.{list_any-append, list_any_none}
 use Rattle.std.proofs.lemmas.List.{map-append}
 use Rattle.pp_word.specs.Address.{place_count}
 use Rattle.pp_machine.specs.Processor.{Processor, word_at}
-use Rattle.pp_machine.specs.declared.profile.Profile.{Profile}
+use Rattle.pp_numbers.specs.declared.profile.Profile.{Profile}
 use Rattle.pp_deck.specs.DeckLine.{Line, central_size, central_words, section, start, words, dead_start}
 use Rattle.pp_word.specs.Tables.{tabulate}
 use Rattle.pp_word.proofs.TableLemmas.{tabulate_is}
@@ -20,9 +20,9 @@ use Rattle.pp_deck.proofs.SectionLinesLemmas.{KeepsCurrent, all_append, all_flat
 use Rattle.pp_listing.specs.ListedLine.{says}
 use Rattle.pp_listing.specs.Listing.{instruction_lines, start_line}
 use Rattle.pp_listing.proofs.InstructionLemmas.{among_at, among_before, instructions_all, instructions_hold, start_all}
-use Rattle.pp_channel.specs.ChannelNo.{all_channels, channel_count, channel_number}
-use Rattle.pp_machine.specs.PpNo.{all_processors, names_processor}
-use Rattle.pp_machine.proofs.PpNoLemmas.{processor_fits, numbers_of_processors}
+use Rattle.pp_numbers.specs.ChannelNo.{all_channels, channel_count, channel_number}
+use Rattle.pp_numbers.specs.PpNo.{all_processors, names_processor}
+use Rattle.pp_numbers.proofs.PpNoLemmas.{processor_fits, numbers_of_processors}
 
 -- how many numbers of two octal digits there are
 pub number_count : ℕ

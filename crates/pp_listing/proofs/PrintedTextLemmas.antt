@@ -8,7 +8,7 @@ use Rattle.std.proofs.lemmas.List.Folds.{list_all-append}
 use Rattle.std.proofs.lemmas.List.Sums.{AllPass-from_list_all}
 use Rattle.std.proofs.lemmas.List.Splits.{slice_split_at}
 use Rattle.std.proofs.lemmas.List.Quantifiers.{position-Some}
-use Rattle.pp_machine.specs.declared.profile.Profile.{Profile}
+use Rattle.pp_numbers.specs.declared.profile.Profile.{Profile}
 use Rattle.pp_deck.specs.DeckLine.{Line, line_after, central_size, central_words, section, start, words, dead_start, keyword_of, words_in, central_line, central_words_line, section_line, start_line, words_line, ◌>>=◌}
 use Rattle.pp_deck.specs.DeckMeaning.{LoadedDeck, deck_meaning, meaning_of_lines, is_foreign, unless_foreign, size_of, loaded, with_dead_start, stated_size}
 use Rattle.pp_deck.specs.Reading.{Progress, before_lines, after_line, after_lines, deck_so_far, progress_of}
@@ -22,10 +22,10 @@ use Rattle.pp_deck.proofs.FieldTextLemmas.{is_plain, plain_least, plain_most, no
 use Rattle.pp_listing.proofs.ListedLineLemmas.{fields_said, line_fields, line_plain}
 use Rattle.std.proofs.lemmas.List.Elements.{All-head, All-tail}
 use Rattle.pp_word.specs.Address.{place_count}
-use Rattle.pp_machine.specs.Profile.{has_processor}
-use Rattle.pp_machine.proofs.ProfileLemmas.{processor_named}
+use Rattle.pp_numbers.specs.Profile.{has_processor}
+use Rattle.pp_numbers.proofs.ProfileLemmas.{processor_named}
 use Rattle.pp_word.specs.Numeral.{octal, short_octal}
-use Rattle.pp_machine.proofs.PpNoLemmas.{processor_fits}
+use Rattle.pp_numbers.proofs.PpNoLemmas.{processor_fits}
 
 -- ---- numbers
 

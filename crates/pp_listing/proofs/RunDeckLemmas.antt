@@ -11,7 +11,7 @@ use Rattle.pp_word.specs.Tables.{tabulate}
 use Rattle.pp_word.proofs.TableLemmas.{length-tabulate}
 use Rattle.pp_channel.specs.Answer.{channel_state, event_of, event_with, flags_of, flags_shown, history_after, ready_at, reply_by, reply_shown}
 use Rattle.pp_channel.proofs.AnswerLemmas.{shows_flags}
-use Rattle.pp_channel.specs.ChannelNo.{channel_count, channel_index, channel_number}
+use Rattle.pp_numbers.specs.ChannelNo.{channel_count, channel_index, channel_number}
 use Rattle.pp_channel.specs.History.{HasTwelveBitWord, HasTwelveBitWords, waiting}
 use Rattle.pp_channel.specs.declared.chan_op.ChanOp.{ChanOp}
 use Rattle.pp_channel.specs.declared.chan_op.ChanOp.TheVariants as operations
@@ -29,17 +29,17 @@ use Rattle.pp_machine.specs.MachineState.{MachineState, processor_of, history_of
 use Rattle.pp_machine.specs.MachineStep.{answer_to, histories_after, central_after, stepped}
 use Rattle.pp_machine.specs.NeedAndEffect.{need, next_step, processor_after, if_running}
 use Rattle.pp_machine.specs.PpMemory.{empty_memory}
-use Rattle.pp_machine.specs.PpNo.{names_processor, processor_count, processor_index, processor_number, processor_places}
+use Rattle.pp_numbers.specs.PpNo.{names_processor, processor_count, processor_index, processor_number, processor_places}
 use Rattle.pp_machine.specs.Processor.{Processor, IsAtRest, new_processor, no_processor}
-use Rattle.pp_machine.proofs.PpNoLemmas.{channel_of_processor}
-use Rattle.pp_machine.specs.Profile.{has_processor}
+use Rattle.pp_numbers.proofs.PpNoLemmas.{channel_of_processor}
+use Rattle.pp_numbers.specs.Profile.{has_processor}
 use Rattle.pp_machine.specs.Step.{Step, need_of, does, writes}
 use Rattle.pp_machine.specs.declared.need.Need.{Need}
 use Rattle.pp_machine.specs.declared.need.Need.TheVariants.{Nothing, Channel, Write}
 use Rattle.pp_machine.specs.declared.pp_state.PpState.{PpState}
 use Rattle.pp_machine.specs.declared.pp_state.PpState.TheVariants.{Running}
-use Rattle.pp_machine.specs.declared.profile.Profile.{Profile}
-use Rattle.pp_machine.specs.declared.profile.Profile.TheVariants.{Ten}
+use Rattle.pp_numbers.specs.declared.profile.Profile.{Profile}
+use Rattle.pp_numbers.specs.declared.profile.Profile.TheVariants.{Ten}
 use Rattle.pp_machine.proofs.MachineStepLemmas.{stepped_at_rest}
 use Rattle.pp_machine.proofs.MemoryLemmas.{zero_memory}
 use Rattle.pp_deck.specs.DeckLine.{Line}

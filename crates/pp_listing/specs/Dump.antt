@@ -1,11 +1,11 @@
 -- The dump of a deck that has run: the listing of a deck to go on from.
 use Rattle.std.specs.Prelude.{◌≡◌, ◌≤◌, Result, Ok, Err, ℕ, List, ◌++◌, length, map, Option, Some, None, slice_get, filter_map, if◌then◌else◌}
 use Rattle.std.specs.Io.KnownBytes.{Appends, Keeps}
-use Rattle.pp_channel.specs.ChannelNo.{all_channels}
+use Rattle.pp_numbers.specs.ChannelNo.{all_channels}
 use Rattle.pp_channel.specs.History.{active}
 use Rattle.pp_machine.specs.MachineState.{MachineState, new_machine, processor_of, history_of}
 use Rattle.pp_machine.specs.Processor.{Processor, new_processor}
-use Rattle.pp_machine.specs.PpNo.{all_processors}
+use Rattle.pp_numbers.specs.PpNo.{all_processors}
 use Rattle.pp_machine.specs.Run.{run}
 use Rattle.pp_machine.specs.declared.block.Block.{Block}
 use Rattle.pp_machine.specs.declared.pp_state.PpState.{PpState}

@@ -1,8 +1,8 @@
 //! Why a machine is not between programs.
 
 ghost use Rattle.std.specs.Prelude.{◌≡◌, slice_get, filter_map};
-ghost use Rattle.pp_channel.specs.ChannelNo.{all_channels};
-ghost use Rattle.pp_machine.specs.PpNo.{all_processors};
+ghost use Rattle.pp_numbers.specs.ChannelNo.{all_channels};
+ghost use Rattle.pp_numbers.specs.PpNo.{all_processors};
 ghost use Rattle.pp_listing.specs.Dump.{first_busy, busy_processor, busy_channel, in_processor};
 
 use pp_channel::{CHANNELS, ChannelNo};

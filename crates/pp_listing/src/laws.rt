@@ -3,7 +3,7 @@
 
 ghost use Rattle.std.specs.Prelude.{ℕ, ◌≡◌, ◌≤◌, List, length, None, Ok};
 ghost use Rattle.pp_deck.specs.DeckMeaning.{LoadedDeck, deck_meaning};
-ghost use Rattle.pp_machine.specs.declared.profile.Profile.{Profile};
+ghost use Rattle.pp_numbers.specs.declared.profile.Profile.{Profile};
 ghost use Rattle.pp_machine.specs.Run.{run};
 ghost use Rattle.pp_listing.specs.Dump.{after, deck_to_go_on, dump, first_busy};
 ghost use Rattle.pp_listing.specs.Listing.{listing};

@@ -2,7 +2,7 @@
 
 ghost use Rattle.std.specs.Prelude.{◌≡◌, ◌<◌, ◌^◌};
 ghost use Rattle.std.specs.List.{list_any};
-ghost use Rattle.pp_channel.specs.ChannelNo.{all_channels};
+ghost use Rattle.pp_numbers.specs.ChannelNo.{all_channels};
 ghost use Rattle.pp_machine.specs.MachineState.{is_opened};
 ghost use Rattle.pp_text.specs.TextWriter.{Prints};
 ghost use Rattle.pp_text.specs.Written.{IsWritten};

@@ -16,7 +16,7 @@ use Rattle.pp_machine.specs.declared.block.BlockKind.{BlockKind}
 use Rattle.pp_machine.specs.declared.block.BlockKind.TheVariants.{CentralIn, CentralOut, Input, Output}
 use Rattle.pp_machine.specs.declared.need.Need.TheVariants as needs
 use Rattle.pp_machine.specs.declared.pp_state.PpState.TheVariants.{Running}
-use Rattle.pp_machine.specs.declared.profile.Profile.{Profile}
+use Rattle.pp_numbers.specs.declared.profile.Profile.{Profile}
 use Rattle.pp_machine.proofs.ReplayLemmas.{Gives, Gives-cons, Gives-to}
 use Rattle.pp_machine.proofs.StoredLemmas.{stored, stored-nil, stored-cons, next-place_from, parts_of_all, stored-parts, stored-no_parts}
 

@@ -7,7 +7,7 @@ use Rattle.std.specs.List.{range_with_len}
 use Rattle.std.proofs.lemmas.Bool.{cases_Bool, cases_lt}
 use Rattle.std.proofs.lemmas.List.{append-nil, length-append, nil_from_length, get_or-take, get_or_past, length-set, length-take}
 use Rattle.std.proofs.lemmas.List.FromFn.{length-map-range_with_len, get_or-map-range_with_len, fill_by_all}
-use Rattle.pp_channel.specs.ChannelNo.{channel_places, channel_count, channel_index, channel_number, names_channel}
+use Rattle.pp_numbers.specs.ChannelNo.{channel_places, channel_count, channel_index, channel_number, names_channel}
 use Rattle.pp_channel.specs.History.{IsLawful}
 use Rattle.pp_channel.specs.Law.{KeepsLaw}
 use Rattle.pp_channel.specs.declared.event.Event.{Event}
@@ -16,8 +16,8 @@ use Rattle.pp_machine.specs.DeadStart.{IsBeforeFirstTurn, waiting_on, waits, pro
 use Rattle.pp_machine.specs.Headline.{HoldsOnChannel, HoldsOnEachChannel, events_on, opening_history, IsMachine}
 use Rattle.pp_machine.specs.MachineState.{MachineState, processor_of, history_of, is_opened}
 use Rattle.pp_machine.specs.Processor.{Processor, no_processor}
-use Rattle.pp_machine.specs.PpNo.{processor_places, names_processor, processor_count, processor_index, processor_number}
-use Rattle.pp_machine.proofs.PpNoLemmas.{channel_of_processor}
+use Rattle.pp_numbers.specs.PpNo.{processor_places, names_processor, processor_count, processor_index, processor_number}
+use Rattle.pp_numbers.proofs.PpNoLemmas.{channel_of_processor}
 
 -- a front of a list, at any place but the next
 same_in_front : (place i : ℕ) (bs : List Bool) → i ≢ place → get_or (take (place + 1) bs) i false ≡ get_or (take place bs) i false

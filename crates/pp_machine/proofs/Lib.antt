@@ -8,8 +8,6 @@ mod DeadStartLemmas
 mod QuietLemmas
 mod TakenLemmas
 -- facts of the definitions, which proofs of other crates cite
-pub mod PpNoLemmas
-pub mod ProfileLemmas
 pub mod ReplayLemmas
 pub mod MemoryLemmas
 pub mod StepLemmas

@@ -4,7 +4,7 @@ use Rattle.std.specs.Prelude.{None, Option, Some, Result, Ok, Err, OnOk, OnErr, 
 use Rattle.std.specs.Option.{option_to_list}
 use Rattle.std.proofs.lemmas.List.{set-get_or, get_or-set_same}
 use Rattle.pp_channel.specs.Answer.{channel_state, event_of, reply_by, reply_to, flags_of}
-use Rattle.pp_channel.specs.ChannelNo.{channel_index}
+use Rattle.pp_numbers.specs.ChannelNo.{channel_index}
 use Rattle.pp_channel.specs.declared.chan_op.ChanOp.{ChanOp}
 use Rattle.pp_channel.specs.declared.channel_state.ChannelState.{ChannelState}
 use Rattle.pp_channel.specs.declared.chan_op.ChanOp.TheVariants.{Probe}
@@ -18,7 +18,7 @@ use Rattle.pp_machine.specs.MachineStep.{answer_to, counted, event_for, served, 
 use Rattle.pp_machine.specs.NeedAndEffect.{need, processor_after, outcome, IsHeldAnswer, if_running, next_step}
 use Rattle.pp_machine.specs.Processor.{Processor, no_processor, IsAtRest, IsAtFault, KeepsMemoryAndRegisters}
 use Rattle.pp_machine.specs.Step.{need_of}
-use Rattle.pp_machine.specs.PpNo.{processor_index}
+use Rattle.pp_numbers.specs.PpNo.{processor_index}
 use Rattle.pp_machine.specs.declared.answer.Answer.TheVariants as answers
 use Rattle.pp_machine.specs.declared.need.Need.{Need}
 use Rattle.pp_machine.specs.declared.need.Need.TheVariants.{Nothing, Local, Channel, Read, Write}

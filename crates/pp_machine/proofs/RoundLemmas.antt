@@ -6,13 +6,13 @@ use Rattle.pp_machine.specs.MachineState.{MachineState, processor_of}
 use Rattle.pp_machine.specs.MachineStep.{answer_to, stepped, step_event}
 use Rattle.pp_machine.specs.NeedAndEffect.{need, processor_after}
 use Rattle.pp_machine.specs.Processor.{Processor, no_processor, IsAtRest}
-use Rattle.pp_machine.specs.PpNo.{processor_count, processor_index}
-use Rattle.pp_machine.specs.Profile.{processors_in, processor_in_turn}
-use Rattle.pp_machine.specs.declared.profile.Profile.{Profile}
+use Rattle.pp_numbers.specs.PpNo.{processor_count, processor_index}
+use Rattle.pp_numbers.specs.Profile.{processors_in, processor_in_turn}
+use Rattle.pp_numbers.specs.declared.profile.Profile.{Profile}
 use Rattle.pp_machine.specs.Rounds.{RestBetween, PassesOverRest, IsCut, whole_rounds}
 use Rattle.pp_machine.specs.Run.{MakesEvent, run, barrel}
 use Rattle.pp_machine.proofs.MachineStepLemmas.{stepped_at_rest}
-use Rattle.pp_machine.proofs.ProfileLemmas.{index_in_turn, in_round, more_rounds, fewer_rounds}
+use Rattle.pp_numbers.proofs.ProfileLemmas.{index_in_turn, in_round, more_rounds, fewer_rounds}
 use Rattle.pp_machine.proofs.RunLemmas.{run-append, run_profile, barrel_more}
 
 -- a step changes no other processor

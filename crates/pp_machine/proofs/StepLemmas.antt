@@ -12,7 +12,7 @@ use Rattle.pp_machine.specs.InstructionTable.{row, works_on_channel}
 use Rattle.pp_machine.specs.NeedAndEffect.{answered, step_of, next_step, is_held, need, processor_after, outcome, IsHeldAnswer, if_running}
 use Rattle.pp_machine.specs.Operand.{operation, lower_six}
 use Rattle.pp_machine.specs.Processor.{Processor, IsAtRest, IsAtFault, KeepsMemoryAndRegisters}
-use Rattle.pp_machine.specs.Profile.{has_channel}
+use Rattle.pp_numbers.specs.Profile.{has_channel}
 use Rattle.pp_machine.specs.Step.{Step, need_of, local, probes, takes, does, reads, writes}
 use Rattle.pp_machine.specs.declared.answer.Answer.{Answer}
 use Rattle.pp_machine.specs.declared.answer.Answer.TheVariants as answers

@@ -11,7 +11,7 @@ use Rattle.pp_channel.specs.declared.reply.Reply.TheVariants.{Done, Word, Held}
 use Rattle.pp_machine.specs.Block.{central_from, keeps_place}
 use Rattle.pp_machine.specs.NeedAndEffect.{need}
 use Rattle.pp_machine.specs.Operand.{operation, lower_six, second_word}
-use Rattle.pp_machine.specs.Profile.{has_channel}
+use Rattle.pp_numbers.specs.Profile.{has_channel}
 use Rattle.pp_machine.specs.Processor.{Processor, word_at}
 use Rattle.pp_machine.specs.Replay.{replayed, given_count}
 use Rattle.pp_machine.specs.declared.answer.Answer.{Answer}

@@ -3,15 +3,15 @@
 -- from place 0000 on, from the channel of its own number, which is active and empty.)
 use Rattle.std.specs.Prelude.{◌≡◌, ℕ, ◌≤◌, ◌&&◌, Bool, false, true, IsTrue, List, [], ◌∷◌, Some, map, if◌then◌else◌, slice_index_or, slice_set}
 use Rattle.std.specs.List.{range_with_len}
-use Rattle.pp_channel.specs.ChannelNo.{channel_count, channel_index, channel_number, names_channel}
+use Rattle.pp_numbers.specs.ChannelNo.{channel_count, channel_index, channel_number, names_channel}
 use Rattle.pp_channel.specs.declared.event.Event.{Event}
 use Rattle.pp_machine.specs.MachineState.{MachineState, processor_of, history_of}
 use Rattle.pp_machine.specs.Processor.{Processor}
-use Rattle.pp_machine.specs.PpNo.{names_processor, processor_count, processor_index, processor_number}
-use Rattle.pp_machine.specs.Profile.{processors_in}
+use Rattle.pp_numbers.specs.PpNo.{names_processor, processor_count, processor_index, processor_number}
+use Rattle.pp_numbers.specs.Profile.{processors_in}
 use Rattle.pp_machine.specs.declared.block.BlockKind.TheVariants.{Input}
 use Rattle.pp_machine.specs.declared.pp_state.PpState.TheVariants.{Running}
-use Rattle.pp_machine.specs.declared.profile.Profile.{Profile}
+use Rattle.pp_numbers.specs.declared.profile.Profile.{Profile}
 
 -- a processor that waits for its program: a block input from channel c, with places from 0000 on, P
 -- 0000 and A 010000

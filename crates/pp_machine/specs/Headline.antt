@@ -1,12 +1,12 @@
 -- What holds of each channel of a machine after any list of steps, and of every machine.
 use Rattle.std.specs.Prelude.{◌≡◌, ℕ, IsTrue, ◌==◌, List, [], ◌∷◌, ◌++◌, Some, None, if◌then◌else◌, filter_map, length}
-use Rattle.pp_channel.specs.ChannelNo.{names_channel, channel_count}
+use Rattle.pp_numbers.specs.ChannelNo.{names_channel, channel_count}
 use Rattle.pp_channel.specs.History.{IsLawful}
 use Rattle.pp_channel.specs.Law.{KeepsLaw}
 use Rattle.pp_channel.specs.declared.event.Event.{Event}
 use Rattle.pp_machine.specs.MachineState.{MachineState, history_of, is_opened}
 use Rattle.pp_machine.specs.Central.{IsCentral}
-use Rattle.pp_machine.specs.PpNo.{processor_count}
+use Rattle.pp_numbers.specs.PpNo.{processor_count}
 use Rattle.pp_machine.specs.declared.trace.Trace.{Trace}
 
 -- the events of a trace on channel c, in order

@@ -13,7 +13,7 @@ use Rattle.pp_machine.specs.Block.{receives, central_from, starts}
 use Rattle.pp_machine.specs.Effect.{goes_on, goes_to, faults, jumps_or_stops, jumps_where, branches_where, calls, is_negative, low_of, loads, loads_word, adds_word, subtracts_word, differs_from_word, stores_word, replaces_by_sum, replaces_by_one_more, replaces_by_one_less}
 use Rattle.pp_machine.specs.Operand.{second_word, index, constant}
 use Rattle.pp_machine.specs.Processor.{Processor, word_at, exchange_jump, no_central_processor, no_such_channel}
-use Rattle.pp_machine.specs.Profile.{has_channel}
+use Rattle.pp_numbers.specs.Profile.{has_channel}
 use Rattle.pp_machine.specs.Step.{Step, local, probes, takes, does, reads, writes}
 use Rattle.pp_machine.specs.declared.block.BlockKind.TheVariants.{CentralIn, CentralOut, Input, Output}
 

@@ -1,5 +1,3 @@
-pub mod PpNo
-pub mod Profile
 pub mod PpMemory
 pub mod Processor
 pub mod Operand

@@ -2,12 +2,12 @@
 -- (Manual 60100000, part on peripheral and control processors: the processors have memories of
 -- their own and share central memory and the data channels.)
 use Rattle.std.specs.Prelude.{ℕ, Bool, false, List, [], slice_index_or, replicate}
-use Rattle.pp_channel.specs.ChannelNo.{channel_count, channel_index}
+use Rattle.pp_numbers.specs.ChannelNo.{channel_count, channel_index}
 use Rattle.pp_channel.specs.History.{history_on}
 use Rattle.pp_channel.specs.declared.event.Event.{Event}
 use Rattle.pp_machine.specs.Processor.{Processor, new_processor, no_processor}
-use Rattle.pp_machine.specs.PpNo.{processor_count, processor_index}
-use Rattle.pp_machine.specs.declared.profile.Profile.{Profile}
+use Rattle.pp_numbers.specs.PpNo.{processor_count, processor_index}
+use Rattle.pp_numbers.specs.declared.profile.Profile.{Profile}
 use Rattle.pp_machine.specs.declared.trace.Trace.{Trace}
 
 -- its profile, the processors in the order of the barrel, the history of each channel, the central

@@ -2,15 +2,15 @@
 //! rounds that are quiet are made processor by processor, and processors at rest are passed over.
 
 ghost use Rattle.std.specs.Prelude.{◌≡◌, ◌*◌, ◌<◌, ◌≤◌, length, IfErr, OnOk};
-ghost use Rattle.pp_machine.specs.PpNo.{processor_count};
+ghost use Rattle.pp_numbers.specs.PpNo.{processor_count};
 ghost use Rattle.pp_machine.specs.Rounds.{RestBetween, PassesOverRest};
 
 use crate::cut::Cut;
 use crate::machine::Machine;
 use crate::pp::Pp;
-use crate::pp_no::{PROCESSORS, PpNo};
 use crate::pp_state::PpState;
 use crate::quiet::run_ahead;
+use pp_numbers::{PROCESSORS, PpNo};
 use std::alloc::Allocator;
 
 /// The fewest and the most rounds that the barrel tries to make quietly at once (decimal). A window
@@ -35,9 +35,9 @@ const LONG_QUIET: u32 = 2048;
 
 impl<A: Allocator> Machine<A> {
     ghost use Rattle.pp_machine.specs.Headline.{HoldsOnEachChannel};
-    ghost use Rattle.pp_machine.specs.Profile.{processors_in};
+    ghost use Rattle.pp_numbers.specs.Profile.{processors_in};
     ghost use Rattle.pp_machine.specs.Rounds.{whole_rounds, IsCut};
-    ghost use Rattle.pp_machine.specs.declared.profile.Profile.{Profile};
+    ghost use Rattle.pp_numbers.specs.declared.profile.Profile.{Profile};
     ghost use Rattle.pp_machine.specs.MachineState.{MachineState};
     ghost use Rattle.pp_machine.specs.Run.{IsCutAtEvent, IsRunOf, run, barrel};
 

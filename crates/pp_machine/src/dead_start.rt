@@ -2,11 +2,11 @@
 
 ghost use Rattle.std.specs.Prelude.{◌≡◌, ◌≤◌, ◌<◌, [], ◌∷◌, take, vec_len, slice_set, IsTrue, IfOk, OnOk, OnErr};
 ghost use Rattle.pp_channel.specs.declared.event.Event.TheVariants.{Activate};
-ghost use Rattle.pp_machine.specs.PpNo.{processor_count, names_processor};
+ghost use Rattle.pp_numbers.specs.PpNo.{processor_count, names_processor};
 
 use crate::machine::Machine;
-use crate::pp_no::{PROCESSORS, PpNo};
 use pp_channel::{ChanOp, Channel, ChannelNo, Memory};
+use pp_numbers::{PROCESSORS, PpNo};
 use std::alloc::Allocator;
 
 impl<A: Allocator> Machine<A> {
@@ -81,7 +81,7 @@ impl<A: Allocator> Machine<A> {
 }
 
 /// The channel of the processor's own number.
-#[tactic(auto, using(crate::proofs::PpNoLemmas::channel_of_processor))]
+#[tactic(auto, using(pp_numbers::proofs::PpNoLemmas::channel_of_processor))]
 fn own_channel(n: PpNo) -> ChannelNo
     ensures value { result ≡ n }
     ensures named { IsTrue (names_processor n) }

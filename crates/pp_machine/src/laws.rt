@@ -1,7 +1,7 @@
 //! A law of runs. The function does nothing: its contract says what is proved of the definitions.
 
 ghost use Rattle.std.specs.Prelude.{◌≡◌, ℕ, List, length};
-ghost use Rattle.pp_channel.specs.ChannelNo.{channel_count};
+ghost use Rattle.pp_numbers.specs.ChannelNo.{channel_count};
 ghost use Rattle.pp_machine.specs.Headline.{HoldsOnEachChannel};
 ghost use Rattle.pp_machine.specs.MachineState.{MachineState};
 ghost use Rattle.pp_machine.specs.Run.{run};

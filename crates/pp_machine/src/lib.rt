@@ -13,9 +13,7 @@ mod need;
 mod outcome;
 mod pp;
 mod pp_memory;
-mod pp_no;
 mod pp_state;
-mod profile;
 mod quiet;
 mod replay;
 mod run;
@@ -31,10 +29,9 @@ pub use machine::Machine;
 pub use need::Need;
 pub use outcome::Outcome;
 pub use pp::Pp;
-pub use pp_no::{PROCESSORS, PpNo};
+pub use pp_numbers::{PROCESSORS, PpNo, Profile};
 pub use pp_state::{
     EXCHANGE_JUMP, NO_CENTRAL_PROCESSOR, NO_SUCH_CHANNEL, PAST_CENTRAL_MEMORY, PpState,
 };
-pub use profile::Profile;
 pub use replay::fits;
 pub use trace::Trace;

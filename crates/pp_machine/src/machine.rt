@@ -2,19 +2,18 @@
 
 ghost use Rattle.std.specs.Prelude.{◌≡◌, ◌<◌, ℕ, ◌++◌, [], length, replicate, slice_index_or, slice_set, IfOk, OnOk, OnErr, IsErrOf, IsTrue, ◌↔◌, vec_len};
 ghost use Rattle.std.specs.Bool.{OnFalse};
-ghost use Rattle.pp_channel.specs.ChannelNo.{channel_count, channel_index, names_channel};
+ghost use Rattle.pp_numbers.specs.ChannelNo.{channel_count, channel_index, names_channel};
 ghost use Rattle.pp_channel.specs.History.{IsLawful};
 ghost use Rattle.pp_channel.specs.Law.{KeepsLaw};
 ghost use Rattle.pp_machine.specs.Headline.{HoldsOnChannel};
-ghost use Rattle.pp_machine.specs.PpNo.{processor_count};
+ghost use Rattle.pp_numbers.specs.PpNo.{processor_count};
 ghost use Rattle.pp_machine.specs.Processor.{new_processor};
 
 use crate::central::{Central, CentralFault};
 use crate::pp::Pp;
-use crate::pp_no::{PROCESSORS, PpNo};
-use crate::profile::Profile;
 use crate::trace::Trace;
 use pp_channel::{CHANNELS, Channel, ChannelNo, Memory};
+use pp_numbers::{PROCESSORS, PpNo, Profile};
 use pp_word::{Word18, Word60};
 use std::alloc::{AllocError, Allocator};
 use std::marker::Model;
@@ -66,7 +65,7 @@ impl<A: Allocator> Machine<A> {
     /// A machine of this profile, with central memory of `size` words, all 0: its processors as
     /// `Pp::new(profile)`, its channels without history, no turn counted. Processors and channels
     /// that the profile lacks come after the others, and have no turn of the barrel.
-    #[tactic(auto, using(pp_channel::specs::ChannelNo::channel_places))]
+    #[tactic(auto, using(pp_numbers::specs::ChannelNo::channel_places))]
     pub fn new(alloc: A, profile: Profile, size: u32) -> Result<Self, CentralFault>
     where
         A: Copy,

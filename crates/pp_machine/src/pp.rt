@@ -12,15 +12,15 @@ mod step;
 
 ghost use Rattle.std.specs.Prelude.{◌≡◌, ◌↔◌, IsTrue, IsSome, IfSome};
 ghost use Rattle.pp_machine.specs.Processor.{IsProcessor, HasFaultNumber, IsBlockIn, new_processor, word_at};
-ghost use Rattle.pp_machine.specs.Profile.{has_channel};
+ghost use Rattle.pp_numbers.specs.Profile.{has_channel};
 
 use crate::block::Block;
 use crate::pp_memory::PpMemory;
 use crate::pp_state::PpState;
-use crate::profile::Profile;
 pub(crate) use block_law::block_results;
 pub(crate) use next_step::ends;
 use pp_channel::ChannelNo;
+use pp_numbers::Profile;
 use pp_word::{Word6, Word12, Word18};
 use std::marker::Model;
 

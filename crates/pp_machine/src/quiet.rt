@@ -2,10 +2,10 @@
 
 ghost use Rattle.std.specs.Prelude.{◌≡◌, ◌-◌, ◌<◌, ◌≤◌, [], None, IfSome, IsNone, IsSome, IsTrue, false, length, slice_index_or, vec_len};
 ghost use Rattle.pp_channel.specs.Answer.{event_of, reply_to};
-ghost use Rattle.pp_channel.specs.ChannelNo.{channel_count, channel_index};
+ghost use Rattle.pp_numbers.specs.ChannelNo.{channel_count, channel_index};
 ghost use Rattle.pp_machine.specs.MachineState.{MachineState};
 ghost use Rattle.pp_machine.specs.NeedAndEffect.{need};
-ghost use Rattle.pp_machine.specs.PpNo.{processor_count};
+ghost use Rattle.pp_numbers.specs.PpNo.{processor_count};
 ghost use Rattle.pp_machine.specs.Quiet.{is_quiet, IsAhead, AreAhead};
 ghost use Rattle.pp_machine.specs.Replay.{reply_fits};
 

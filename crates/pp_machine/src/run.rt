@@ -4,7 +4,7 @@ ghost use Rattle.std.specs.Prelude.{◌≡◌, ◌<◌, length, take, slice_inde
 
 use crate::cut::Cut;
 use crate::machine::Machine;
-use crate::pp_no::PpNo;
+use pp_numbers::PpNo;
 use std::alloc::Allocator;
 
 impl<A: Allocator> Machine<A> {

@@ -2,24 +2,23 @@
 
 ghost use Rattle.std.specs.Prelude.{◌≡◌, ◌<◌, [], None, Some, vec_len, slice_set, slice_index_or, if◌then◌else◌, IfOk, IsOk, IsNone, OnOk, OnErr};
 ghost use Rattle.pp_channel.specs.Answer.{event_of, reply_to, history_after};
-ghost use Rattle.pp_channel.specs.ChannelNo.{channel_count, channel_index};
+ghost use Rattle.pp_numbers.specs.ChannelNo.{channel_count, channel_index};
 ghost use Rattle.pp_channel.specs.History.{IsLawful, HasTwelveBitWord};
 ghost use Rattle.pp_channel.specs.Law.{KeepsLaw};
 ghost use Rattle.pp_machine.specs.NextStep.{IsAtInstruction, IsNext};
 ghost use Rattle.pp_machine.specs.NeedAndEffect.{need};
-ghost use Rattle.pp_machine.specs.PpNo.{processor_index};
-ghost use Rattle.pp_machine.specs.Profile.{has_channel, processors_in};
+ghost use Rattle.pp_numbers.specs.PpNo.{processor_index};
+ghost use Rattle.pp_numbers.specs.Profile.{has_channel, processors_in};
 ghost use Rattle.pp_machine.specs.Processor.{IsAtRest, IsAtFault, KeepsMemoryAndRegisters};
 
 use crate::answer::Answer;
 use crate::machine::Machine;
 use crate::need::Need;
 use crate::outcome::Outcome;
-use crate::pp_no::PpNo;
 use crate::pp_state::PpState;
-use crate::profile::Profile;
 use crate::trace::Trace;
 use pp_channel::{ChanOp, Channel, ChannelNo, Event, Memory, Reply};
+use pp_numbers::{PpNo, Profile};
 use pp_word::{Opcode, Word6};
 use std::alloc::Allocator;
 

@@ -1,7 +1,7 @@
 //! The record of the events that a machine's steps made.
 
-use crate::pp_no::PpNo;
 use pp_channel::{ChannelNo, Event};
+use pp_numbers::PpNo;
 
 /// One event of a machine.
 #[derive(Clone, Copy, PartialEq, Eq)]

@@ -3,9 +3,9 @@ use Rattle.std.proofs.Common.{◌≡◌, ℕ, ◌%◌, ◌<◌, List, [], length
 use Rattle.std.specs.Prelude.{replicate}
 use Rattle.std.proofs.lemmas.List.{get_or-replicate}
 use Rattle.pp_channel.specs.Answer.{flags_of}
-use Rattle.pp_channel.specs.ChannelNo.{channel_count, channel_index, channel_number, channel_places}
+use Rattle.pp_numbers.specs.ChannelNo.{channel_count, channel_index, channel_number, channel_places}
 use Rattle.pp_machine.specs.MachineState.{MachineState, history_of}
-use Rattle.pp_machine.specs.PpNo.{processor_index, processor_places}
+use Rattle.pp_numbers.specs.PpNo.{processor_index, processor_places}
 use Rattle.pp_races.specs.FlagSets.{look_at, no_looks}
 use Rattle.pp_races.specs.Tables.{AreLooks, AreLow, IsLow, entry_count, entry_place, looks_of, no_low}
 use Rattle.pp_races.specs.Watch.{unwatched}

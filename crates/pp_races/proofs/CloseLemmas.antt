@@ -3,9 +3,9 @@ use Rattle.std.proofs.Common.{◌≡◌, ◌≢◌, ℕ, ◌+◌, ◌<◌, ◌�
 use Rattle.std.specs.Prelude.{◌==◌, ◌||◌, is_some, if◌then◌else◌}
 use Rattle.std.proofs.lemmas.Bool.{cases_eq, cases_lt}
 use Rattle.std.proofs.lemmas.List.{get_or-set_same}
-use Rattle.pp_channel.specs.ChannelNo.{names_channel}
+use Rattle.pp_numbers.specs.ChannelNo.{names_channel}
 use Rattle.pp_channel.specs.declared.flags.Flags.{Flags}
-use Rattle.pp_machine.specs.PpNo.{names_processor, processor_count, processor_index, processor_number, processor_places}
+use Rattle.pp_numbers.specs.PpNo.{names_processor, processor_count, processor_index, processor_number, processor_places}
 use Rattle.pp_machine.specs.declared.trace.Trace.{Trace}
 use Rattle.pp_races.specs.FlagSets.{look_at, no_looks}
 use Rattle.pp_races.specs.Tables.{closing_findings, entry_count, entry_place, looks_after_event, looks_of}

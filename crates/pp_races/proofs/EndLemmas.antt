@@ -4,12 +4,12 @@ use Rattle.std.specs.Prelude.{not, if◌then◌else◌}
 use Rattle.pp_word.specs.Tables.{tabulate}
 use Rattle.pp_word.proofs.TableLemmas.{tabulate_same}
 use Rattle.pp_channel.specs.Answer.{flags_of}
-use Rattle.pp_channel.specs.ChannelNo.{names_channel}
+use Rattle.pp_numbers.specs.ChannelNo.{names_channel}
 use Rattle.pp_channel.specs.declared.chan_op.ChanOp.{ChanOp}
 use Rattle.pp_channel.specs.declared.event.Event.{Event}
 use Rattle.pp_channel.specs.declared.flags.Flags.{Flags}
 use Rattle.pp_machine.specs.MachineState.{MachineState, processor_of, history_of}
-use Rattle.pp_machine.specs.PpNo.{each_processor, names_processor, processor_count, processor_number, processor_places}
+use Rattle.pp_numbers.specs.PpNo.{each_processor, names_processor, processor_count, processor_number, processor_places}
 use Rattle.pp_machine.specs.Processor.{Processor}
 use Rattle.pp_machine.specs.declared.need.Need.TheVariants.{Channel}
 use Rattle.pp_machine.specs.declared.trace.Trace.{Trace}

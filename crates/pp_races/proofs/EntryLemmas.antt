@@ -3,8 +3,8 @@ use Rattle.std.proofs.Common.{◌≡◌, ℕ, ◌*◌, ◌<◌, Bool, true, fals
 use Rattle.std.specs.Prelude.{◌==◌, ◌&&◌, ◌⊎◌, if◌then◌else◌}
 use Rattle.std.proofs.lemmas.Bool.{cases_eq, eq-eqb, eqb-true}
 use Rattle.std.proofs.lemmas.List.{get_or-set_other}
-use Rattle.pp_channel.specs.ChannelNo.{channel_count, channel_index, names_channel, channel_places}
-use Rattle.pp_machine.specs.PpNo.{processor_count, processor_index, names_processor, processor_places}
+use Rattle.pp_numbers.specs.ChannelNo.{channel_count, channel_index, names_channel, channel_places}
+use Rattle.pp_numbers.specs.PpNo.{processor_count, processor_index, names_processor, processor_places}
 use Rattle.pp_races.specs.Tables.{entry_place}
 use Rattle.pp_races.specs.Watch.{put}
 

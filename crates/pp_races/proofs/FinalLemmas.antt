@@ -6,12 +6,12 @@ use Rattle.std.proofs.lemmas.List.{get_or_past, take_all}
 use Rattle.std.proofs.lemmas.List.Sums.{sum_by-cons}
 use Rattle.pp_word.proofs.TableLemmas.{get_or-tabulate}
 use Rattle.pp_channel.specs.Answer.{flags_of}
-use Rattle.pp_channel.specs.ChannelNo.{channel_count}
+use Rattle.pp_numbers.specs.ChannelNo.{channel_count}
 use Rattle.pp_channel.specs.declared.chan_op.ChanOp.{ChanOp}
 use Rattle.pp_channel.specs.declared.event.Event.{Event}
 use Rattle.pp_machine.specs.MachineState.{MachineState, processor_of, history_of}
 use Rattle.pp_machine.specs.NeedAndEffect.{need}
-use Rattle.pp_machine.specs.PpNo.{each_processor, names_processor, processor_count, processor_index, processor_number, processor_places}
+use Rattle.pp_numbers.specs.PpNo.{each_processor, names_processor, processor_count, processor_index, processor_number, processor_places}
 use Rattle.pp_machine.specs.Processor.{no_processor}
 use Rattle.pp_machine.specs.Run.{run}
 use Rattle.pp_machine.specs.declared.need.Need.{Need}

@@ -18,7 +18,7 @@ use Rattle.pp_machine.specs.InstructionTable.{table, works_on_channel}
 use Rattle.pp_machine.specs.NeedAndEffect.{answered, if_running, need, next_step, processor_after, step_of}
 use Rattle.pp_machine.specs.Operand.{lower_six, operation, second_word}
 use Rattle.pp_machine.specs.Processor.{Processor, word_at}
-use Rattle.pp_machine.specs.Profile.{has_channel}
+use Rattle.pp_numbers.specs.Profile.{has_channel}
 use Rattle.pp_machine.specs.Step.{Step, need_of, local, probes, takes, does}
 use Rattle.pp_machine.specs.declared.answer.Answer.{Answer}
 use Rattle.pp_machine.specs.declared.block.Block.{Block}

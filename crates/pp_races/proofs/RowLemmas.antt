@@ -7,7 +7,7 @@ use Rattle.std.proofs.lemmas.Bool.{cases_eq, cases_lt}
 use Rattle.std.proofs.lemmas.Nat.{mod-mul-add}
 use Rattle.std.proofs.lemmas.List.{drop-append-le, drop_all, get_or-replicate, get_or-set_other, get_or-set_same, get_or_append_left, get_or_default, get_or_push, length-drop, length-replicate, length-set, length_push, take-append-le, take_all}
 use Rattle.pp_channel.specs.Answer.{flags_after}
-use Rattle.pp_channel.specs.ChannelNo.{channel_count, channel_index, names_channel, channel_places}
+use Rattle.pp_numbers.specs.ChannelNo.{channel_count, channel_index, names_channel, channel_places}
 use Rattle.pp_channel.specs.declared.flags.Flags.{Flags}
 use Rattle.pp_machine.specs.declared.trace.Trace.{Trace}
 use Rattle.pp_races.specs.FlagSets.{has}

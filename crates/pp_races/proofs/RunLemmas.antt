@@ -3,18 +3,18 @@ use Rattle.std.proofs.Common.{◌≡◌, ℕ, zero, suc, ◌+◌, ◌<◌, Bool,
 use Rattle.std.specs.Prelude.{◌==◌, ◌&&◌, if◌then◌else◌}
 use Rattle.std.proofs.lemmas.Bool.{and_from, cases_lt, eq-eqb, or_left, or_right}
 use Rattle.pp_channel.specs.Answer.{event_of, flags_of}
-use Rattle.pp_channel.specs.ChannelNo.{channel_count}
+use Rattle.pp_numbers.specs.ChannelNo.{channel_count}
 use Rattle.pp_channel.specs.declared.chan_op.ChanOp.{ChanOp}
 use Rattle.pp_channel.specs.declared.event.Event.{Event}
 use Rattle.pp_machine.specs.MachineState.{MachineState, processor_of, history_of}
 use Rattle.pp_machine.specs.MachineStep.{stepped}
 use Rattle.pp_machine.specs.NeedAndEffect.{need}
-use Rattle.pp_machine.specs.PpNo.{names_processor, processor_count}
-use Rattle.pp_machine.specs.Profile.{processor_in_turn}
+use Rattle.pp_numbers.specs.PpNo.{names_processor, processor_count}
+use Rattle.pp_numbers.specs.Profile.{processor_in_turn}
 use Rattle.pp_machine.specs.Run.{run, barrel}
 use Rattle.pp_machine.proofs.RunLemmas.{length-barrel, run-append}
 use Rattle.pp_machine.specs.declared.need.Need.{Need}
-use Rattle.pp_machine.specs.declared.profile.Profile.{Profile}
+use Rattle.pp_numbers.specs.declared.profile.Profile.{Profile}
 use Rattle.pp_run.proofs.RunStepLemmas.{take_barrel, turn_of_barrel}
 use Rattle.pp_run.specs.Determinacy.{IsDeterminate, UsesAt, WritesAt, at_moment, need_at}
 use Rattle.pp_run.proofs.Moments.{moment_next, moment_each, mono, run_central, run_processors}

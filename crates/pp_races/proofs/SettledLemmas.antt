@@ -14,7 +14,7 @@ use Rattle.pp_machine.specs.declared.block.BlockKind.TheVariants.{Input}
 use Rattle.pp_machine.specs.declared.need.Need.{Need}
 use Rattle.pp_machine.specs.declared.pp_state.PpState.{PpState}
 use Rattle.pp_machine.specs.declared.pp_state.PpState.TheVariants.{Running}
-use Rattle.pp_machine.specs.declared.profile.Profile.{Profile}
+use Rattle.pp_numbers.specs.declared.profile.Profile.{Profile}
 use Rattle.pp_races.specs.Findings.{same_profile, same_words, stays_running}
 use Rattle.pp_races.specs.OtherFlags.{is_same, position_of}
 use Rattle.pp_races.proofs.PositionLemmas.{position_same}

@@ -18,7 +18,7 @@ use Rattle.pp_races.proofs.SoundLemmas.{none_first}
 use Rattle.pp_races.proofs.VerdictLemmas.{same_none}
 use Rattle.pp_machine.specs.MachineState.{MachineState}
 use Rattle.pp_machine.specs.Run.{barrel}
-use Rattle.pp_machine.specs.declared.profile.Profile.{Profile}
+use Rattle.pp_numbers.specs.declared.profile.Profile.{Profile}
 use Rattle.pp_races.specs.Findings.{findings}
 use Rattle.pp_races.specs.Watch.{unwatched, watched}
 use Rattle.pp_races.proofs.GrowLemmas.{begins_so_far}

@@ -10,7 +10,7 @@ use Rattle.pp_channel.specs.Answer.{flags_of}
 use Rattle.pp_channel.specs.declared.chan_op.ChanOp.{ChanOp}
 use Rattle.pp_channel.specs.declared.event.Event.{Event}
 use Rattle.pp_machine.specs.MachineState.{MachineState, processor_of, history_of}
-use Rattle.pp_machine.specs.PpNo.{names_processor, processor_index, processor_places}
+use Rattle.pp_numbers.specs.PpNo.{names_processor, processor_index, processor_places}
 use Rattle.pp_races.specs.Tables.{AreUses, has_bit, unused}
 use Rattle.pp_races.specs.OtherFlags.{waits_at}
 use Rattle.pp_races.specs.Watch.{Watch, asked, looked, unwatched}

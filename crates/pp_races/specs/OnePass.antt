@@ -2,7 +2,7 @@
 -- known whether it determines the result of every order. (Private contracts alone cite this.)
 use Rattle.std.specs.Prelude.{◌≡◌, ℕ, suc, ◌+◌, ◌<◌, ◌≤◌, Bool, true, IsTrue, List, length, take, Some, ◌++◌, ◌∷◌, [], ◌⊎◌, slice_index, ◌≢◌}
 use Rattle.pp_channel.specs.Answer.{event_of, flags_of}
-use Rattle.pp_channel.specs.ChannelNo.{names_channel}
+use Rattle.pp_numbers.specs.ChannelNo.{names_channel}
 use Rattle.pp_channel.specs.declared.chan_op.ChanOp.{ChanOp}
 use Rattle.pp_channel.specs.declared.event.Event.{Event}
 use Rattle.pp_channel.specs.declared.flags.Flags.{Flags}

@@ -1,7 +1,7 @@
 -- An index of the trace, by spans of it: which flags the events of a channel in a span found.
 -- (Private contracts alone cite this.)
 use Rattle.std.specs.Prelude.{◌≡◌, ℕ, ◌+◌, ◌*◌, ◌<◌, ◌≤◌, ◌⊎◌, Bool, true, false, IsTrue, List, [], Option, None, Some, drop, length, slice_index_or, take}
-use Rattle.pp_channel.specs.ChannelNo.{channel_count, channel_index, names_channel}
+use Rattle.pp_numbers.specs.ChannelNo.{channel_count, channel_index, names_channel}
 use Rattle.pp_channel.specs.declared.flags.Flags.{Flags}
 use Rattle.pp_machine.specs.declared.trace.Trace.{Trace}
 use Rattle.pp_races.specs.FlagSets.{by_flags, has, no_flags}

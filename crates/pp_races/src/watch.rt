@@ -2,12 +2,12 @@
 
 ghost use Rattle.std.specs.Prelude.{◌≡◌, ℕ, ◌++◌, ◌+◌, ◌<◌, ◌==◌, Some, None, IsTrue, List, OnOk, OnErr, length, false, true, slice_set, if◌then◌else◌};
 ghost use Rattle.pp_channel.specs.Answer.{event_of, flags_of};
-ghost use Rattle.pp_channel.specs.ChannelNo.{names_channel};
+ghost use Rattle.pp_numbers.specs.ChannelNo.{names_channel};
 ghost use Rattle.pp_channel.specs.declared.flags.Flags.{Flags};
 ghost use Rattle.pp_machine.specs.MachineState.{MachineState, history_of, processor_of};
 ghost use Rattle.pp_machine.specs.MachineStep.{stepped};
 ghost use Rattle.pp_machine.specs.NeedAndEffect.{need};
-ghost use Rattle.pp_machine.specs.PpNo.{names_processor};
+ghost use Rattle.pp_numbers.specs.PpNo.{names_processor};
 ghost use Rattle.pp_machine.specs.declared.need.Need.{Need};
 ghost use Rattle.pp_races.specs.OtherFlags.{waits_at};
 ghost use Rattle.pp_races.specs.Soundness.{AsksLawfulChannel};
@@ -29,8 +29,8 @@ use pp_word::{Word18, Word60};
 use std::alloc::Allocator;
 
 /// The place of the entry of a processor and a channel.
-#[tactic(auto, using(pp_machine::specs::PpNo::processor_places, // places
-pp_channel::specs::ChannelNo::channel_places))]
+#[tactic(auto, using(pp_numbers::specs::PpNo::processor_places, // places
+pp_numbers::specs::ChannelNo::channel_places))]
 pub(crate) fn entry_place(n: PpNo, c: ChannelNo) -> usize
     ensures place { result ≡ entry_place n c }
     ensures within { result < entry_count }

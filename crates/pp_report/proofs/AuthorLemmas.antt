@@ -9,10 +9,10 @@ use Rattle.std.proofs.lemmas.Bool.{lt-ltb}
 use Rattle.std.proofs.Math.Bool.{or-false, or-true}
 use Rattle.std.proofs.lemmas.List.{get_or_default, length-take-le}
 use Rattle.std.proofs.lemmas.List.Sums.{count_by_more_no, count_by_more_yes}
-use Rattle.pp_channel.specs.ChannelNo.{channel_count, channel_index, names_channel}
+use Rattle.pp_numbers.specs.ChannelNo.{channel_count, channel_index, names_channel}
 use Rattle.pp_channel.specs.History.{history_on}
 use Rattle.pp_report.specs.Types.{Entry, Event, Worker}
-use Rattle.pp_machine.specs.PpNo.{processor_count, processor_number}
+use Rattle.pp_numbers.specs.PpNo.{processor_count, processor_number}
 use Rattle.pp_report.specs.Authors.{AreAuthors, AreAuthorsOn, AreMarked, authors_on, or_known}
 use Rattle.pp_report.specs.PrintedReport.{author_place}
 

@@ -8,7 +8,7 @@ use Rattle.std.proofs.lemmas.List.Kept.{AllPairs-cons}
 use Rattle.pp_word.specs.Subsequence.{IsSubsequence}
 use Rattle.pp_word.proofs.Subsequences.{stands_after, stands_through, stands_whole}
 use Rattle.pp_word.specs.GappedNumbers.{index_of, is_number}
-use Rattle.pp_channel.specs.ChannelNo.{channel_index, names_channel, channel_places}
+use Rattle.pp_numbers.specs.ChannelNo.{channel_index, names_channel, channel_places}
 use Rattle.pp_channel.specs.History.{AreHistories, HasTwelveBitWord, HasTwelveBitWords, IsLawful, history_on}
 use Rattle.pp_line.specs.LineLog.{IsFollowedBy, IsMonotone, event_entry}
 use Rattle.pp_line.specs.Merge.{IsTrueOf, Merges, no_opening, times_logged}

@@ -4,11 +4,11 @@ use Rattle.std.specs.Prelude.{IsTrue, slice_index_or}
 use Rattle.std.proofs.lemmas.Bool.{cases_lt}
 use Rattle.std.proofs.lemmas.List.{get_or_default, get_or_past}
 use Rattle.pp_machine.specs.MachineState.{MachineState, processor_of}
-use Rattle.pp_machine.specs.PpNo.{processor_count, processor_index, processor_places}
+use Rattle.pp_numbers.specs.PpNo.{processor_count, processor_index, processor_places}
 use Rattle.pp_machine.specs.Processor.{Processor, IsAtRest, no_processor}
-use Rattle.pp_machine.specs.Profile.{has_processor, processors_in}
+use Rattle.pp_numbers.specs.Profile.{has_processor, processors_in}
 use Rattle.pp_machine.specs.declared.pp_state.PpState.TheVariants.{Running, Stopped}
-use Rattle.pp_machine.specs.declared.profile.Profile.{Profile}
+use Rattle.pp_numbers.specs.declared.profile.Profile.{Profile}
 use Rattle.pp_deck.specs.DeckLaw.{IsFor, KeepsDeckLaw, NamesWithin, Registers, Starts, at_rest, line_of, registers_of}
 use Rattle.pp_deck.specs.DeckLine.{Line, nothing, section}
 use Rattle.pp_deck.specs.DeckMeaning.{LoadedDeck}

@@ -9,17 +9,17 @@ use Rattle.std.proofs.lemmas.List.{append-nil, length-append, length-set, set-ge
 use Rattle.std.proofs.lemmas.List.Elements.{All-append, All-cons, All-nil}
 use Rattle.std.proofs.lemmas.List.Sums.{fold-append}
 use Rattle.pp_channel.specs.Answer.{event_of, reply_to}
-use Rattle.pp_channel.specs.ChannelNo.{channel_count, channel_index, names_channel, channel_places}
+use Rattle.pp_numbers.specs.ChannelNo.{channel_count, channel_index, names_channel, channel_places}
 use Rattle.pp_channel.specs.History.{history_on}
 use Rattle.pp_report.specs.Types.{Answer, ChanOp, Event, Moved, Need, Profile, Reply}
 use Rattle.pp_machine.specs.MachineState.{MachineState, processor_of, history_of}
 use Rattle.pp_machine.specs.MachineStep.{stepped, step_outcome, answer_to, histories_after, central_after}
 use Rattle.pp_machine.specs.NeedAndEffect.{need, outcome, processor_after}
-use Rattle.pp_machine.specs.PpNo.{processor_index, processor_number, processor_places}
+use Rattle.pp_numbers.specs.PpNo.{processor_index, processor_number, processor_places}
 use Rattle.pp_machine.specs.Processor.{Processor, no_processor}
-use Rattle.pp_machine.proofs.PpNoLemmas.{number_at}
-use Rattle.pp_machine.specs.Profile.{has_processor, processors_in}
-use Rattle.pp_machine.proofs.ProfileLemmas.{has_at, most_processors}
+use Rattle.pp_numbers.proofs.PpNoLemmas.{number_at}
+use Rattle.pp_numbers.specs.Profile.{has_processor, processors_in}
+use Rattle.pp_numbers.proofs.ProfileLemmas.{has_at, most_processors}
 use Rattle.pp_machine.specs.Run.{run}
 use Rattle.pp_report.specs.Serial.{answers_along}
 

@@ -5,10 +5,10 @@ use Rattle.std.specs.List.{AllByRecursion, cons_option, enumerate_from, filter_m
 use Rattle.std.proofs.lemmas.Bool.{and_parts, cases_eq}
 use Rattle.std.proofs.lemmas.List.{append-nil, length_push}
 use Rattle.std.proofs.lemmas.List.Elements.{All-head, All-tail}
-use Rattle.pp_channel.proofs.ChannelNoLemmas.{channel_fits}
+use Rattle.pp_numbers.proofs.ChannelNoLemmas.{channel_fits}
 use Rattle.pp_channel.proofs.FrontLemmas.{lawful_front}
 use Rattle.pp_channel.proofs.EachHistory.{lawful_on}
-use Rattle.pp_channel.specs.ChannelNo.{all_channels, names_channel}
+use Rattle.pp_numbers.specs.ChannelNo.{all_channels, names_channel}
 use Rattle.pp_channel.specs.History.{IsLawful, history_on}
 use Rattle.pp_line.specs.Merge.{Merges}
 use Rattle.pp_report.specs.Types.{End, Event, Report, Worker}
@@ -16,8 +16,8 @@ use Rattle.pp_channel.specs.declared.event.Event.TheVariants.{Activate}
 use Rattle.pp_deck.specs.DeckText.{lines_of}
 use Rattle.pp_machine.specs.Headline.{opening_history}
 use Rattle.pp_machine.specs.MachineState.{MachineState}
-use Rattle.pp_machine.specs.PpNo.{all_processors, names_processor, processor_index, processor_number, is_named}
-use Rattle.pp_bounds.specs.Limits.{RunLimits}
+use Rattle.pp_numbers.specs.PpNo.{all_processors, names_processor, processor_index, processor_number, is_named}
+use Rattle.pp_numbers.specs.Limits.{RunLimits}
 use Rattle.pp_runner.specs.WorkerReport.{logs_of}
 use Rattle.pp_report.proofs.ReportLawLemmas.{line_is, numbered_channel_events, told_after, told_body, unnamed_line, with_number}
 use Rattle.pp_report.specs.PrintedReport.{author_place, channel_events, end_text, line_by, named_worker_line, numbered_event_line, printed_report, worker_line}

@@ -6,16 +6,16 @@ use Rattle.std.proofs.lemmas.Bool.{cases_lt, eq-eqb, false_from_ne_true, le-ltb,
 use Rattle.std.proofs.lemmas.List.{append-nil, same_from_push}
 use Rattle.std.proofs.lemmas.List.Elements.{All-append, All-cons, All-head, All-nil, All-tail, filter-append, filter_map-append}
 use Rattle.std.proofs.Math.Seq.{drop-append_seam, drop-nil}
-use Rattle.pp_channel.specs.ChannelNo.{names_channel}
-use Rattle.pp_channel.proofs.ChannelNoLemmas.{channel_fits}
+use Rattle.pp_numbers.specs.ChannelNo.{names_channel}
+use Rattle.pp_numbers.proofs.ChannelNoLemmas.{channel_fits}
 use Rattle.pp_channel.specs.History.{IsLawful, active, waiting, history_on}
 use Rattle.pp_line.specs.Merge.{Merges}
 use Rattle.pp_report.specs.Types.{End, Event, Report, Worker}
 use Rattle.pp_channel.proofs.EachHistory.{lawful_on}
 use Rattle.pp_machine.specs.Headline.{opening_history}
 use Rattle.pp_machine.specs.MachineState.{MachineState, is_opened}
-use Rattle.pp_machine.specs.PpNo.{names_processor, processor_index, processor_number, is_named}
-use Rattle.pp_machine.proofs.PpNoLemmas.{processor_fits}
+use Rattle.pp_numbers.specs.PpNo.{names_processor, processor_index, processor_number, is_named}
+use Rattle.pp_numbers.proofs.PpNoLemmas.{processor_fits}
 use Rattle.pp_runner.specs.End.{HasEndNumber}
 use Rattle.pp_runner.specs.declared.end.End.TheVariants.{Stopped, Fault, Steps, Patience, Memory, Worn}
 use Rattle.pp_runner.specs.WorkerReport.{logs_of}

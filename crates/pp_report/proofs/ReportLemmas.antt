@@ -10,7 +10,7 @@ use Rattle.std.proofs.lemmas.Option.{slice_get_within}
 use Rattle.std.proofs.lemmas.List.Sums.{sum_by-append, sum_by-cons}
 use Rattle.pp_word.specs.Subsequence.{IsSubsequence}
 use Rattle.pp_channel.specs.Answer.{event_answered}
-use Rattle.pp_channel.specs.ChannelNo.{channel_count, channel_index, channel_number, names_channel, channel_places}
+use Rattle.pp_numbers.specs.ChannelNo.{channel_count, channel_index, channel_number, names_channel, channel_places}
 use Rattle.pp_channel.specs.History.{IsLawful, history_on}
 use Rattle.pp_line.specs.LineLog.{is_event}
 use Rattle.pp_channel.specs.Law.{IsPrefix}
@@ -24,16 +24,16 @@ use Rattle.pp_line.proofs.MergeLemmas.{told_by}
 use Rattle.pp_machine.specs.Headline.{opening_history}
 use Rattle.pp_machine.specs.MachineState.{MachineState, history_of}
 use Rattle.pp_machine.specs.NeedAndEffect.{need, outcome, processor_after}
-use Rattle.pp_machine.specs.PpNo.{processor_number}
+use Rattle.pp_numbers.specs.PpNo.{processor_number}
 use Rattle.pp_machine.specs.Processor.{Processor}
-use Rattle.pp_machine.specs.Profile.{processors_in}
-use Rattle.pp_machine.proofs.ProfileLemmas.{most_processors}
+use Rattle.pp_numbers.specs.Profile.{processors_in}
+use Rattle.pp_numbers.proofs.ProfileLemmas.{most_processors}
 use Rattle.pp_machine.specs.Run.{run}
 use Rattle.pp_machine.specs.Replay.{OfChannel, fits, contribution, replayed, collected_along, events_given}
 use Rattle.pp_machine.proofs.ReplayLemmas.{Gives, Gives-counted, Gives-to}
 use Rattle.pp_runner.proofs.LabourLemmas.{events_by}
 use Rattle.pp_runner.specs.Accesses.{accesses_by, AreAccessesOf, HasAccessed, HaveAccessed}
-use Rattle.pp_bounds.specs.Limits.{RunLimits}
+use Rattle.pp_numbers.specs.Limits.{RunLimits}
 use Rattle.pp_runner.specs.Report.{IsReportOf}
 use Rattle.pp_runner.specs.WorkerReport.{OfEachAnswer, AllMoved, AllBySize, IsBySize, AreWorkers, IsWorker, event_in, events_in}
 use Rattle.pp_report.specs.Serial.{HasNotRun, IsSerialRunOf, answers_along}

@@ -8,7 +8,7 @@ use Rattle.std.proofs.lemmas.List.Elements.{All-head, All-nil, All-push, All-tai
 use Rattle.std.proofs.lemmas.List.Sums.{sum_by-append, sum_by-cons}
 use Rattle.pp_word.specs.Subsequence.{IsSubsequence}
 use Rattle.pp_channel.specs.Answer.{flags_of}
-use Rattle.pp_channel.specs.ChannelNo.{names_channel}
+use Rattle.pp_numbers.specs.ChannelNo.{names_channel}
 use Rattle.pp_channel.specs.History.{IsLawful}
 use Rattle.pp_line.specs.Merge.{times_logged}
 use Rattle.pp_line.specs.Order.{IsLegal, ComesAfter, FindsWords, entries_among, left_by, made_at, made_on}
@@ -18,7 +18,7 @@ use Rattle.pp_line.proofs.MergeLemmas.{told_by, told_here, told_not}
 use Rattle.pp_line.proofs.OrderLemmas.{made_more}
 use Rattle.pp_machine.specs.NeedAndEffect.{need}
 use Rattle.pp_machine.specs.Processor.{Processor}
-use Rattle.pp_machine.specs.Profile.{processors_in}
+use Rattle.pp_numbers.specs.Profile.{processors_in}
 use Rattle.pp_runner.specs.WorkerReport.{IsBySize}
 use Rattle.pp_report.proofs.AnswerLemmas.{event_answer, look_answer, made_by}
 use Rattle.pp_report.proofs.MachineLemmas.{Past, Leads, leads_none, leads_on, serves_by, serves_look, serves_event, serves_read, serves_write}

@@ -5,7 +5,7 @@ use Rattle.std.proofs.lemmas.List.Sums.{sum_by-cons}
 use Rattle.pp_report.specs.Types.{Access, Answer, Moved, Profile}
 use Rattle.pp_machine.specs.NeedAndEffect.{need, outcome, processor_after}
 use Rattle.pp_machine.specs.Processor.{Processor, no_processor}
-use Rattle.pp_machine.specs.Profile.{processors_in}
+use Rattle.pp_numbers.specs.Profile.{processors_in}
 use Rattle.pp_runner.specs.Accesses.{accesses_by}
 use Rattle.pp_report.proofs.AnswerLemmas.{GoesOn, kind_of}
 use Rattle.pp_report.proofs.MachineLemmas.{Group, Past, Leads, Serves, all_left, leads_none, leads_on, leads_step}

@@ -1,9 +1,9 @@
 -- Finding the authors of events, log after log. (Only private contracts cite this.)
 use Rattle.std.specs.Prelude.{◌≡◌, ℕ, ◌<◌, Bool, List, [], length, replicate, slice_index_or, Option, Some, None, option_map, IsTrue, if◌then◌else◌}
-use Rattle.pp_channel.specs.ChannelNo.{channel_count, channel_index, names_channel}
+use Rattle.pp_numbers.specs.ChannelNo.{channel_count, channel_index, names_channel}
 use Rattle.pp_channel.specs.History.{history_on}
 use Rattle.pp_report.specs.Types.{Event, Worker}
-use Rattle.pp_machine.specs.PpNo.{processor_number}
+use Rattle.pp_numbers.specs.PpNo.{processor_number}
 use Rattle.pp_report.specs.PrintedReport.{author_place}
 
 -- the author known so far, or else this one if its log records the event

@@ -2,7 +2,7 @@
 -- on channel 2. The other takes that word from channel 2, and only then puts on channel 1 the word
 -- that the first has taken.
 use Rattle.std.specs.Prelude.{◌-◌, List, [], ◌∷◌, replicate}
-use Rattle.pp_channel.specs.ChannelNo.{channel_count}
+use Rattle.pp_numbers.specs.ChannelNo.{channel_count}
 use Rattle.pp_line.specs.LineLog.{event_entry}
 use Rattle.pp_report.specs.Types.{Entry, Event}
 

@@ -3,14 +3,14 @@
 -- one, which is lost only if a Disconnect finds the channel full, directly after its Put, and no
 -- word is put or taken outside a session. The histories that threads leave obey the same law.
 use Rattle.std.specs.Prelude.{ℕ, IsTrue, List}
-use Rattle.pp_channel.specs.ChannelNo.{names_channel}
+use Rattle.pp_numbers.specs.ChannelNo.{names_channel}
 use Rattle.pp_channel.specs.History.{history_on}
 use Rattle.pp_line.specs.Order.{entries_among, made_on}
 use Rattle.pp_report.specs.Types.{Access, Report}
 use Rattle.pp_machine.specs.Headline.{HoldsOnChannel, HoldsOnEachChannel, opening_history}
 use Rattle.pp_machine.specs.MachineState.{MachineState}
 use Rattle.pp_machine.specs.Run.{run}
-use Rattle.pp_bounds.specs.Limits.{RunLimits}
+use Rattle.pp_numbers.specs.Limits.{RunLimits}
 use Rattle.pp_runner.specs.Report.{IsReportOf}
 use Rattle.pp_report.specs.Serial.{IsSerialRunOf}
 

@@ -2,11 +2,11 @@
 -- line for each processor that the deck names, and for each channel that has a history.
 use Rattle.std.specs.Prelude.{ℕ, Bool, List, [], ◌++◌, Option, Some, None, codes, nat_lt, position, slice_get, if◌then◌else◌}
 use Rattle.std.specs.List.{enumerate_from, flat_map}
-use Rattle.pp_channel.specs.ChannelNo.{all_channels}
+use Rattle.pp_numbers.specs.ChannelNo.{all_channels}
 use Rattle.pp_line.specs.Merge.{times_logged}
 use Rattle.pp_channel.specs.History.{history_on}
 use Rattle.pp_report.specs.Types.{End, Event, Report, Worker}
-use Rattle.pp_machine.specs.PpNo.{all_processors, processor_index, processor_number, is_named}
+use Rattle.pp_numbers.specs.PpNo.{all_processors, processor_index, processor_number, is_named}
 use Rattle.pp_word.specs.Numeral.{decimal, octal}
 use Rattle.pp_text.specs.PrintedText.{event_text, line_end, processor_line, used_channel_line}
 

@@ -1,12 +1,12 @@
 -- What the text of a report says of it: two reports with one text agree on all that it shows.
 use Rattle.std.specs.Prelude.{◌≡◌, ℕ, ◌<◌, ◌^◌, List, Bool, All, Option, Some, None, IfSome, IsTrue, length, slice_get, option_map, if◌then◌else◌}
 use Rattle.std.specs.List.{enumerate_from, filter_map}
-use Rattle.pp_channel.specs.ChannelNo.{names_channel}
+use Rattle.pp_numbers.specs.ChannelNo.{names_channel}
 use Rattle.pp_channel.specs.History.{HasTwelveBitWord, history_on}
 use Rattle.pp_report.specs.Types.{End, Event, Report, Worker}
 use Rattle.pp_machine.specs.MachineState.{MachineState}
-use Rattle.pp_machine.specs.PpNo.{names_processor, processor_index, processor_number, is_named}
-use Rattle.pp_bounds.specs.Limits.{RunLimits}
+use Rattle.pp_numbers.specs.PpNo.{names_processor, processor_index, processor_number, is_named}
+use Rattle.pp_numbers.specs.Limits.{RunLimits}
 use Rattle.pp_runner.specs.Report.{IsReportOf}
 use Rattle.pp_report.specs.PrintedReport.{author_place}
 use Rattle.pp_text.specs.TextLaw.{HistoryFits, ShowSameChannel}

@@ -1,15 +1,15 @@
 -- What threads do, as what one list of steps does.
 use Rattle.std.specs.Prelude.{◌≡◌, ◌==◌, ℕ, IsTrue, List, [], ◌∷◌, ◌++◌, All, Some, drop, if◌then◌else◌, map, slice_get, length, take}
 use Rattle.std.specs.List.{sum_by}
-use Rattle.pp_channel.specs.ChannelNo.{channel_count, names_channel}
+use Rattle.pp_numbers.specs.ChannelNo.{channel_count, names_channel}
 use Rattle.pp_line.specs.Order.{left_by}
 use Rattle.pp_report.specs.Types.{Access, Answer, Moved, Report, Worker}
 use Rattle.pp_machine.specs.Headline.{opening_history}
 use Rattle.pp_machine.specs.MachineState.{MachineState, history_of, processor_of}
 use Rattle.pp_machine.specs.NeedAndEffect.{need}
-use Rattle.pp_machine.specs.PpNo.{processor_count, processor_number}
+use Rattle.pp_numbers.specs.PpNo.{processor_count, processor_number}
 use Rattle.pp_machine.specs.Processor.{Processor}
-use Rattle.pp_machine.specs.Profile.{processors_in, has_processor}
+use Rattle.pp_numbers.specs.Profile.{processors_in, has_processor}
 use Rattle.pp_machine.specs.MachineStep.{answer_to, step_outcome, stepped}
 use Rattle.pp_machine.specs.Run.{run}
 

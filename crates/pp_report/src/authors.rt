@@ -1,9 +1,9 @@
 //! Who made the events of the channels.
 
 ghost use Rattle.std.specs.Prelude.{◌≡◌, ◌<◌, ◌≤◌, ◌==◌, ℕ, None, length, map, replicate, slice_index_or, IfOk, nat_lt};
-ghost use Rattle.pp_channel.specs.ChannelNo.{channel_count};
+ghost use Rattle.pp_numbers.specs.ChannelNo.{channel_count};
 ghost use Rattle.pp_line.specs.Merge.{logs_event, times_logged};
-ghost use Rattle.pp_machine.specs.PpNo.{processor_count};
+ghost use Rattle.pp_numbers.specs.PpNo.{processor_count};
 ghost use Rattle.pp_report.specs.Authors.{AreAuthors, AreMarked, no_authors, or_known};
 
 use pp_channel::{CHANNELS, Channel, Seen};

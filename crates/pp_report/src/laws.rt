@@ -2,7 +2,7 @@
 //! the definitions.
 
 ghost use Rattle.std.specs.Prelude.{ℕ, ◌≡◌, ◌<◌, ◌↔◌, All, Bool, IsTrue, List, length, None};
-ghost use Rattle.pp_channel.specs.ChannelNo.{names_channel};
+ghost use Rattle.pp_numbers.specs.ChannelNo.{names_channel};
 ghost use Rattle.pp_channel.specs.History.{IsLawful, history_on};
 ghost use Rattle.pp_report.specs.Types.{Event, Report, Worker};
 ghost use Rattle.pp_deck.specs.DeckText.{lines_of};
@@ -10,7 +10,7 @@ ghost use Rattle.pp_line.specs.Merge.{Merges};
 ghost use Rattle.pp_machine.specs.Headline.{opening_history};
 ghost use Rattle.pp_machine.specs.MachineState.{MachineState};
 ghost use Rattle.pp_runner.specs.End.{HasEndNumber};
-ghost use Rattle.pp_bounds.specs.Limits.{RunLimits};
+ghost use Rattle.pp_numbers.specs.Limits.{RunLimits};
 ghost use Rattle.pp_runner.specs.WorkerReport.{logs_of};
 ghost use Rattle.pp_check.specs.LawfulTrace.{AreLawful, history, parsed_lines};
 ghost use Rattle.pp_check.specs.PrintedTrace.{AreOpenedBy};

@@ -15,7 +15,7 @@ ghost use Rattle.pp_report.specs.Circle.{histories_of_circle, one_log, other_log
 ghost use Rattle.pp_report.specs.EveryRun.{HoldsOfEveryRun};
 ghost use Rattle.pp_report.specs.OneRun.{EndsAtRest, IsOver, ShowsPartsOf};
 ghost use Rattle.pp_report.specs.Serial.{HasNotRun, IsSerialRunOf, LeadsTo};
-ghost use Rattle.pp_bounds.specs.Limits.{RunLimits};
+ghost use Rattle.pp_numbers.specs.Limits.{RunLimits};
 ghost use Rattle.pp_runner.specs.Report.{IsReportOf};
 
 use pp_channel::session_law;

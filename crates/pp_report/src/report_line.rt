@@ -1,7 +1,7 @@
 //! The lines of a report's text.
 
 ghost use Rattle.std.specs.Prelude.{◌≡◌, ◌<◌, ◌^◌, ◌++◌, IsTrue, Some, codes};
-ghost use Rattle.pp_machine.specs.PpNo.{names_processor};
+ghost use Rattle.pp_numbers.specs.PpNo.{names_processor};
 ghost use Rattle.pp_word.specs.Numeral.{decimal, digits, octal};
 ghost use Rattle.pp_text.specs.PrintedText.{event_text, line_end};
 ghost use Rattle.pp_text.specs.TextWriter.{Prints};

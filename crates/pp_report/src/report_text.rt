@@ -2,9 +2,9 @@
 
 ghost use Rattle.std.specs.Prelude.{◌≡◌, ◌≢◌, ◌≤◌, ℕ, All, List, Option, Err, length, slice_get, IfSome, IsTrue, option_map};
 ghost use Rattle.std.specs.List.{enumerate_from, flat_map};
-ghost use Rattle.pp_channel.specs.ChannelNo.{all_channels, channel_count, names_channel};
+ghost use Rattle.pp_numbers.specs.ChannelNo.{all_channels, channel_count, names_channel};
 ghost use Rattle.pp_channel.specs.History.{history_on};
-ghost use Rattle.pp_machine.specs.PpNo.{all_processors, processor_count, processor_index, processor_number, is_named};
+ghost use Rattle.pp_numbers.specs.PpNo.{all_processors, processor_count, processor_index, processor_number, is_named};
 ghost use Rattle.pp_runner.specs.declared.worker.Worker.{Worker};
 ghost use Rattle.pp_report.specs.Authors.{AreAuthors, AreAuthorsOn};
 ghost use Rattle.pp_text.specs.TextWriter.{Prints};

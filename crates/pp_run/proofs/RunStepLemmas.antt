@@ -9,11 +9,11 @@ use Rattle.std.proofs.lemmas.List.Sums.{count_by-le-length, length-filter, sum_b
 use Rattle.pp_word.proofs.TableLemmas.{get_or-tabulate, length-tabulate, tabulate_is}
 use Rattle.pp_machine.specs.MachineState.{MachineState}
 use Rattle.pp_machine.specs.MachineStep.{stepped}
-use Rattle.pp_machine.specs.PpNo.{processor_count, processor_index, processor_number, each_processor, processor_places}
-use Rattle.pp_machine.specs.Profile.{processor_in_turn}
+use Rattle.pp_numbers.specs.PpNo.{processor_count, processor_index, processor_number, each_processor, processor_places}
+use Rattle.pp_numbers.specs.Profile.{processor_in_turn}
 use Rattle.pp_machine.specs.Run.{barrel, run}
 use Rattle.pp_machine.proofs.RunLemmas.{length-barrel}
-use Rattle.pp_machine.specs.declared.profile.Profile.{Profile}
+use Rattle.pp_numbers.specs.declared.profile.Profile.{Profile}
 use Rattle.pp_run.specs.RunSteps.{RunStep, is_of, run_steps, seen_of}
 
 -- over two lists

@@ -5,7 +5,7 @@
 -- data channels: a processor waits for a channel, or tests its flags.)
 use Rattle.std.specs.Prelude.{◌≡◌, ◌≢◌, ℕ, zero, suc, ◌<◌, ◌==◌, IsTrue, List, [], ◌∷◌, length, take, filter_map, Some, None, ◌⊎◌, if◌then◌else◌, slice_index}
 use Rattle.pp_channel.specs.Answer.{event_of, reply_to}
-use Rattle.pp_channel.specs.ChannelNo.{names_channel}
+use Rattle.pp_numbers.specs.ChannelNo.{names_channel}
 use Rattle.pp_channel.specs.declared.chan_op.ChanOp.{ChanOp}
 use Rattle.pp_channel.specs.declared.event.Event.{Event}
 use Rattle.pp_machine.specs.MachineState.{MachineState, processor_of, history_of}

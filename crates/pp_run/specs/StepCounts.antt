@@ -5,7 +5,7 @@ use Rattle.pp_machine.specs.declared.outcome.Outcome.{Outcome}
 use Rattle.pp_machine.specs.declared.outcome.Outcome.TheVariants.{Moved, Held, AtRest}
 use Rattle.pp_run.specs.RunSteps.{RunStep, outcome_of, seen_of}
 use Rattle.pp_run.specs.declared.step_counts.StepCounts.{StepCounts}
-use Rattle.pp_machine.specs.PpNo.{each_processor}
+use Rattle.pp_numbers.specs.PpNo.{each_processor}
 
 abbrev pub is_moved : Outcome → Bool
 is_moved Moved = true

@@ -1,7 +1,7 @@
 //! A machine without its record.
 
 ghost use Rattle.std.specs.Prelude.{◌≡◌, vec_len};
-ghost use Rattle.pp_machine.specs.PpNo.{processor_count};
+ghost use Rattle.pp_numbers.specs.PpNo.{processor_count};
 
 use pp_channel::{CHANNELS, ChannelState};
 use pp_machine::{Central, Pp};

@@ -2,9 +2,9 @@
 //! definitions.
 
 ghost use Rattle.std.specs.Prelude.{◌≡◌, ℕ, List, length};
-ghost use Rattle.pp_channel.specs.ChannelNo.{channel_count};
+ghost use Rattle.pp_numbers.specs.ChannelNo.{channel_count};
 ghost use Rattle.pp_machine.specs.MachineState.{MachineState};
-ghost use Rattle.pp_machine.specs.PpNo.{processor_count};
+ghost use Rattle.pp_numbers.specs.PpNo.{processor_count};
 ghost use Rattle.pp_machine.specs.Run.{run};
 ghost use Rattle.pp_run.specs.Determinacy.{AreAlike, IsDeterminate, IsQuiet, ShowsParts, IsEmbeddedIn};
 

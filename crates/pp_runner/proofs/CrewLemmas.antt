@@ -15,7 +15,7 @@ use Rattle.pp_runner.specs.Types.{End, Ended, Entry}
 use Rattle.pp_machine.specs.Headline.{opening_history}
 use Rattle.pp_machine.specs.MachineState.{MachineState, processor_of}
 use Rattle.pp_machine.specs.Processor.{Processor, no_processor}
-use Rattle.pp_machine.specs.PpNo.{processor_count, processor_index, processor_number, processor_places}
+use Rattle.pp_numbers.specs.PpNo.{processor_count, processor_index, processor_number, processor_places}
 use Rattle.pp_machine.specs.Replay.{looks_and_events}
 use Rattle.pp_runner.proofs.LabourLemmas.{work_begun}
 use Rattle.pp_runner.proofs.LogLemmas.{stands_done}

@@ -5,7 +5,7 @@ use native.Mathlib.Decide.{ℕ_discrete}
 use Rattle.std.specs.Prelude.{if◌then◌else◌, nat_lt}
 use Rattle.std.proofs.lemmas.Bool.{cases_lt, lt-ltb, le-ltb}
 use Rattle.std.proofs.lemmas.List.{get_or_past}
-use Rattle.pp_channel.specs.ChannelNo.{channel_places, channel_count, channel_index, channel_number}
+use Rattle.pp_numbers.specs.ChannelNo.{channel_places, channel_count, channel_index, channel_number}
 use Rattle.pp_line.specs.LineState.{LineState}
 use Rattle.pp_line.specs.Merge.{IsOpeningLog, times_logged}
 use Rattle.pp_line.specs.LineLog.{IsWithin, event_entry}

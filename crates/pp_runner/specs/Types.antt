@@ -10,7 +10,7 @@ pub use Rattle.pp_machine.specs.declared.need.Need.{Need}
 pub use Rattle.pp_machine.specs.declared.outcome.Outcome.{Outcome}
 pub use Rattle.pp_machine.specs.declared.outcome.Outcome.TheVariants.{Moved}
 pub use Rattle.pp_machine.specs.declared.pp_state.PpState.{PpState}
-pub use Rattle.pp_machine.specs.declared.profile.Profile.{Profile}
+pub use Rattle.pp_numbers.specs.declared.profile.Profile.{Profile}
 pub use Rattle.pp_runner.specs.declared.end.End.{End}
 pub use Rattle.pp_runner.specs.declared.report.Report.{Report}
 pub use Rattle.pp_runner.specs.declared.worker.Ended.{Ended}

@@ -19,7 +19,7 @@ mod worker;
 pub use end::End;
 pub use gate::{Gate, NoGate};
 pub use locked_central::LockedCentral;
-pub use pp_bounds::Limits;
+pub use pp_numbers::Limits;
 pub use report::Report;
 pub use run_fault::RunFault;
 pub use threads::run_threads;

@@ -1,7 +1,7 @@
 //! What the workers of a run share.
 
 use crate::spinning::Spinning;
-use pp_bounds::Limits;
+use pp_numbers::Limits;
 use std::alloc::Allocator;
 
 /// What the workers of a run share, beside the channels and the words of central memory.

@@ -2,7 +2,7 @@
 
 ghost use Rattle.std.specs.Prelude.{◌≡◌, ◌+◌, [], All, vec_len, IfOk};
 ghost use Rattle.pp_line.specs.LineState.{IsSplitFrom};
-ghost use Rattle.pp_machine.specs.Profile.{processors_in};
+ghost use Rattle.pp_numbers.specs.Profile.{processors_in};
 ghost use Rattle.pp_runner.specs.Crew.{HasOpened};
 ghost use Rattle.pp_runner.specs.Report.{IsReportOf};
 
@@ -14,7 +14,7 @@ use crate::run_fault::RunFault;
 use crate::site::Site;
 use crate::spinning::Spinning;
 use crate::worker::workers;
-use pp_bounds::Limits;
+use pp_numbers::Limits;
 use pp_channel::Memory;
 use pp_line::{Closed, Line};
 use pp_machine::Machine;

@@ -3,9 +3,9 @@
 -- with the counts of its steps.
 use Rattle.std.specs.Prelude.{ℕ, ◌+◌, ◌%◌, ◌==◌, Bool, List, [], ◌∷◌, ◌++◌, Option, None, Some, codes, slice_index_or, if◌then◌else◌}
 use Rattle.std.specs.List.{flat_map}
-use Rattle.pp_channel.specs.ChannelNo.{all_channels}
+use Rattle.pp_numbers.specs.ChannelNo.{all_channels}
 use Rattle.pp_machine.specs.MachineState.{MachineState}
-use Rattle.pp_machine.specs.PpNo.{all_processors, processor_index, is_named}
+use Rattle.pp_numbers.specs.PpNo.{all_processors, processor_index, is_named}
 use Rattle.pp_machine.specs.Run.{run}
 use Rattle.pp_deck.specs.DeckMeaning.{LoadedDeck}
 use Rattle.pp_deck.specs.InUse.{in_use}

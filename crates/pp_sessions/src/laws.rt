@@ -4,7 +4,7 @@
 ghost use Rattle.std.specs.Prelude.{◌≡◌, ◌==◌, ◌+◌, ◌∷◌, ◌++◌, ℕ, Bool, IsTrue, List, count_by, map};
 ghost use Rattle.std.specs.List.{flat_map};
 ghost use Rattle.std.specs.Option.{option_to_list};
-ghost use Rattle.pp_channel.specs.ChannelNo.{names_channel};
+ghost use Rattle.pp_numbers.specs.ChannelNo.{names_channel};
 ghost use Rattle.pp_channel.specs.History.{Course, events_of, idle_stretch};
 ghost use Rattle.pp_channel.specs.Session.{Session};
 ghost use Rattle.pp_machine.specs.Headline.{HoldsOnEachChannel};

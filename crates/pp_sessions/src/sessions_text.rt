@@ -1,7 +1,7 @@
 //! The text of the sessions of a run.
 ghost use Rattle.std.specs.List.{flat_map};
-ghost use Rattle.pp_channel.specs.ChannelNo.{all_channels};
-ghost use Rattle.pp_machine.specs.PpNo.{all_processors};
+ghost use Rattle.pp_numbers.specs.ChannelNo.{all_channels};
+ghost use Rattle.pp_numbers.specs.PpNo.{all_processors};
 ghost use Rattle.pp_text.specs.TextWriter.{Prints};
 ghost use Rattle.pp_text.specs.Written.{IsWritten};
 ghost use Rattle.pp_sessions.specs.SessionsText.{channel_lines, sessions_text, shown_counts_line};

@@ -7,7 +7,7 @@ use Rattle.pp_sim.proofs.ByteLemmas.{read_front}
 use Rattle.pp_machine.specs.Headline.{HoldsOnEachChannel}
 use Rattle.pp_machine.specs.MachineState.{MachineState}
 use Rattle.pp_machine.specs.Run.{barrel, run}
-use Rattle.pp_machine.specs.declared.profile.Profile.{Profile}
+use Rattle.pp_numbers.specs.declared.profile.Profile.{Profile}
 use Rattle.pp_deck.specs.DeckMeaning.{LoadedDeck, deck_meaning}
 use Rattle.pp_deck.specs.declared.deck_fault.DeckFault.{DeckFault}
 use Rattle.pp_text.specs.Written.{IsReportWritten, IsWritten}

@@ -7,12 +7,12 @@ use Rattle.std.proofs.lemmas.List.Elements.{All-cons, All-nil}
 use Rattle.std.specs.List.{AllZip}
 use Rattle.pp_machine.specs.MachineState.{MachineState}
 use Rattle.pp_machine.specs.Processor.{Processor}
-use Rattle.pp_machine.specs.PpNo.{names_processor, processor_index, is_named}
-use Rattle.pp_machine.specs.Profile.{processors_in, has_processor}
-use Rattle.pp_machine.specs.declared.profile.Profile.{Profile}
+use Rattle.pp_numbers.specs.PpNo.{names_processor, processor_index, is_named}
+use Rattle.pp_numbers.specs.Profile.{processors_in, has_processor}
+use Rattle.pp_numbers.specs.declared.profile.Profile.{Profile}
 use Rattle.pp_deck.specs.DeckLaw.{NamesWithin}
 use Rattle.pp_runner.specs.Report.{IsReportOf}
-use Rattle.pp_bounds.specs.Limits.{RunLimits}
+use Rattle.pp_numbers.specs.Limits.{RunLimits}
 use Rattle.pp_runner.specs.End.{HasEndNumber}
 use Rattle.pp_runner.specs.WorkerReport.{IsWorker}
 use Rattle.pp_runner.specs.declared.report.Report.{Report}

@@ -3,8 +3,8 @@ use Rattle.std.specs.Prelude.{◌≡◌, ℕ, List, ◌≤◌, length, Ok, None,
 use Rattle.pp_machine.specs.Headline.{HoldsOnEachChannel, IsMachine}
 use Rattle.pp_machine.specs.MachineState.{processor_of}
 use Rattle.pp_machine.specs.Run.{barrel, run}
-use Rattle.pp_bounds.specs.declared.bounds.Bounds.{Bounds}
-use Rattle.pp_bounds.specs.declared.window.Window.{Window}
+use Rattle.pp_numbers.specs.declared.bounds.Bounds.{Bounds}
+use Rattle.pp_numbers.specs.declared.window.Window.{Window}
 use Rattle.pp_deck.specs.DeckMeaning.{LoadedDeck, deck_meaning}
 use Rattle.pp_deck.specs.InUse.{in_use}
 use Rattle.pp_listing.specs.Dump.{after, deck_to_go_on, dump, first_busy}

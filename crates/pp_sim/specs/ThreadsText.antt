@@ -4,7 +4,7 @@ use Rattle.pp_deck.specs.DeckLaw.{NamesWithin}
 use Rattle.pp_deck.specs.DeckMeaning.{LoadedDeck}
 use Rattle.pp_report.specs.EveryRun.{HoldsOfThreads}
 use Rattle.pp_runner.specs.Report.{IsReportOf}
-use Rattle.pp_bounds.specs.Limits.{RunLimits}
+use Rattle.pp_numbers.specs.Limits.{RunLimits}
 use Rattle.pp_runner.specs.declared.report.Report.{Report}
 use Rattle.pp_report.specs.PrintedReport.{printed_report}
 use Rattle.pp_report.specs.ReportLaw.{FitsItsReport}

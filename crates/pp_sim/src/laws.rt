@@ -2,19 +2,19 @@
 //! definitions.
 
 ghost use Rattle.std.specs.Prelude.{◌≡◌, ℕ, ◌<◌, ◌^◌, ◌++◌, IsTrue, List, Ok, length};
-ghost use Rattle.pp_channel.specs.ChannelNo.{names_channel};
+ghost use Rattle.pp_numbers.specs.ChannelNo.{names_channel};
 ghost use Rattle.pp_channel.specs.History.{history_on};
 ghost use Rattle.pp_check.specs.LawfulTrace.{AreLawful};
 ghost use Rattle.pp_deck.specs.DeckMeaning.{LoadedDeck, deck_meaning};
 ghost use Rattle.pp_deck.specs.DeckText.{lines_of};
 ghost use Rattle.pp_machine.specs.Run.{barrel, run};
-ghost use Rattle.pp_machine.specs.declared.profile.Profile.{Profile};
+ghost use Rattle.pp_numbers.specs.declared.profile.Profile.{Profile};
 ghost use Rattle.pp_run.specs.Determinacy.{AreAlike, IsQuiet, ShowsParts, IsEmbeddedIn};
 ghost use Rattle.pp_report.specs.OneRun.{IsOver, ShowsPartsOf};
 ghost use Rattle.pp_report.specs.Serial.{LeadsTo};
 ghost use Rattle.pp_races.specs.RacesText.{verdict_line};
 ghost use Rattle.pp_races.specs.declared.verdict.Verdict.TheVariants.{Same};
-ghost use Rattle.pp_bounds.specs.Limits.{RunLimits};
+ghost use Rattle.pp_numbers.specs.Limits.{RunLimits};
 ghost use Rattle.pp_runner.specs.Report.{IsReportOf};
 ghost use Rattle.pp_runner.specs.declared.report.Report.{Report};
 ghost use Rattle.pp_sim.specs.ThreadsText.{IsThreadsText};

@@ -5,9 +5,9 @@ use Rattle.pp_word.specs.Numeral.{octal}
 use Rattle.pp_text.specs.PrintedText.{each_below, line_end}
 use Rattle.pp_state.proofs.MemoryLineLemmas.{trim_after}
 use Rattle.pp_state.specs.DisplayCode.{display_character, displayed}
-use Rattle.pp_bounds.specs.Bounds.{meets}
+use Rattle.pp_numbers.specs.Bounds.{meets}
 use Rattle.pp_state.specs.MemoryText.{displayed_words, has_words, memory_line, octal_words, padded_line, shown_line, trimmed}
-use Rattle.pp_bounds.specs.declared.bounds.Bounds.{Bounds}
+use Rattle.pp_numbers.specs.declared.bounds.Bounds.{Bounds}
 
 -- one character more of a word
 pub displayed_more : (width word : ℕ) → width ≢ 0 → displayed (width - 1) (word / 0o100) ++ display_character (word % 0o100) ∷ [] ≡ displayed width word

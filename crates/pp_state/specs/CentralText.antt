@@ -3,8 +3,8 @@ use Rattle.std.specs.Prelude.{ℕ, ◌==◌, ◌&&◌, not, List, [], ◌++◌, 
 use Rattle.pp_word.specs.Numeral.{octal}
 use Rattle.pp_text.specs.PrintedText.{each_below, line_end}
 use Rattle.pp_state.specs.DisplayCode.{displayed}
-use Rattle.pp_bounds.specs.Bounds.{meets}
-use Rattle.pp_bounds.specs.declared.bounds.Bounds.{Bounds}
+use Rattle.pp_numbers.specs.Bounds.{meets}
+use Rattle.pp_numbers.specs.declared.bounds.Bounds.{Bounds}
 
 -- `000010  00010002000300040005   A B C D E`, the line of a word at an address
 unfoldable pub central_line : ℕ → ℕ → List ℕ

@@ -3,7 +3,7 @@
 use Rattle.std.specs.Prelude.{ℕ, zero, suc, ◌+◌, ◌%◌, ◌==◌, ◌&&◌, Bool, List, [], ◌∷◌, length, slice_index, if◌then◌else◌}
 use Rattle.std.specs.List.{flat_map, list_any, range_with_len}
 use Rattle.pp_machine.specs.MachineState.{MachineState, processor_of}
-use Rattle.pp_machine.specs.PpNo.{all_processors}
+use Rattle.pp_numbers.specs.PpNo.{all_processors}
 use Rattle.pp_deck.specs.DeckLine.{Line, central_words, section, words}
 use Rattle.pp_text.specs.Differences.{differs, places}
 

@@ -1,6 +1,6 @@
 -- For how long a processor has been held.
 use Rattle.std.specs.Prelude.{ℕ, List}
-use Rattle.pp_machine.specs.PpNo.{each_processor}
+use Rattle.pp_numbers.specs.PpNo.{each_processor}
 use Rattle.pp_run.specs.RunSteps.{RunStep, outcome_of, seen_of}
 use Rattle.pp_run.specs.StepCounts.{held_steps}
 

@@ -7,8 +7,8 @@ use Rattle.pp_machine.specs.Processor.{Processor, word_at}
 use Rattle.pp_word.specs.Numeral.{octal}
 use Rattle.pp_text.specs.PrintedText.{each_below, line_end}
 use Rattle.pp_state.specs.DisplayCode.{displayed}
-use Rattle.pp_bounds.specs.Bounds.{meets}
-use Rattle.pp_bounds.specs.declared.bounds.Bounds.{Bounds}
+use Rattle.pp_numbers.specs.Bounds.{meets}
+use Rattle.pp_numbers.specs.declared.bounds.Bounds.{Bounds}
 
 -- a line without the spaces at its end
 unfoldable pub trimmed : List ℕ → List ℕ

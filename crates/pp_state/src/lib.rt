@@ -16,5 +16,5 @@ pub use held_steps::run_counting_held;
 pub use laws::state_law;
 pub use memory_laws::{central_law, memory_law};
 pub use memory_text::write_memory;
-pub use pp_bounds::Bounds;
+pub use pp_numbers::Bounds;
 pub use whole_text::write_state;

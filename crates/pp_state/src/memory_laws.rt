@@ -9,7 +9,7 @@ ghost use Rattle.pp_machine.specs.Processor.{Processor, word_at};
 ghost use Rattle.pp_state.specs.CentralText.{central_text};
 ghost use Rattle.pp_state.specs.MemoryText.{memory_text};
 ghost use Rattle.pp_state.specs.MemoryReading.{central_word_read, word_read};
-ghost use Rattle.pp_bounds.specs.declared.bounds.Bounds.{Bounds};
+ghost use Rattle.pp_numbers.specs.declared.bounds.Bounds.{Bounds};
 
 /// The text of a memory is the memory: the word at each place within the bounds is read off its
 /// columns.

@@ -6,9 +6,9 @@ use Rattle.std.proofs.lemmas.List.Elements.{filter-append}
 use Rattle.std.proofs.lemmas.List.Sums.{count_by-le-length, length-filter}
 use Rattle.pp_machine.specs.MachineState.{MachineState}
 use Rattle.pp_machine.specs.MachineStep.{stepped}
-use Rattle.pp_machine.specs.Profile.{processor_in_turn}
+use Rattle.pp_numbers.specs.Profile.{processor_in_turn}
 use Rattle.pp_machine.specs.Run.{barrel, run}
-use Rattle.pp_machine.specs.declared.profile.Profile.{Profile}
+use Rattle.pp_numbers.specs.declared.profile.Profile.{Profile}
 use Rattle.pp_machine.proofs.RunLemmas.{barrel_more, length-barrel}
 use Rattle.pp_run.specs.RunSteps.{RunStep, run_steps}
 use Rattle.pp_run.proofs.RunStepLemmas.{barrel_steps_more, length-barrel_steps, run_steps-both, take_barrel, turn_of_barrel}

@@ -3,7 +3,7 @@ use Rattle.std.proofs.Common.{get_or-set_same, ◌≡◌, ℕ, ◌/◌, ◌%◌,
 use Rattle.pp_word.specs.Address.{next_place}
 use Rattle.pp_machine.specs.MachineState.{MachineState, processor_of}
 use Rattle.pp_machine.specs.MachineStep.{answer_to, central_after, stepped}
-use Rattle.pp_machine.specs.PpNo.{processor_index}
+use Rattle.pp_numbers.specs.PpNo.{processor_index}
 use Rattle.pp_machine.specs.NeedAndEffect.{need, processor_after}
 use Rattle.pp_machine.specs.Processor.{Processor, no_processor, word_at}
 use Rattle.pp_text.specs.InstructionText.{running_instruction}

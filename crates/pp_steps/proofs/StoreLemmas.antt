@@ -14,7 +14,7 @@ use Rattle.pp_machine.specs.InstructionTable.{row, works_on_channel}
 use Rattle.pp_machine.specs.NeedAndEffect.{answered, next_step, processor_after, step_of, if_running}
 use Rattle.pp_machine.specs.Operand.{lower_six, operation}
 use Rattle.pp_machine.specs.Processor.{Processor, word_at}
-use Rattle.pp_machine.specs.Profile.{has_channel}
+use Rattle.pp_numbers.specs.Profile.{has_channel}
 use Rattle.pp_machine.specs.Step.{Step, local, probes, takes, does, reads, writes}
 use Rattle.pp_machine.specs.declared.answer.Answer.{Answer}
 use Rattle.pp_machine.specs.declared.answer.Answer.TheVariants as answers

@@ -4,7 +4,7 @@ use Rattle.std.specs.Prelude.{map}
 use Rattle.std.specs.List.{filter, flat_map, fold}
 use Rattle.std.proofs.lemmas.Bool.{cond-false, cond-true, eq-eqb, ne_eqb}
 use Rattle.std.proofs.lemmas.List.Sums.{fold-append}
-use Rattle.pp_machine.specs.PpNo.{processor_count, processor_index}
+use Rattle.pp_numbers.specs.PpNo.{processor_count, processor_index}
 use Rattle.pp_run.specs.RunSteps.{RunStep, is_of, seen_of}
 use Rattle.pp_run.proofs.RunStepLemmas.{seen-append, seen_more}
 use Rattle.pp_steps.specs.Cursor.{each_cursor, line_at, no_cursor, past_step}

@@ -1,10 +1,10 @@
 -- Which steps of a run are chosen: by processor and turn, and by the channel that they ask.
 use Rattle.std.specs.Prelude.{ℕ, ◌&&◌, Bool, true, false, nat_le, nat_lt, List, Option, None, Some, slice_index_or}
 use Rattle.std.specs.List.{filter}
-use Rattle.pp_channel.specs.ChannelNo.{channel_index}
+use Rattle.pp_numbers.specs.ChannelNo.{channel_index}
 use Rattle.pp_machine.specs.MachineState.{MachineState, processor_of}
 use Rattle.pp_machine.specs.NeedAndEffect.{need}
-use Rattle.pp_machine.specs.PpNo.{is_named}
+use Rattle.pp_numbers.specs.PpNo.{is_named}
 use Rattle.pp_machine.specs.declared.need.Need.{Need}
 use Rattle.pp_machine.specs.declared.need.Need.TheVariants.{Channel}
 use Rattle.pp_run.specs.RunSteps.{RunStep, run_steps}

@@ -2,7 +2,7 @@
 use Rattle.std.specs.Prelude.{ℕ, ◌+◌, Bool, true, false, ◌&&◌, List, [], ◌∷◌, ◌++◌, if◌then◌else◌}
 use Rattle.std.specs.List.{fold, prefix_len}
 use Rattle.pp_channel.specs.declared.flags.Flags.{Flags}
-use Rattle.pp_machine.specs.PpNo.{each_processor}
+use Rattle.pp_numbers.specs.PpNo.{each_processor}
 use Rattle.pp_run.specs.RunSteps.{RunStep, seen_of}
 use Rattle.pp_run.specs.BareMachine.{progress}
 use Rattle.pp_run.specs.declared.progress.Progress.{Progress}

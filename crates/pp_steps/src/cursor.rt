@@ -1,7 +1,7 @@
 //! How far a processor has come in the times that it is held.
 
 ghost use Rattle.std.specs.Prelude.{◌≡◌, ◌+◌, ◌<◌, ◌^◌, length, slice_index_or, slice_set, if◌then◌else◌};
-ghost use Rattle.pp_machine.specs.PpNo.{processor_count, processor_index};
+ghost use Rattle.pp_numbers.specs.PpNo.{processor_count, processor_index};
 ghost use Rattle.pp_steps.specs.Cursor.{line_at, no_cursor, past_step};
 ghost use Rattle.pp_steps.specs.HeldRuns.{no_spells};
 ghost use Rattle.pp_steps.specs.declared.line_kind.LineKind.TheVariants.{NoLine};

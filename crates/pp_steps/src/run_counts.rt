@@ -1,7 +1,7 @@
 //! The held steps of a run, counted.
 
 ghost use Rattle.std.specs.Prelude.{◌≡◌, ◌+◌, ◌<◌, ◌^◌, length, IfOk, OnOk, replicate, slice_index_or, slice_set, if◌then◌else◌};
-ghost use Rattle.pp_machine.specs.PpNo.{processor_count, processor_index};
+ghost use Rattle.pp_numbers.specs.PpNo.{processor_count, processor_index};
 ghost use Rattle.pp_machine.specs.Run.{barrel};
 ghost use Rattle.pp_steps.specs.Choice.{chosen_steps};
 ghost use Rattle.pp_steps.specs.HeldRuns.{each_spells, no_spells, with_step};

@@ -7,11 +7,11 @@ use Rattle.std.proofs.lemmas.List.Concat.{flat_map-append}
 use Rattle.pp_word.proofs.GrowingLists.{range_more, tabulate_more}
 use Rattle.pp_word.specs.Tables.{tabulate}
 use Rattle.pp_word.specs.GappedNumbers.{is_number, number_of}
-use Rattle.pp_channel.specs.ChannelNo.{all_channels, channel_number, names_channel}
-use Rattle.pp_channel.proofs.ChannelNoLemmas.{numbers_of_channels}
+use Rattle.pp_numbers.specs.ChannelNo.{all_channels, channel_number, names_channel}
+use Rattle.pp_numbers.proofs.ChannelNoLemmas.{numbers_of_channels}
 use Rattle.pp_channel.specs.declared.event.Event.{Event}
-use Rattle.pp_machine.specs.PpNo.{all_processors, names_processor}
-use Rattle.pp_machine.proofs.PpNoLemmas.{numbers_of_processors}
+use Rattle.pp_numbers.specs.PpNo.{all_processors, names_processor}
+use Rattle.pp_numbers.proofs.PpNoLemmas.{numbers_of_processors}
 use Rattle.pp_text.specs.PrintedText.{each_below, used_channel_line}
 use Rattle.pp_text.specs.TextWriter.{Prints}
 use Rattle.pp_text.specs.declared.text_writer.TextWriter.{TextWriter}

@@ -9,16 +9,16 @@ use Rattle.std.proofs.lemmas.List.{append-nil, length-append, same_from_push}
 use Rattle.std.proofs.lemmas.List.Elements.{All-append, All-cons, All-head, All-nil, All-tail, filter-append}
 use Rattle.std.proofs.Math.Seq.{take-suc, take-append_seam, drop-append_seam}
 use Rattle.std.proofs.Math.Nat.{div-add-mod}
-use Rattle.pp_channel.specs.ChannelNo.{names_channel}
-use Rattle.pp_channel.proofs.ChannelNoLemmas.{channel_fits}
+use Rattle.pp_numbers.specs.ChannelNo.{names_channel}
+use Rattle.pp_numbers.proofs.ChannelNoLemmas.{channel_fits}
 use Rattle.pp_channel.specs.History.{HasTwelveBitWord, active, waiting, last_stretch, history_on}
 use Rattle.pp_channel.specs.Session.{puts, takes}
 use Rattle.pp_channel.specs.declared.event.Event.{Event}
 use Rattle.pp_channel.specs.declared.event.Event.TheVariants.{Activate, Disconnect, Put, Take, Function}
 use Rattle.pp_machine.specs.MachineState.{MachineState, processor_of}
 use Rattle.pp_machine.specs.Processor.{Processor, HasFaultNumber}
-use Rattle.pp_machine.specs.PpNo.{names_processor, processor_index, is_named}
-use Rattle.pp_machine.proofs.PpNoLemmas.{processor_fits}
+use Rattle.pp_numbers.specs.PpNo.{names_processor, processor_index, is_named}
+use Rattle.pp_numbers.proofs.PpNoLemmas.{processor_fits}
 use Rattle.pp_machine.specs.declared.pp_state.PpState.{PpState}
 use Rattle.pp_machine.specs.declared.pp_state.PpState.TheVariants.{Running, Stopped, Fault}
 use Rattle.pp_machine.specs.declared.trace.Trace.{Trace}

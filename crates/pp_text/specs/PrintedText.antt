@@ -1,12 +1,12 @@
 -- The text of a run: a line for each event, each processor named, and each channel with a history.
 -- A text is a list of ASCII codes, and every line ends with a line feed.
 use Rattle.std.specs.Prelude.{ℕ, zero, suc, ◌-◌, Bool, List, [], ◌∷◌, ◌++◌, Option, Some, None, codes, length, replicate, if◌then◌else◌, flat_map}
-use Rattle.pp_channel.specs.ChannelNo.{all_channels}
+use Rattle.pp_numbers.specs.ChannelNo.{all_channels}
 use Rattle.pp_channel.specs.History.{active, waiting, history_on}
 use Rattle.pp_channel.specs.declared.event.Event.{Event}
 use Rattle.pp_machine.specs.MachineState.{MachineState, processor_of}
 use Rattle.pp_machine.specs.Processor.{Processor}
-use Rattle.pp_machine.specs.PpNo.{all_processors, is_named}
+use Rattle.pp_numbers.specs.PpNo.{all_processors, is_named}
 use Rattle.pp_machine.specs.declared.pp_state.PpState.{PpState}
 use Rattle.pp_machine.specs.declared.trace.Trace.{Trace}
 use Rattle.pp_word.specs.Numeral.{decimal, octal}

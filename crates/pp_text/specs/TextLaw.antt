@@ -1,11 +1,11 @@
 -- What the text of a machine says of it: two machines with one text agree on all that it shows.
 use Rattle.std.specs.Prelude.{◌≡◌, ℕ, ◌<◌, ◌^◌, ◌↔◌, List, [], Bool, All, IfSome, IsTrue}
-use Rattle.pp_channel.specs.ChannelNo.{names_channel}
+use Rattle.pp_numbers.specs.ChannelNo.{names_channel}
 use Rattle.pp_channel.specs.History.{HasTwelveBitWord, active, waiting, history_on}
 use Rattle.pp_channel.specs.declared.event.Event.{Event}
 use Rattle.pp_machine.specs.MachineState.{MachineState, processor_of}
 use Rattle.pp_machine.specs.Processor.{Processor, HasFaultNumber}
-use Rattle.pp_machine.specs.PpNo.{names_processor, is_named}
+use Rattle.pp_numbers.specs.PpNo.{names_processor, is_named}
 use Rattle.pp_machine.specs.declared.trace.Trace.{Trace}
 
 -- an event fits its line: a turn of 64 bits, a processor, a channel, a word of 12 bits

@@ -2,11 +2,11 @@
 
 ghost use Rattle.std.specs.Prelude.{ℕ, All, IsTrue};
 ghost use Rattle.std.specs.List.{flat_map};
-ghost use Rattle.pp_channel.specs.ChannelNo.{all_channels, names_channel};
+ghost use Rattle.pp_numbers.specs.ChannelNo.{all_channels, names_channel};
 ghost use Rattle.pp_channel.specs.History.{history_on};
 ghost use Rattle.pp_machine.specs.MachineState.{processor_of};
 ghost use Rattle.pp_text.specs.TextWriter.{Prints};
-ghost use Rattle.pp_machine.specs.PpNo.{all_processors, is_named};
+ghost use Rattle.pp_numbers.specs.PpNo.{all_processors, is_named};
 ghost use Rattle.pp_text.specs.PrintedText.{event_line, named_processor_line, printed, used_channel_line};
 ghost use Rattle.pp_text.specs.TextLaw.{FitsItsText, HistoryFits, ProcessorFits, EventFits};
 ghost use Rattle.pp_text.specs.Written.{IsWritten};

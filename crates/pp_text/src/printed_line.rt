@@ -1,9 +1,9 @@
 //! The lines of a printed text.
 
 ghost use Rattle.std.specs.Prelude.{◌≡◌, ◌<◌, ◌^◌, ◌++◌, IsTrue, codes};
-ghost use Rattle.pp_channel.specs.ChannelNo.{names_channel};
+ghost use Rattle.pp_numbers.specs.ChannelNo.{names_channel};
 ghost use Rattle.pp_channel.specs.History.{HasTwelveBitWord};
-ghost use Rattle.pp_machine.specs.PpNo.{names_processor};
+ghost use Rattle.pp_numbers.specs.PpNo.{names_processor};
 ghost use Rattle.pp_word.specs.Numeral.{digits, octal};
 ghost use Rattle.pp_text.specs.PrintedText.{event_line, event_text, line_end, processor_line, state_text};
 ghost use Rattle.pp_text.specs.TextLaw.{ProcessorFits, EventFits};

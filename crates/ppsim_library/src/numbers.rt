@@ -3,10 +3,8 @@
 ghost use Rattle.std.specs.Prelude.{◌≡◌, Bool, List, MatchOption};
 ghost use Rattle.ppsim_library.specs.Numbers.{AreChannels, bounds_of, only_of, processor_of, profile_of, window_of};
 
-use pp_bounds::{Bounds, MOST_TURNS, Window};
-use pp_channel::CHANNELS;
 use pp_command::listed_channels;
-use pp_machine::{PROCESSORS, PpNo, Profile};
+use pp_numbers::{Bounds, CHANNELS, MOST_TURNS, PROCESSORS, PpNo, Profile, Window};
 
 /// The last turn of a run (decimal).
 const LAST_TURN: u32 = 999_999;

@@ -7,7 +7,7 @@ ghost use Rattle.pp_machine.specs.NextStep.{IsAtInstruction, IsNext, ends, is_in
 ghost use Rattle.pp_machine.specs.InstructionTable.{instruction};
 ghost use Rattle.pp_machine.specs.NeedAndEffect.{need, processor_after, outcome};
 ghost use Rattle.pp_machine.specs.Processor.{Processor};
-ghost use Rattle.pp_machine.specs.Profile.{has_channel};
+ghost use Rattle.pp_numbers.specs.Profile.{has_channel};
 ghost use Rattle.pp_machine.specs.Replay.{fits};
 ghost use Rattle.pp_machine.specs.Step.{need_of};
 

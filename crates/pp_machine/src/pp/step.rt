@@ -4,7 +4,7 @@ ghost use Rattle.std.specs.Prelude.{◌≡◌, ◌↔◌, if◌then◌else◌, I
 ghost use Rattle.pp_machine.specs.Block.{block_word};
 ghost use Rattle.pp_machine.specs.InstructionTable.{instruction};
 ghost use Rattle.pp_machine.specs.NeedAndEffect.{need, processor_after, outcome, IsHeldAnswer};
-ghost use Rattle.pp_machine.specs.Profile.{has_channel};
+ghost use Rattle.pp_numbers.specs.Profile.{has_channel};
 ghost use Rattle.pp_machine.specs.Replay.{fits};
 ghost use Rattle.pp_machine.specs.Step.{need_of};
 ghost use Rattle.pp_machine.specs.Processor.{IsAtRest, IsAtFault, KeepsMemoryAndRegisters};

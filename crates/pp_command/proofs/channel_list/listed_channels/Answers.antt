@@ -1,5 +1,5 @@
 use Rattle.std.proofs.Common.{rules, ◌≡◌, Some, [], ◌∷◌}
-use Rattle.pp_channel.specs.ChannelNo.{channel_count, names_channel}
+use Rattle.pp_numbers.specs.ChannelNo.{channel_count, names_channel}
 use Rattle.pp_command.proofs.NumberListLemmas.{all_flagged, flag_more, one_channel}
 use Rattle.pp_command.specs.ChannelList.{is_flagged_channel}
 use Rattle.pp_command.specs.NumberList.{numbered, numbers_of}

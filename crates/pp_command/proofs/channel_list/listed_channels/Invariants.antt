@@ -1,5 +1,5 @@
 use Rattle.std.proofs.Common.{length}
-use Rattle.pp_channel.specs.ChannelNo.{channel_count, names_channel}
+use Rattle.pp_numbers.specs.ChannelNo.{channel_count, names_channel}
 use Rattle.pp_command.proofs.NumberListLemmas.{HasFlagged}
 use Rattle.pp_command.proofs.channel_list.listed_channels.Given as goal
 use Rattle.pp_command.specs.ChannelList.{is_flagged_channel}

@@ -1,6 +1,6 @@
 use Rattle.std.proofs.Common.{length}
-use Rattle.pp_machine.specs.PpNo.{is_named, processor_count}
-use Rattle.pp_machine.specs.Profile.{has_processor}
+use Rattle.pp_numbers.specs.PpNo.{is_named, processor_count}
+use Rattle.pp_numbers.specs.Profile.{has_processor}
 use Rattle.pp_command.proofs.NumberListLemmas.{HasFlagged}
 use Rattle.pp_command.proofs.processor_list.listed_processors.Given as goal
 use Rattle.pp_command.specs.NumberList.{numbers_of}

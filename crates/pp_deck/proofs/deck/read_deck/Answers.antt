@@ -1,6 +1,6 @@
 use Rattle.std.proofs.Common.{◌≡◌, ◌≤◌, ◌∙◌, List, ℕ, None, Ok, ap, arith, length, sym}
 use Rattle.std.specs.Prelude.{position}
-use Rattle.pp_machine.specs.declared.profile.Profile.{Profile}
+use Rattle.pp_numbers.specs.declared.profile.Profile.{Profile}
 use Rattle.pp_deck.specs.DeckMeaning.{deck_meaning, is_foreign, meaning_of_lines}
 use Rattle.pp_deck.specs.DeckText.{lines_of}
 use Rattle.pp_deck.proofs.deck.read_deck.Goals as goal

@@ -1,6 +1,6 @@
 use Rattle.std.proofs.Common.{◌≡◌, ℕ, ◌<◌, ◌≤◌, length, false, get_or}
 use Rattle.std.specs.Prelude.{not}
-use Rattle.pp_machine.specs.PpNo.{processor_count}
+use Rattle.pp_numbers.specs.PpNo.{processor_count}
 use Rattle.pp_deck.proofs.reading.unnamed.Given as goal
 
 abbrev pub invariant-loop-place : goal.invariant-loop-place

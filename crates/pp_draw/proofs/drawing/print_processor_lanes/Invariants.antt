@@ -1,4 +1,4 @@
-use Rattle.pp_machine.specs.PpNo.{processor_number}
+use Rattle.pp_numbers.specs.PpNo.{processor_number}
 use Rattle.pp_text.specs.PrintedText.{each_below}
 use Rattle.pp_text.specs.TextWriter.{Prints}
 use Rattle.pp_draw.specs.DrawingText.{processor_lane}

@@ -1,6 +1,6 @@
 use Rattle.std.proofs.Common.{◌≡◌, [], true, sym, ap, ◌∙◌, subst, arith}
 use Rattle.std.proofs.lemmas.Bool.{cond-true}
-use Rattle.pp_channel.specs.ChannelNo.{channel_index}
+use Rattle.pp_numbers.specs.ChannelNo.{channel_index}
 use Rattle.pp_channel.specs.History.{active, waiting}
 use Rattle.pp_machine.specs.MachineState.{history_of}
 use Rattle.pp_text.specs.PrintedText.{channel_text}

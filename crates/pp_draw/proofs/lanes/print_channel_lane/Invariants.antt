@@ -1,7 +1,7 @@
 use Rattle.std.proofs.Common.{◌++◌, drop}
 use Rattle.pp_draw.specs.Condition.{channel_name}
 use Rattle.pp_draw.specs.DrawingText.{used_among}
-use Rattle.pp_channel.specs.ChannelNo.{channel_index}
+use Rattle.pp_numbers.specs.ChannelNo.{channel_index}
 use Rattle.pp_draw.specs.Elements.{lane_head}
 use Rattle.pp_draw.specs.Lane.{LeadsTo, drawn}
 use Rattle.pp_draw.specs.Phases.{channel_phases, phases_on}

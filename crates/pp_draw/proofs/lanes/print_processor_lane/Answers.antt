@@ -1,7 +1,7 @@
 use Rattle.std.proofs.Common.{◌≡◌, [], true, refl, sym, ap, ◌∙◌, subst, arith}
 use Rattle.std.proofs.lemmas.Bool.{cond-true}
 use Rattle.pp_machine.specs.MachineState.{processor_of}
-use Rattle.pp_machine.specs.PpNo.{processor_index}
+use Rattle.pp_numbers.specs.PpNo.{processor_index}
 use Rattle.pp_text.specs.PrintedText.{state_text}
 use Rattle.pp_text.proofs.PrintingLemmas.{◌▹◌}
 use Rattle.pp_text.specs.TextWriter.{Prints}

@@ -1,5 +1,5 @@
 use Rattle.std.proofs.Common.{◌++◌, drop}
-use Rattle.pp_machine.specs.PpNo.{processor_index}
+use Rattle.pp_numbers.specs.PpNo.{processor_index}
 use Rattle.pp_draw.specs.Condition.{processor_name}
 use Rattle.pp_draw.specs.DrawingText.{lanes_above}
 use Rattle.pp_draw.specs.Elements.{lane_head}

@@ -1,5 +1,5 @@
 use Rattle.std.proofs.Common.{ℕ, arith}
-use Rattle.pp_channel.specs.ChannelNo.{channel_number}
+use Rattle.pp_numbers.specs.ChannelNo.{channel_number}
 use Rattle.pp_draw.specs.DrawingText.{is_used}
 use Rattle.pp_draw.proofs.RowLemmas.{none_below, one_at_most, one_more}
 use Rattle.pp_draw.proofs.rows.used_among.Goals as goal

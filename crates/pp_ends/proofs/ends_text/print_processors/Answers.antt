@@ -1,6 +1,6 @@
 use Rattle.std.proofs.Common.{◌≡◌, arith}
 use Rattle.pp_word.specs.Tables.{tabulate}
-use Rattle.pp_machine.specs.PpNo.{all_processors, processor_count, processor_number}
+use Rattle.pp_numbers.specs.PpNo.{all_processors, processor_count, processor_number}
 use Rattle.pp_text.proofs.PrintingLemmas.{prints_nothing, prints_on, walk_more}
 use Rattle.pp_ends.specs.EndsText.{looping_line}
 use Rattle.pp_ends.proofs.ends_text.print_processors.Goals as goal

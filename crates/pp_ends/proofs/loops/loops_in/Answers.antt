@@ -5,8 +5,8 @@ use Rattle.pp_run.specs.BareMachine.{StandsFor}
 use Rattle.pp_machine.specs.MachineState.{MachineState}
 use Rattle.pp_machine.specs.MachineStep.{stepped}
 use Rattle.pp_machine.specs.Processor.{Processor}
-use Rattle.pp_machine.specs.PpNo.{names_processor, processor_count, processor_index, processor_places}
-use Rattle.pp_machine.specs.Profile.{processor_in_turn}
+use Rattle.pp_numbers.specs.PpNo.{names_processor, processor_count, processor_index, processor_places}
+use Rattle.pp_numbers.specs.Profile.{processor_in_turn}
 use Rattle.pp_machine.proofs.RunLemmas.{barrel_more}
 use Rattle.pp_ends.specs.Endings.{after_turns}
 use Rattle.pp_ends.specs.Loops.{TellLoops}

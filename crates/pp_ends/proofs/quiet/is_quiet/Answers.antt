@@ -1,7 +1,7 @@
 use Rattle.std.proofs.Common.{ℕ, subst, arith}
 use Rattle.std.specs.Prelude.{Bool}
 use borrow.Author.Count.{below_more}
-use Rattle.pp_machine.specs.PpNo.{processor_number}
+use Rattle.pp_numbers.specs.PpNo.{processor_number}
 use Rattle.pp_run.specs.Determinacy.{Waits}
 use Rattle.pp_ends.specs.Endings.{TellsMove}
 use Rattle.pp_ends.proofs.QuietLemmas.{moves_at, quiet_by_places}

@@ -2,8 +2,8 @@ use Rattle.std.proofs.Common.{◌≡◌, ℕ, sym, ap, ◌∙◌, subst, arith}
 use Rattle.pp_run.specs.BareMachine.{StandsFor}
 use Rattle.pp_machine.specs.MachineState.{MachineState}
 use Rattle.pp_machine.specs.MachineStep.{stepped}
-use Rattle.pp_machine.specs.PpNo.{processor_number}
-use Rattle.pp_machine.specs.Profile.{processor_in_turn, processors_in}
+use Rattle.pp_numbers.specs.PpNo.{processor_number}
+use Rattle.pp_numbers.specs.Profile.{processor_in_turn, processors_in}
 use Rattle.pp_machine.specs.Run.{barrel, run}
 use Rattle.pp_machine.proofs.RunLemmas.{barrel_more}
 use Rattle.pp_ends.specs.Rounds.{after_rounds}

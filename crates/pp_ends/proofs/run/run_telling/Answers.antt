@@ -4,7 +4,7 @@ use Rattle.std.specs.Bool.{OnFalse}
 use Rattle.pp_run.specs.BareMachine.{StandsFor}
 use Rattle.pp_machine.specs.MachineState.{MachineState}
 use Rattle.pp_machine.specs.MachineStep.{stepped}
-use Rattle.pp_machine.specs.Profile.{processor_in_turn}
+use Rattle.pp_numbers.specs.Profile.{processor_in_turn}
 use Rattle.pp_machine.proofs.RunLemmas.{barrel_more}
 use Rattle.pp_ends.specs.Endings.{IsStillFrom, TellsMove, WaitsAt, after_turns}
 use Rattle.pp_ends.proofs.StillLemmas.{still_after, still_more}

@@ -1,7 +1,7 @@
 use Rattle.std.proofs.Common.{◌≡◌, ℕ, ◌<◌, ◌≤◌, ◌++◌, List, [], length, get_or}
 use Rattle.std.specs.List.{flat_map}
 use Rattle.pp_channel.specs.declared.event.Event.{Event}
-use Rattle.pp_channel.specs.ChannelNo.{channel_count}
+use Rattle.pp_numbers.specs.ChannelNo.{channel_count}
 use Rattle.pp_line.specs.Merge.{IsRecordedBy}
 use Rattle.pp_line.proofs.recorded_history.recorded_channels.Given as goal
 

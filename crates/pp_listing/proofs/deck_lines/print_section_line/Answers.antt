@@ -1,5 +1,5 @@
 use Rattle.std.proofs.Common.{arith, ◌∙◌}
-use Rattle.pp_machine.proofs.PpNoLemmas.{processor_fits}
+use Rattle.pp_numbers.proofs.PpNoLemmas.{processor_fits}
 use Rattle.pp_text.proofs.PrintingLemmas.{prints_on, prints_then}
 use Rattle.pp_listing.proofs.TextLemmas.{section_line_pieces}
 use Rattle.pp_listing.proofs.deck_lines.print_section_line.Goals as goal

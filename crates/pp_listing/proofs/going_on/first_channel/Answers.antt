@@ -1,5 +1,5 @@
 use Rattle.std.proofs.Common.{arith}
-use Rattle.pp_channel.specs.ChannelNo.{all_channels, channel_count, channel_number}
+use Rattle.pp_numbers.specs.ChannelNo.{all_channels, channel_count, channel_number}
 use Rattle.pp_listing.specs.Dump.{busy_channel}
 use Rattle.pp_listing.proofs.GoingOnLemmas.{from_start, none_more, first_found, none_found, on_channel_there}
 use Rattle.pp_listing.proofs.going_on.first_channel.Goals as goal

@@ -1,4 +1,4 @@
-use Rattle.pp_channel.specs.ChannelNo.{channel_count, channel_number}
+use Rattle.pp_numbers.specs.ChannelNo.{channel_count, channel_number}
 use Rattle.pp_listing.specs.Dump.{busy_channel}
 use Rattle.pp_listing.proofs.GoingOnLemmas.{IsFirstFrom}
 use Rattle.pp_listing.proofs.going_on.first_channel.Given as goal

@@ -1,5 +1,5 @@
 use Rattle.std.proofs.Common.{arith}
-use Rattle.pp_machine.specs.PpNo.{all_processors, processor_count, processor_number}
+use Rattle.pp_numbers.specs.PpNo.{all_processors, processor_count, processor_number}
 use Rattle.pp_listing.specs.Dump.{busy_processor}
 use Rattle.pp_listing.proofs.GoingOnLemmas.{from_start, none_more, first_found, none_found, in_processor_there}
 use Rattle.pp_listing.proofs.going_on.first_processor.Goals as goal

@@ -1,4 +1,4 @@
-use Rattle.pp_machine.specs.PpNo.{processor_count, processor_number}
+use Rattle.pp_numbers.specs.PpNo.{processor_count, processor_number}
 use Rattle.pp_listing.specs.Dump.{busy_processor}
 use Rattle.pp_listing.proofs.GoingOnLemmas.{IsFirstFrom}
 use Rattle.pp_listing.proofs.going_on.first_processor.Given as goal

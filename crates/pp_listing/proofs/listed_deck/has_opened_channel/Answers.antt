@@ -1,7 +1,7 @@
 use Rattle.std.proofs.Common.{rules, refl, ◌∙◌}
 use Rattle.std.proofs.lemmas.Iterator.{YieldsList-from_range}
 use Rattle.std.proofs.lemmas.Iterator.Search.{any_from_yields_List}
-use Rattle.pp_channel.specs.ChannelNo.{channel_count, channel_number}
+use Rattle.pp_numbers.specs.ChannelNo.{channel_count, channel_number}
 use Rattle.pp_machine.specs.MachineState.{is_opened}
 use Rattle.pp_listing.proofs.ListedLemmas.{any_by_place}
 use Rattle.pp_listing.proofs.listed_deck.has_opened_channel.Goals as goal

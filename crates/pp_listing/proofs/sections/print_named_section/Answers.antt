@@ -1,6 +1,6 @@
 use Rattle.std.proofs.Common.{◌≡◌, Bool, true, cond, [], ap, sym, subst, rules, ◌∙◌}
 use Rattle.pp_machine.specs.MachineState.{processor_of}
-use Rattle.pp_machine.specs.PpNo.{is_named}
+use Rattle.pp_numbers.specs.PpNo.{is_named}
 use Rattle.pp_machine.specs.Processor.{Processor}
 use Rattle.pp_text.specs.TextWriter.{Prints}
 use Rattle.pp_listing.specs.ListedLine.{text_of}

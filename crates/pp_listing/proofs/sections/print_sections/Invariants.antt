@@ -1,6 +1,6 @@
 use Rattle.std.specs.List.{flat_map}
 use Rattle.pp_word.specs.Tables.{tabulate}
-use Rattle.pp_machine.specs.PpNo.{processor_number}
+use Rattle.pp_numbers.specs.PpNo.{processor_number}
 use Rattle.pp_text.specs.TextWriter.{Prints}
 use Rattle.pp_listing.specs.ListedLine.{text_line}
 use Rattle.pp_listing.specs.Listing.{named_section}

@@ -1,5 +1,5 @@
 use Rattle.std.proofs.Common.{◌≡◌, ◌+◌, length}
-use Rattle.pp_machine.specs.PpNo.{processor_count}
+use Rattle.pp_numbers.specs.PpNo.{processor_count}
 use Rattle.pp_machine.proofs.RoundLemmas.{PassesFrom}
 use Rattle.pp_machine.proofs.barrel.next_running.Given as goal
 

@@ -1,6 +1,6 @@
 use Rattle.std.proofs.Common.{◌≡◌}
 use Rattle.std.specs.Prelude.{vec_len}
-use Rattle.pp_channel.specs.ChannelNo.{channel_count}
+use Rattle.pp_numbers.specs.ChannelNo.{channel_count}
 use Rattle.pp_machine.proofs.machine.reserve_each.Given as goal
 
 abbrev pub invariant-loop-place : goal.invariant-loop-place

@@ -1,7 +1,7 @@
 use Rattle.std.proofs.Common.{◌≡◌, ◌≤◌, ◌+◌, ◌-◌, refl, List, [], get_or, sym, subst, arith}
 use Rattle.std.specs.Prelude.{None}
 use Rattle.pp_channel.specs.Answer.{event_of, reply_to}
-use Rattle.pp_channel.specs.ChannelNo.{channel_index}
+use Rattle.pp_numbers.specs.ChannelNo.{channel_index}
 use Rattle.pp_channel.specs.declared.event.Event.{Event}
 use Rattle.pp_machine.specs.MachineState.{history_of}
 use Rattle.pp_machine.proofs.QuietLemmas.{none_ahead, ahead_more, local_ahead, shown_ahead, ahead_at_rest, ahead_held}

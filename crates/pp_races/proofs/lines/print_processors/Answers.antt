@@ -1,7 +1,7 @@
 use Rattle.std.proofs.Common.{◌++◌, ◌+◌, ℕ, Bool, false, List, [], sym, ap, ◌∙◌, append-nil, codes, take, refl, subst, arith}
 use Rattle.std.specs.Prelude.{count_by, nat_lt, if◌then◌else◌}
 use Rattle.std.proofs.lemmas.List.Sums.{count_by_more_no, count_by_more_yes}
-use Rattle.pp_machine.specs.PpNo.{processor_number}
+use Rattle.pp_numbers.specs.PpNo.{processor_number}
 use Rattle.pp_word.specs.Numeral.{octal}
 use Rattle.pp_text.proofs.PrintingLemmas.{prints_nothing, prints_on}
 use Rattle.pp_text.specs.TextWriter.{Prints}

@@ -1,6 +1,6 @@
 use Rattle.std.proofs.Common.{◌≡◌, ℕ, subst, ap, ◌∙◌, ◌++◌, inl, inr, arith}
 use Rattle.std.proofs.lemmas.Bool.{cases_lt}
-use Rattle.pp_machine.specs.PpNo.{processor_count, processor_index, processor_number, processor_places}
+use Rattle.pp_numbers.specs.PpNo.{processor_count, processor_index, processor_number, processor_places}
 use Rattle.pp_races.specs.Findings.{end_of}
 use Rattle.pp_races.specs.Soundness.{TurnTestIsExact}
 use Rattle.pp_races.specs.Watch.{each_below}

@@ -1,5 +1,5 @@
 use Rattle.std.proofs.Common.{◌≡◌, ◌++◌, ℕ, ◌<◌}
-use Rattle.pp_machine.specs.PpNo.{processor_number}
+use Rattle.pp_numbers.specs.PpNo.{processor_number}
 use Rattle.pp_races.specs.Findings.{end_of}
 use Rattle.pp_races.specs.Soundness.{TurnTestIsExact}
 use Rattle.pp_races.specs.Tables.{AreLow}

@@ -1,5 +1,5 @@
 use Rattle.std.proofs.Common.{◌≡◌, ℕ, ◌<◌, false, length, get_or}
-use Rattle.pp_machine.specs.PpNo.{processor_count, processor_number}
+use Rattle.pp_numbers.specs.PpNo.{processor_count, processor_number}
 use Rattle.pp_races.specs.Tables.{has_bit}
 use Rattle.pp_races.proofs.sharing.flags_of.Given as goal
 

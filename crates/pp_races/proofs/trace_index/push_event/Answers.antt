@@ -1,6 +1,6 @@
 use Rattle.std.proofs.Common.{◌/◌, ◌<◌, length, subst, sym, ap, ◌∙◌, refl, arith}
 use Rattle.std.specs.Prelude.{List, vec_len}
-use Rattle.pp_channel.specs.ChannelNo.{channel_places}
+use Rattle.pp_numbers.specs.ChannelNo.{channel_places}
 use Rattle.pp_races.specs.declared.span.Span.{Span}
 use Rattle.pp_races.proofs.RowLemmas.{HaveRoom, event_pushed, in_row, room_left, room_made}
 use Rattle.pp_races.proofs.trace_index.push_event.Goals as goal

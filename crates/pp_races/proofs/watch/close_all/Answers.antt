@@ -1,6 +1,6 @@
 use Rattle.std.proofs.Common.{◌≡◌, ℕ, IsTrue, subst, arith}
-use Rattle.pp_channel.specs.ChannelNo.{names_channel}
-use Rattle.pp_machine.specs.PpNo.{processor_count, processor_number, processor_places}
+use Rattle.pp_numbers.specs.ChannelNo.{names_channel}
+use Rattle.pp_numbers.specs.PpNo.{processor_count, processor_number, processor_places}
 use Rattle.pp_races.specs.Tables.{closing_findings}
 use Rattle.pp_races.proofs.CloseLemmas.{closed_more, closed_none, found_more}
 use Rattle.pp_races.proofs.EndLemmas.{each_none}

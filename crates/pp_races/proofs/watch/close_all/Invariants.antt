@@ -1,5 +1,5 @@
 use Rattle.std.proofs.Common.{◌≡◌, ◌++◌}
-use Rattle.pp_machine.specs.PpNo.{processor_number}
+use Rattle.pp_numbers.specs.PpNo.{processor_number}
 use Rattle.pp_races.specs.Tables.{closing_findings}
 use Rattle.pp_races.specs.Watch.{each_below}
 use Rattle.pp_races.proofs.CloseLemmas.{AreClosedBelow}

@@ -1,6 +1,6 @@
 use Rattle.std.proofs.Common.{◌≡◌, ℕ, ◌<◌, ◌%◌, length, get_or}
 use Rattle.pp_channel.specs.Answer.{flags_of}
-use Rattle.pp_channel.specs.ChannelNo.{channel_count, channel_number}
+use Rattle.pp_numbers.specs.ChannelNo.{channel_count, channel_number}
 use Rattle.pp_machine.specs.MachineState.{history_of}
 use Rattle.pp_races.specs.Tables.{no_low}
 use Rattle.pp_races.proofs.watch_tables.first_low.Given as goal

@@ -1,8 +1,8 @@
 use Rattle.std.proofs.Common.{◌≡◌, ◌++◌, List, subst, sym, ap, ◌∙◌, length, arith}
 use Rattle.std.specs.Vec.{with_items}
 use Rattle.std.proofs.lemmas.List.{with_items_is}
-use Rattle.pp_machine.specs.Profile.{processor_in_turn}
-use Rattle.pp_machine.specs.PpNo.{processor_places}
+use Rattle.pp_numbers.specs.Profile.{processor_in_turn}
+use Rattle.pp_numbers.specs.PpNo.{processor_places}
 use Rattle.pp_machine.specs.MachineState.{MachineState}
 use Rattle.pp_machine.specs.MachineStep.{stepped}
 use Rattle.pp_machine.specs.NeedAndEffect.{need}

@@ -1,10 +1,10 @@
 use Rattle.std.proofs.Common.{◌≡◌, ℕ, List, option_map, subst, [], length, map, ◌∙◌, ap, None, slice_index_or, arith}
 use Rattle.std.proofs.Math.ListN.{get_or-map}
 use Rattle.std.proofs.lemmas.List.{get_or-replicate, length-map, length-replicate, take_all}
-use Rattle.pp_channel.specs.ChannelNo.{channel_index}
+use Rattle.pp_numbers.specs.ChannelNo.{channel_index}
 use Rattle.pp_channel.specs.History.{history_on}
 use Rattle.pp_line.specs.Merge.{times_logged}
-use Rattle.pp_machine.specs.PpNo.{processor_number}
+use Rattle.pp_numbers.specs.PpNo.{processor_number}
 use Rattle.pp_report.specs.PrintedReport.{author_place}
 use Rattle.pp_report.specs.Types.{Worker}
 use Rattle.pp_report.proofs.AuthorLemmas.{author_push}

@@ -1,8 +1,8 @@
 use Rattle.std.proofs.Common.{◌≡◌, ◌<◌, ℕ, None, length, slice_index_or, option_map, take}
 use Rattle.std.specs.Prelude.{IsTrue}
-use Rattle.pp_channel.specs.ChannelNo.{channel_count, names_channel}
+use Rattle.pp_numbers.specs.ChannelNo.{channel_count, names_channel}
 use Rattle.pp_channel.specs.History.{history_on}
-use Rattle.pp_machine.specs.PpNo.{processor_number}
+use Rattle.pp_numbers.specs.PpNo.{processor_number}
 use Rattle.pp_report.specs.Authors.{authors_on}
 use Rattle.pp_report.specs.PrintedReport.{author_place}
 use Rattle.pp_report.proofs.authors.authors.Given as goal

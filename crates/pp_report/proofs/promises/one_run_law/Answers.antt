@@ -1,6 +1,6 @@
 use Rattle.std.proofs.Common.{subst, sym}
 use Rattle.pp_deck.specs.DeckLaw.{NamesWithin}
-use Rattle.pp_machine.specs.declared.profile.Profile.{Profile}
+use Rattle.pp_numbers.specs.declared.profile.Profile.{Profile}
 use Rattle.pp_report.proofs.LoadedLemmas.{lacked_rests, not_run}
 use Rattle.pp_report.proofs.OneRunLemmas.{is_quiet, leads_alike, over_at_rest, shows_parts}
 use Rattle.pp_report.proofs.promises.one_run_law.Goals as goal

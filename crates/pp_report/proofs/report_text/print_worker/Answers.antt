@@ -1,7 +1,7 @@
 use Rattle.std.proofs.Common.{◌≡◌, Some, None, sym, ap}
 use Rattle.std.specs.Prelude.{slice_get}
 use Rattle.std.proofs.lemmas.Option.{slice_get-get_or, slice_get_past}
-use Rattle.pp_machine.specs.PpNo.{processor_index}
+use Rattle.pp_numbers.specs.PpNo.{processor_index}
 use Rattle.pp_text.proofs.PrintingLemmas.{prints_nothing}
 use Rattle.pp_report.proofs.report_text.print_worker.Goals as goal
 

@@ -1,5 +1,5 @@
 use Rattle.std.proofs.Common.{◌≡◌, ◌<◌, ◌+◌, ◌^◌, ℕ, List, inr, length, refl, sym, ap, ◌∙◌, subst, arith}
-use Rattle.pp_machine.specs.Profile.{processor_in_turn}
+use Rattle.pp_numbers.specs.Profile.{processor_in_turn}
 use Rattle.pp_machine.specs.Run.{barrel, run}
 use Rattle.pp_machine.proofs.RunLemmas.{barrel_more}
 use Rattle.pp_run.specs.RunSteps.{IsMade, RunStep, barrel_step, run_steps}

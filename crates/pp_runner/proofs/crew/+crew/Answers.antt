@@ -1,6 +1,6 @@
 use Rattle.std.proofs.Common.{◌+◌, ◌*◌, ◌∙◌, ap, subst, sym, vec_len, rules, arith}
 use Rattle.pp_machine.specs.MachineState.{processor_of}
-use Rattle.pp_machine.specs.PpNo.{processor_number}
+use Rattle.pp_numbers.specs.PpNo.{processor_number}
 use Rattle.pp_runner.proofs.CrewLemmas.{taken_of, taken_unused, some_left, ready_before, ended_alone, ended_beside, promised}
 use Rattle.pp_runner.specs.Crew.{IsEnded}
 use Rattle.pp_runner.specs.declared.crew.EndOf.{EndOf}

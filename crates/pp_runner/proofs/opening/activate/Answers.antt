@@ -1,5 +1,5 @@
 use Rattle.std.proofs.Common.{◌<◌, ap, arith}
-use Rattle.pp_channel.specs.ChannelNo.{channel_count, channel_index}
+use Rattle.pp_numbers.specs.ChannelNo.{channel_count, channel_index}
 use Rattle.pp_channel.specs.declared.chan_op.ChanOp.{ChanOp}
 use Rattle.pp_line.proofs.OpeningLemmas.{activated, never_worn}
 use Rattle.pp_runner.proofs.opening.activate.Goals as goal

@@ -1,5 +1,5 @@
 use Rattle.std.proofs.Common.{◌≡◌, ◌∙◌, ℕ, ◌+◌, ◌-◌, ◌<◌, List, [], ◌∷◌, ◌++◌, true, false, sym, ap, subst, arith}
-use Rattle.pp_channel.specs.ChannelNo.{channel_count, channel_number}
+use Rattle.pp_numbers.specs.ChannelNo.{channel_count, channel_number}
 use Rattle.pp_line.specs.LineState.{LineState}
 use Rattle.pp_line.specs.Merge.{IsOpeningLog, times_logged}
 use Rattle.pp_line.specs.LineLog.{IsWithin, event_entry}

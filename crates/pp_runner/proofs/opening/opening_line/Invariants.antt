@@ -1,5 +1,5 @@
 use Rattle.std.proofs.Common.{◌≡◌, ◌+◌, ◌≤◌, []}
-use Rattle.pp_channel.specs.ChannelNo.{channel_count}
+use Rattle.pp_numbers.specs.ChannelNo.{channel_count}
 use Rattle.pp_line.specs.Merge.{IsOpeningLog}
 use Rattle.pp_line.specs.LineLog.{IsWithin}
 use Rattle.pp_runner.proofs.OpeningLemmas.{opened_before}

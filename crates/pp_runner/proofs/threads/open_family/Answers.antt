@@ -2,7 +2,7 @@ use Rattle.std.proofs.Common.{ℕ, ◌≡◌, ◌+◌, ◌-◌, List, ap, sym, �
 use Rattle.std.specs.Prelude.{All}
 use Rattle.std.proofs.lemmas.List.Elements.{All-nil}
 use Rattle.pp_line.specs.LineState.{LineState, IsSplitFrom}
-use Rattle.pp_machine.specs.Profile.{processors_in}
+use Rattle.pp_numbers.specs.Profile.{processors_in}
 use Rattle.pp_runner.proofs.CrewLemmas.{split_more, opened_split}
 use Rattle.pp_runner.specs.Crew.{HasOpened}
 use Rattle.pp_runner.proofs.threads.open_family.Goals as goal

@@ -1,6 +1,6 @@
 use Rattle.std.proofs.Common.{◌≡◌, ◌+◌, ◌-◌, vec_len}
 use Rattle.std.specs.Prelude.{All}
-use Rattle.pp_machine.specs.Profile.{processors_in}
+use Rattle.pp_numbers.specs.Profile.{processors_in}
 use Rattle.pp_line.specs.LineState.{IsSplitFrom}
 use Rattle.pp_runner.specs.Crew.{HasOpened}
 use Rattle.pp_runner.proofs.threads.open_family.Given as goal

@@ -15,8 +15,8 @@ use Rattle.pp_line.proofs.OpeningLemmas.{merges_after}
 use Rattle.pp_line.proofs.OrderLemmas.{order_later}
 use Rattle.pp_line.specs.Order.{IsTotalOrderOf, ExtendsEach, IsDrawnFrom, FindsWords, AreMade, entries_among, writes_among}
 use Rattle.pp_machine.specs.Headline.{opening_history}
-use Rattle.pp_machine.specs.Profile.{processors_in}
-use Rattle.pp_machine.proofs.ProfileLemmas.{some_processors, most_processors}
+use Rattle.pp_numbers.specs.Profile.{processors_in}
+use Rattle.pp_numbers.proofs.ProfileLemmas.{some_processors, most_processors}
 use Rattle.pp_runner.proofs.ReportLemmas.{ended_tables, ended_shares, ended_begun, ended_left}
 use Rattle.pp_runner.proofs.LateAccesses.{is_late, late_entries, late_finds, made_late}
 use Rattle.pp_runner.specs.Accesses.{HaveAccessed}

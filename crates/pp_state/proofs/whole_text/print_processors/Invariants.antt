@@ -1,6 +1,6 @@
 use Rattle.std.specs.List.{flat_map}
 use Rattle.pp_word.specs.Tables.{tabulate}
-use Rattle.pp_machine.specs.PpNo.{processor_number}
+use Rattle.pp_numbers.specs.PpNo.{processor_number}
 use Rattle.pp_text.specs.TextWriter.{Prints}
 use Rattle.pp_state.specs.StateText.{standing_line}
 use Rattle.pp_state.proofs.whole_text.print_processors.Given as goal

@@ -1,6 +1,6 @@
 use Rattle.std.proofs.Common.{◌≡◌, ◌∙◌, arith}
 use Rattle.std.proofs.lemmas.List.{replicate_more}
-use Rattle.pp_machine.specs.PpNo.{processor_count}
+use Rattle.pp_numbers.specs.PpNo.{processor_count}
 use Rattle.pp_steps.specs.HeldRuns.{no_spells}
 use Rattle.pp_steps.proofs.run_counts.no_runs.Goals as goal
 

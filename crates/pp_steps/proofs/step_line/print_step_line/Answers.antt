@@ -3,7 +3,7 @@ use Rattle.pp_machine.specs.MachineState.{processor_of}
 use Rattle.pp_machine.specs.MachineStep.{answer_to, central_after, stepped}
 use Rattle.pp_machine.specs.NeedAndEffect.{need, processor_after}
 use Rattle.pp_machine.specs.Processor.{Processor}
-use Rattle.pp_machine.specs.PpNo.{processor_index}
+use Rattle.pp_numbers.specs.PpNo.{processor_index}
 use Rattle.pp_machine.specs.declared.need.Need.{Need}
 use Rattle.pp_text.proofs.PrintingLemmas.{◌▹◌}
 use Rattle.pp_steps.specs.StepLine.{step_line}

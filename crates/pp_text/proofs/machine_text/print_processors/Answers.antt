@@ -2,7 +2,7 @@ use Rattle.std.proofs.Common.{◌≡◌, ℕ, ◌<◌, subst, sym, arith, below_
 use Rattle.std.proofs.lemmas.Bool.{and_parts}
 use Rattle.std.specs.Prelude.{IsTrue}
 use Rattle.pp_machine.specs.MachineState.{processor_of}
-use Rattle.pp_machine.specs.PpNo.{all_processors, is_named, names_processor, processor_count, processor_index, processor_number, processor_places}
+use Rattle.pp_numbers.specs.PpNo.{all_processors, is_named, names_processor, processor_count, processor_index, processor_number, processor_places}
 use Rattle.pp_text.specs.TextLaw.{ProcessorFits}
 use Rattle.pp_text.specs.PrintedText.{named_processor_line}
 use Rattle.pp_text.proofs.PrintingLemmas.{prints_nothing, prints_on, walk_zero, walk_more}

@@ -3,7 +3,7 @@ use Rattle.std.specs.Prelude.{IsTrue}
 use Rattle.std.specs.List.{flat_map}
 use Rattle.pp_word.specs.Tables.{tabulate}
 use Rattle.pp_machine.specs.MachineState.{processor_of}
-use Rattle.pp_machine.specs.PpNo.{is_named, processor_number}
+use Rattle.pp_numbers.specs.PpNo.{is_named, processor_number}
 use Rattle.pp_text.specs.TextLaw.{ProcessorFits}
 use Rattle.pp_text.specs.TextWriter.{Prints}
 use Rattle.pp_text.specs.PrintedText.{named_processor_line}

@@ -1,6 +1,6 @@
 use Rattle.std.proofs.Common.{◌≡◌, ℕ, ◌≤◌, false, get_or, length}
-use Rattle.pp_machine.specs.Profile.{processors_in}
-use Rattle.pp_machine.specs.PpNo.{processor_count}
+use Rattle.pp_numbers.specs.Profile.{processors_in}
+use Rattle.pp_numbers.specs.PpNo.{processor_count}
 use Rattle.test_bench.proofs.dead_start.waiting.Given as goal
 
 abbrev pub invariant-loop-place : goal.invariant-loop-place

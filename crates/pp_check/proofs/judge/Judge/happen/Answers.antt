@@ -1,6 +1,6 @@
 use Rattle.std.proofs.Common.{ℕ, Bool, arith, rules, true, false, ◌≡◌, ◌+◌, sym, ap, ◌∙◌, length}
 use Rattle.std.specs.Prelude.{slice_set, if◌then◌else◌}
-use Rattle.pp_channel.specs.ChannelNo.{channel_count}
+use Rattle.pp_numbers.specs.ChannelNo.{channel_count}
 use Rattle.pp_check.specs.Judge.{standing, standing_of}
 use Rattle.pp_check.specs.LawfulTrace.{history}
 use Rattle.pp_check.specs.Verdict.{is_activate}

@@ -1,5 +1,5 @@
 use Rattle.std.proofs.Common.{◌≡◌, length}
-use Rattle.pp_channel.specs.ChannelNo.{channel_count}
+use Rattle.pp_numbers.specs.ChannelNo.{channel_count}
 use Rattle.pp_check.proofs.OpeningLemmas.{AreOpenedTo}
 use Rattle.pp_check.proofs.judge.Judge.new.Given as goal
 

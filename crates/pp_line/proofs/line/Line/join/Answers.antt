@@ -1,6 +1,6 @@
 use Rattle.std.proofs.Common.{◌+◌, sym, ap, ◌∙◌, subst, arith}
 use Rattle.pp_line.specs.declared.rule.LineView.{LineView}
-use Rattle.pp_channel.specs.ChannelNo.{channel_index}
+use Rattle.pp_numbers.specs.ChannelNo.{channel_index}
 use Rattle.pp_line.specs.LineLog.{LogState, seen_on}
 use Rattle.pp_line.specs.LineState.{LineState}
 use Rattle.pp_line.specs.LineSteps.{IsLogOf}

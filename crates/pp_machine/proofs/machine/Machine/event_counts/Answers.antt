@@ -1,5 +1,5 @@
 use Rattle.std.proofs.Common.{arith}
-use Rattle.pp_channel.specs.ChannelNo.{channel_places}
+use Rattle.pp_numbers.specs.ChannelNo.{channel_places}
 use Rattle.pp_machine.proofs.machine.Machine.event_counts.Goals as goal
 
 pub returns : goal.returns

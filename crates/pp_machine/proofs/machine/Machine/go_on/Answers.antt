@@ -7,8 +7,8 @@ use Rattle.pp_machine.specs.MachineState.{MachineState, processor_of}
 use Rattle.pp_machine.specs.MachineStep.{IsStep, stepped, step_outcome}
 use Rattle.pp_machine.specs.NeedAndEffect.{need, outcome}
 use Rattle.pp_machine.specs.Processor.{Processor}
-use Rattle.pp_machine.specs.PpNo.{processor_index}
-use Rattle.pp_machine.specs.Profile.{has_channel, processors_in}
+use Rattle.pp_numbers.specs.PpNo.{processor_index}
+use Rattle.pp_numbers.specs.Profile.{has_channel, processors_in}
 use Rattle.pp_machine.specs.declared.answer.Answer.TheVariants as answers
 use Rattle.pp_machine.specs.declared.need.Need.TheVariants.{Local, Channel}
 use Rattle.pp_machine.proofs.MachineStepLemmas.{stepped_alone, outcome_alone}

@@ -1,12 +1,12 @@
 use Rattle.std.proofs.Common.{◌∙◌, ◌∷◌, [], List, false, length, replicate, get_or, sym, ap, subst}
 use Rattle.std.specs.Prelude.{Bool, if◌then◌else◌}
 use Rattle.std.proofs.lemmas.List.{length-replicate}
-use Rattle.pp_channel.specs.ChannelNo.{channel_places, channel_count, channel_index}
+use Rattle.pp_numbers.specs.ChannelNo.{channel_places, channel_count, channel_index}
 use Rattle.pp_channel.specs.declared.event.Event.{Event}
 use Rattle.pp_channel.specs.declared.event.Event.TheVariants.{Activate}
 use Rattle.pp_machine.specs.Headline.{HoldsOnChannel, events_on}
 use Rattle.pp_machine.specs.Processor.{new_processor}
-use Rattle.pp_machine.specs.PpNo.{processor_count}
+use Rattle.pp_numbers.specs.PpNo.{processor_count}
 use Rattle.pp_machine.specs.declared.trace.Trace.{Trace}
 use Rattle.pp_machine.proofs.HeadlineLemmas.{none_opened}
 use Rattle.pp_machine.proofs.machine.Machine.new.Goals as goal

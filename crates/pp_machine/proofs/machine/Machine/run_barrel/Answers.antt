@@ -1,9 +1,9 @@
 use Rattle.std.proofs.Common.{refl, ℕ, ◌≡◌, ◌<◌, ◌/◌, ◌%◌, ◌*◌, ◌+◌, sym, ap, subst, ◌∙◌, arith}
-use Rattle.pp_machine.specs.Profile.{processors_in}
-use Rattle.pp_machine.specs.declared.profile.Profile.{Profile}
+use Rattle.pp_numbers.specs.Profile.{processors_in}
+use Rattle.pp_numbers.specs.declared.profile.Profile.{Profile}
 use Rattle.pp_machine.specs.Rounds.{whole_rounds}
 use Rattle.pp_machine.specs.Run.{run, barrel}
-use Rattle.pp_machine.proofs.ProfileLemmas.{rest_within, rounds_and_rest}
+use Rattle.pp_numbers.proofs.ProfileLemmas.{rest_within, rounds_and_rest}
 use Rattle.pp_machine.proofs.RoundLemmas.{profile_after, counted_rounds, turns_after, event_after}
 use Rattle.pp_machine.proofs.machine.Machine.run_barrel.Goals as goal
 

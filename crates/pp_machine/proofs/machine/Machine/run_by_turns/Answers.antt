@@ -1,5 +1,5 @@
 use Rattle.std.proofs.Common.{◌*◌, ap, subst, ◌∙◌, arith}
-use Rattle.pp_machine.specs.Profile.{processors_in}
+use Rattle.pp_numbers.specs.Profile.{processors_in}
 use Rattle.pp_machine.specs.Rounds.{IsCut}
 use Rattle.pp_machine.specs.Run.{run, barrel}
 use Rattle.pp_machine.proofs.RoundLemmas.{counted_rounds, round_later, rounds_after, cut_after}

@@ -1,5 +1,5 @@
 use Rattle.std.proofs.Common.{◌≡◌, ℕ, ◌*◌, ◌+◌, ◌-◌, ◌≤◌, ◌<◌, refl, sym, ap, subst, ◌∙◌, arith}
-use Rattle.pp_machine.specs.Profile.{processors_in}
+use Rattle.pp_numbers.specs.Profile.{processors_in}
 use Rattle.pp_machine.specs.Run.{run, barrel}
 use Rattle.pp_machine.proofs.RoundLemmas.{event_after, profile_after, turns_after, whole_so_far}
 use Rattle.pp_machine.proofs.machine.Machine.run_passing.Goals as goal

@@ -2,10 +2,10 @@ use Rattle.std.proofs.Common.{arith, ◌≡◌, ◌≤◌, ◌+◌, ◌-◌, ◌
 use Rattle.std.specs.Prelude.{min}
 use Rattle.pp_machine.specs.MachineState.{MachineState}
 use Rattle.pp_machine.specs.Processor.{Processor}
-use Rattle.pp_machine.specs.PpNo.{processor_count}
-use Rattle.pp_machine.specs.Profile.{processors_in}
+use Rattle.pp_numbers.specs.PpNo.{processor_count}
+use Rattle.pp_numbers.specs.Profile.{processors_in}
 use Rattle.pp_machine.specs.Quiet.{AreAhead}
-use Rattle.pp_machine.proofs.ProfileLemmas.{most_processors}
+use Rattle.pp_numbers.proofs.ProfileLemmas.{most_processors}
 use Rattle.pp_machine.proofs.QuietLemmas.{rounds_ahead}
 use Rattle.pp_machine.proofs.machine.Machine.run_quiet_rounds.Goals as goal
 

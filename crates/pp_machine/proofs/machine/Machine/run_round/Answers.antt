@@ -2,13 +2,13 @@ use Rattle.std.proofs.Common.{arith, refl, ◌≡◌, ◌<◌, ap, sym, subst, �
 use Rattle.std.specs.Prelude.{IsSome}
 use Rattle.pp_machine.specs.MachineState.{MachineState}
 use Rattle.pp_machine.specs.MachineStep.{stepped, step_event}
-use Rattle.pp_machine.specs.PpNo.{processor_index}
-use Rattle.pp_machine.specs.Profile.{processor_in_turn, processors_in}
+use Rattle.pp_numbers.specs.PpNo.{processor_index}
+use Rattle.pp_numbers.specs.Profile.{processor_in_turn, processors_in}
 use Rattle.pp_machine.specs.Rounds.{PassesOverRest}
 use Rattle.pp_machine.specs.Run.{run, barrel}
 use Rattle.pp_machine.proofs.RoundLemmas.{passes_over_stepped, profile_after}
 use Rattle.pp_machine.proofs.RunLemmas.{some_event}
-use Rattle.pp_machine.proofs.ProfileLemmas.{in_turn_at}
+use Rattle.pp_numbers.proofs.ProfileLemmas.{in_turn_at}
 use Rattle.pp_machine.proofs.RunLemmas.{barrel_more}
 use Rattle.pp_machine.proofs.machine.Machine.run_round.Goals as goal
 

@@ -8,7 +8,7 @@ use Rattle.pp_machine.specs.MachineState.{history_of, processor_of}
 use Rattle.pp_machine.specs.NeedAndEffect.{need, outcome}
 use Rattle.pp_machine.specs.NextStep.{IsAtInstruction}
 use Rattle.pp_machine.specs.Processor.{Processor}
-use Rattle.pp_machine.specs.Profile.{has_channel}
+use Rattle.pp_numbers.specs.Profile.{has_channel}
 use Rattle.pp_machine.specs.Replay.{fits}
 use Rattle.pp_machine.specs.declared.answer.Answer.TheVariants as answers
 use Rattle.pp_machine.specs.declared.need.Need.{Need}

@@ -1,6 +1,6 @@
 use Rattle.std.proofs.Common.{refl, arith}
 use Rattle.std.proofs.lemmas.List.{length-replicate, take_all, take_more}
-use Rattle.pp_channel.specs.ChannelNo.{channel_count}
+use Rattle.pp_numbers.specs.ChannelNo.{channel_count}
 use Rattle.pp_races.proofs.LatestLemmas.{all_none}
 use Rattle.pp_races.proofs.RowLemmas.{no_rows}
 use Rattle.pp_races.proofs.trace_index.TraceIndex.of.Goals as goal

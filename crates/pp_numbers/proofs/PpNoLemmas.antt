@@ -8,9 +8,9 @@ use Rattle.std.proofs.lemmas.Bool.{cases_eq, eq-eqb, ne_eqb}
 use Rattle.pp_word.specs.GappedNumbers.{is_number, number_of}
 use Rattle.pp_word.proofs.GappedNumberLemmas.{over_numbers}
 use Rattle.pp_word.specs.Tables.{tabulate}
-use Rattle.pp_channel.specs.ChannelNo.{names_channel, channel_places}
-use Rattle.pp_channel.proofs.ChannelNoLemmas.{named_high}
-use Rattle.pp_machine.specs.PpNo.{all_processors, processor_count, processor_places, names_processor, processor_index, processor_number}
+use Rattle.pp_numbers.specs.ChannelNo.{names_channel, channel_places}
+use Rattle.pp_numbers.proofs.ChannelNoLemmas.{named_high}
+use Rattle.pp_numbers.specs.PpNo.{all_processors, processor_count, processor_places, names_processor, processor_index, processor_number}
 
 -- the number of a place is n's exactly if the place is
 pub number_at : (place n : ℕ) → place < processor_count

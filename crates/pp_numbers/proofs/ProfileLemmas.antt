@@ -2,11 +2,11 @@
 use Rattle.std.proofs.Common.{◌≡◌, ℕ, ◌%◌, ◌<◌, ◌≤◌, Bool, true, false, ap, sym, ◌∙◌, refl, arith, suc, ◌+◌, ◌*◌, ◌/◌}
 use Rattle.std.specs.Prelude.{IsTrue, nat_lt, ◌↔◌}
 use Rattle.std.proofs.lemmas.Bool.{false≢true}
-use Rattle.pp_machine.specs.PpNo.{processor_count, processor_number, names_processor, processor_index, processor_places}
-use Rattle.pp_machine.specs.Profile.{processors_in, has_processor, channels_in, has_channel, processor_in_turn}
-use Rattle.pp_machine.specs.declared.profile.Profile.{Profile}
-use Rattle.pp_machine.specs.declared.profile.Profile.TheVariants.{Ten, Twenty}
-use Rattle.pp_channel.specs.ChannelNo.{channel_count, names_channel, channel_places}
+use Rattle.pp_numbers.specs.PpNo.{processor_count, processor_number, names_processor, processor_index, processor_places}
+use Rattle.pp_numbers.specs.Profile.{processors_in, has_processor, channels_in, has_channel, processor_in_turn}
+use Rattle.pp_numbers.specs.declared.profile.Profile.{Profile}
+use Rattle.pp_numbers.specs.declared.profile.Profile.TheVariants.{Ten, Twenty}
+use Rattle.pp_numbers.specs.ChannelNo.{channel_count, names_channel, channel_places}
 
 -- each has a processor, and no more than there are
 pub some_processors : (p : Profile) → 1 ≤ processors_in p

@@ -1,6 +1,6 @@
 use Rattle.std.proofs.Common.{◌≡◌, ◌∙◌, sym, ap, nat_eq}
-use Rattle.pp_machine.specs.PpNo.{processor_index, processor_places}
-use Rattle.pp_machine.proofs.pp_no.PpNoPartialEq.eq.Goals as goal
+use Rattle.pp_numbers.specs.PpNo.{processor_index, processor_places}
+use Rattle.pp_numbers.proofs.pp_no.PpNoPartialEq.eq.Goals as goal
 
 pub returns : goal.returns
 returns c =

@@ -4,10 +4,10 @@
 -- twice as many of both: this project's own profile, with a gap in the numbers after the first ten
 -- and the first twelve.)
 use Rattle.std.specs.Prelude.{ℕ, ◌%◌, Bool, nat_lt}
-use Rattle.pp_channel.specs.ChannelNo.{channel_count, channel_index}
-use Rattle.pp_machine.specs.PpNo.{processor_count, processor_index, processor_number}
-use Rattle.pp_machine.specs.declared.profile.Profile.{Profile}
-use Rattle.pp_machine.specs.declared.profile.Profile.TheVariants.{Ten, Twenty}
+use Rattle.pp_numbers.specs.ChannelNo.{channel_count, channel_index}
+use Rattle.pp_numbers.specs.PpNo.{processor_count, processor_index, processor_number}
+use Rattle.pp_numbers.specs.declared.profile.Profile.{Profile}
+use Rattle.pp_numbers.specs.declared.profile.Profile.TheVariants.{Ten, Twenty}
 
 -- the number of its processors
 abbrev pub processors_in : Profile → ℕ

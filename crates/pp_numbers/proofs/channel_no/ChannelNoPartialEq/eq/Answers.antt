@@ -1,6 +1,6 @@
 use Rattle.std.proofs.Common.{◌≡◌, ◌∙◌, sym, ap, nat_eq}
-use Rattle.pp_channel.specs.ChannelNo.{channel_index, channel_places}
-use Rattle.pp_channel.proofs.channel_no.ChannelNoPartialEq.eq.Goals as goal
+use Rattle.pp_numbers.specs.ChannelNo.{channel_index, channel_places}
+use Rattle.pp_numbers.proofs.channel_no.ChannelNoPartialEq.eq.Goals as goal
 
 pub returns : goal.returns
 returns c =

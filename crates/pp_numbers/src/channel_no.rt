@@ -1,7 +1,7 @@
 //! The number of a data channel.
 
 ghost use Rattle.std.specs.Prelude.{◌≡◌, ℕ, ◌<◌, ◌↔◌, IsTrue, IsSome, IfSome};
-ghost use Rattle.pp_channel.specs.ChannelNo.{channel_count, names_channel, channel_index, channel_number};
+ghost use Rattle.pp_numbers.specs.ChannelNo.{channel_count, names_channel, channel_index, channel_number};
 
 use std::marker::Model;
 
@@ -18,7 +18,7 @@ pub struct ChannelNo {
 impl Model for ChannelNo {
     ghost use Rattle.std.specs.Prelude.{ℕ, IsTrue};
     ghost use Rattle.std.proofs.Common.{ap};
-    ghost use Rattle.pp_channel.specs.ChannelNo.{names_channel, channel_index, channel_number, channel_places};
+    ghost use Rattle.pp_numbers.specs.ChannelNo.{names_channel, channel_index, channel_number, channel_places};
 
     ghost Value = { ℕ };
 

@@ -1,6 +1,6 @@
 -- Bounds of places or addresses.
 use Rattle.std.specs.Prelude.{ℕ, ◌&&◌, Bool, nat_le}
-use Rattle.pp_bounds.specs.declared.bounds.Bounds.{Bounds}
+use Rattle.pp_numbers.specs.declared.bounds.Bounds.{Bounds}
 
 -- some number from one to another that is no less, both included, is within the bounds
 abbrev pub meets : Bounds → ℕ → ℕ → Bool

@@ -1,7 +1,7 @@
 //! Which words of memory are shown.
 
 ghost use Rattle.std.specs.Prelude.{◌≡◌, ◌<◌, ◌≤◌, ◌↔◌, IsSome, IfSome};
-ghost use Rattle.pp_bounds.specs.Bounds.{meets};
+ghost use Rattle.pp_numbers.specs.Bounds.{meets};
 
 /// The first and the last of the places or addresses that are shown.
 #[derive(Clone, Copy)]

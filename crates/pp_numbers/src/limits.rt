@@ -1,7 +1,7 @@
 //! How long each worker runs.
 
 ghost use Rattle.std.specs.Prelude.{◌≡◌, ◌↔◌, IsSome, IfSome};
-ghost use Rattle.pp_bounds.specs.Limits.{RunLimits, AreLimits};
+ghost use Rattle.pp_numbers.specs.Limits.{RunLimits, AreLimits};
 
 use std::marker::Model;
 
@@ -16,7 +16,7 @@ pub struct Limits {
 }
 
 impl Model for Limits {
-    ghost use Rattle.pp_bounds.specs.Limits.{RunLimits, AreLimits};
+    ghost use Rattle.pp_numbers.specs.Limits.{RunLimits, AreLimits};
 
     ghost Value = { RunLimits };
 

@@ -1,10 +1,10 @@
 //! Which processors and channels a machine has.
 
 ghost use Rattle.std.specs.Prelude.{◌≡◌, ◌↔◌, IsTrue, IsSome, IfSome};
-ghost use Rattle.pp_machine.specs.Profile.{processors_in, channels_in, has_processor, has_channel};
+ghost use Rattle.pp_numbers.specs.Profile.{processors_in, channels_in, has_processor, has_channel};
 
+use crate::channel_no::{CHANNELS, ChannelNo};
 use crate::pp_no::{PROCESSORS, PpNo};
-use pp_channel::{CHANNELS, ChannelNo};
 
 /// How many processors and channels a machine has. The first have the same numbers in both
 /// profiles.

@@ -5,7 +5,7 @@ use Rattle.std.specs.List.{flat_map, range_with_len}
 use Rattle.pp_word.specs.GappedNumbers.{is_number, number_of}
 use Rattle.pp_word.proofs.GappedNumberLemmas.{over_numbers}
 use Rattle.pp_word.specs.Tables.{tabulate}
-use Rattle.pp_channel.specs.ChannelNo.{all_channels, names_channel, channel_number}
+use Rattle.pp_numbers.specs.ChannelNo.{all_channels, names_channel, channel_number}
 
 -- a channel's number has two octal digits
 pub channel_fits : (c : ℕ) → IsTrue (names_channel c) → c < 0o100

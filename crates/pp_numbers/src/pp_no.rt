@@ -1,7 +1,7 @@
 //! The number of a peripheral processor.
 
 ghost use Rattle.std.specs.Prelude.{◌≡◌, ℕ, ◌+◌, ◌%◌, ◌<◌, ◌↔◌, IsTrue, IsSome, IfSome};
-ghost use Rattle.pp_machine.specs.PpNo.{processor_count, names_processor, processor_index, processor_number};
+ghost use Rattle.pp_numbers.specs.PpNo.{processor_count, names_processor, processor_index, processor_number};
 
 use std::marker::Model;
 
@@ -18,7 +18,7 @@ pub struct PpNo {
 impl Model for PpNo {
     ghost use Rattle.std.specs.Prelude.{ℕ, IsTrue};
     ghost use Rattle.std.proofs.Common.{ap};
-    ghost use Rattle.pp_machine.specs.PpNo.{names_processor, processor_index, processor_number, processor_places};
+    ghost use Rattle.pp_numbers.specs.PpNo.{names_processor, processor_index, processor_number, processor_places};
 
     ghost Value = { ℕ };
 

@@ -1,0 +1,5 @@
+pub mod ChannelNo
+pub mod PpNo
+pub mod Profile
+pub mod Limits
+pub mod Bounds
