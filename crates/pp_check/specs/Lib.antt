@@ -2,6 +2,5 @@ pub mod TraceLine
 pub mod LawfulTrace
 pub mod TraceFault
 pub mod Verdict
-pub mod PrintedTrace
 -- cited only by private contracts: nobody has to read these to believe what the crate promises
 pub mod Judge

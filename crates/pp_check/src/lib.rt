@@ -12,7 +12,7 @@ mod unlawful;
 mod verdict;
 
 pub use check::check_trace;
-pub use laws::{barrel_law, fault_law, printed_law, trace_law};
+pub use laws::{fault_law, trace_law};
 pub use pp_channel::ChannelState;
 pub use trace_fault::{TraceFault, TraceFlaw};
 pub use trace_line::TraceLine;

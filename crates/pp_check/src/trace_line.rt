@@ -5,7 +5,7 @@ ghost use Rattle.pp_check.specs.TraceLine.{active_said, are_over, after_channel,
 
 use pp_channel::{ChannelNo, ChannelState, Event, Flags};
 use pp_deck::Fields;
-use pp_machine::PpNo;
+use pp_numbers::PpNo;
 use pp_word::{Word12, numeral};
 
 /// What one line of a trace says.

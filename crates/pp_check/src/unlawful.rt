@@ -25,12 +25,22 @@ impl Display for Unlawful {
 
 /// `PUT 0007`.
 fn write_event<W: Write>(f: &mut Formatter<W>, event: &Event) -> fmt::Result {
+    f.write_str(name_of(event))?;
     match event {
-        Event::Activate => write!(f, "ACN"),
-        Event::Disconnect => write!(f, "DCN"),
-        Event::Put(word) => write!(f, "PUT {:04o}", word.get()),
-        Event::Take(word) => write!(f, "TAK {:04o}", word.get()),
-        Event::Function(word) => write!(f, "FNC {:04o}", word.get()),
+        Event::Put(word) | Event::Take(word) | Event::Function(word) => {
+            write!(f, " {:04o}", word.get())
+        }
+        Event::Activate | Event::Disconnect => Ok(()),
+    }
+}
+
+fn name_of(event: &Event) -> &'static str {
+    match event {
+        Event::Activate => "ACN",
+        Event::Disconnect => "DCN",
+        Event::Put(_) => "PUT",
+        Event::Take(_) => "TAK",
+        Event::Function(_) => "FNC",
     }
 }
 

@@ -1,6 +1,6 @@
-//! The numbers of data channels and peripheral processors, and the profile that says which of them a
-//! machine has; and what the caller of a run or a view bounds: how long threads go on, which turns
-//! are drawn, which words of memory are shown.
+//! The numbers of data channels and peripheral processors, and the profile that says which of them
+//! a machine has; and what the caller of a run or a view bounds: how long threads go on, which
+//! turns are drawn, which words of memory are shown.
 #![tactic(auto)]
 
 mod bounds;

@@ -1,13 +1,10 @@
 -- What the text of a report says of it: two reports with one text agree on all that it shows.
-use Rattle.std.specs.Prelude.{◌≡◌, ℕ, ◌<◌, ◌^◌, List, Bool, All, Option, Some, None, IfSome, IsTrue, length, slice_get, option_map, if◌then◌else◌}
+use Rattle.std.specs.Prelude.{◌≡◌, ℕ, ◌<◌, ◌^◌, List, Bool, All, Option, Some, None, IfSome, IsTrue, slice_get, option_map, if◌then◌else◌}
 use Rattle.std.specs.List.{enumerate_from, filter_map}
 use Rattle.pp_numbers.specs.ChannelNo.{names_channel}
 use Rattle.pp_channel.specs.History.{HasTwelveBitWord, history_on}
 use Rattle.pp_report.specs.Types.{End, Event, Report, Worker}
-use Rattle.pp_machine.specs.MachineState.{MachineState}
 use Rattle.pp_numbers.specs.PpNo.{names_processor, processor_index, processor_number, is_named}
-use Rattle.pp_numbers.specs.Limits.{RunLimits}
-use Rattle.pp_runner.specs.Report.{IsReportOf}
 use Rattle.pp_report.specs.PrintedReport.{author_place}
 use Rattle.pp_text.specs.TextLaw.{HistoryFits, ShowSameChannel}
 
@@ -76,14 +73,3 @@ pub record AgreeOnReport {Y Z : Type 0} (named others : List Bool) (one : Report
   pub workers : (n : ℕ) → shown_of named n one ≡ shown_of others n other
   pub channels : (c : ℕ) → IsTrue (names_channel c)
       → ShowSameChannel (history_on c one.channels) (history_on c other.channels)
-
--- ---- a report whose text is a lawful trace
-
--- a report of a run of a machine by threads, that fits its text, and whose numbers of events have
--- at most 19 decimal digits
-pub record IsPrintableReport {Z : Type 0} (named : List Bool) (limits : RunLimits)
-    (m : MachineState) (report : Report Z) : Type 0 where
-  pub run : IsReportOf limits m report
-  pub fits : FitsItsReport named report
-  pub few_events : (c : ℕ) → IsTrue (names_channel c)
-      → length (history_on c report.channels) < 10 ^ 19

@@ -1,21 +1,16 @@
 //! Laws of the texts of reports. These functions do nothing: their contracts say what is proved of
 //! the definitions.
 
-ghost use Rattle.std.specs.Prelude.{ℕ, ◌≡◌, ◌<◌, ◌↔◌, All, Bool, IsTrue, List, length, None};
-ghost use Rattle.pp_numbers.specs.ChannelNo.{names_channel};
+ghost use Rattle.std.specs.Prelude.{ℕ, ◌≡◌, ◌<◌, ◌↔◌, All, Bool, List, length, None};
 ghost use Rattle.pp_channel.specs.History.{IsLawful, history_on};
 ghost use Rattle.pp_report.specs.Types.{Event, Report, Worker};
-ghost use Rattle.pp_deck.specs.DeckText.{lines_of};
 ghost use Rattle.pp_line.specs.Merge.{Merges};
 ghost use Rattle.pp_machine.specs.Headline.{opening_history};
 ghost use Rattle.pp_machine.specs.MachineState.{MachineState};
 ghost use Rattle.pp_runner.specs.End.{HasEndNumber};
-ghost use Rattle.pp_numbers.specs.Limits.{RunLimits};
 ghost use Rattle.pp_runner.specs.WorkerReport.{logs_of};
-ghost use Rattle.pp_check.specs.LawfulTrace.{AreLawful, history, parsed_lines};
-ghost use Rattle.pp_check.specs.PrintedTrace.{AreOpenedBy};
 ghost use Rattle.pp_report.specs.PrintedReport.{author_place, printed_report};
-ghost use Rattle.pp_report.specs.ReportLaw.{AgreeOnReport, FitsItsReport, IsPrintableReport, printed_on};
+ghost use Rattle.pp_report.specs.ReportLaw.{AgreeOnReport, FitsItsReport, printed_on};
 ghost use Rattle.pp_text.specs.TextLaw.{ShowSameChannel};
 
 use std::alloc::Allocator;
@@ -54,21 +49,4 @@ pub fn report_law<A: Allocator>()
         → printed_on c one ≡ printed_on c other
         → ShowSameChannel (history_on c one.channels) (history_on c other.channels)
         → history_on c one.channels ≡ history_on c other.channels }
-{}
-
-/// What threads print is lawful: the text of a report of any run of a machine by threads that fits
-/// its text, as each that is printed does (`write_report`), if no number of an event has more than
-/// 19 decimal digits, and the channels given as open are those that dead start opened. On each
-/// channel the events that are read, after what was open, are the history that the run made.
-pub fn printed_report_law<A: Allocator>()
-    ensures lawful { (named : List Bool) (limits : RunLimits) (m : MachineState)
-        (report : Report A) (opened : List Bool) → IsPrintableReport named limits m report
-        → AreOpenedBy m opened
-        → AreLawful opened (lines_of (printed_report named report)) }
-    ensures histories { (named : List Bool) (limits : RunLimits) (m : MachineState)
-        (report : Report A) (opened : List Bool) → IsPrintableReport named limits m report
-        → AreOpenedBy m opened
-        → (c : ℕ) → IsTrue (names_channel c)
-        → history opened (parsed_lines (lines_of (printed_report named report))) c
-        ≡ history_on c report.channels }
 {}

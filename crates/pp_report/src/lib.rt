@@ -8,6 +8,6 @@ mod promises;
 mod report_line;
 mod report_text;
 
-pub use laws::{author_law, printed_report_law, report_law};
-pub use promises::{circle_law, headline_law, one_run_law, serial_law};
+pub use laws::{author_law, report_law};
+pub use promises::{headline_law, serial_law};
 pub use report_text::write_report;

@@ -1,10 +1,9 @@
-//! Runs of a machine: observed, step by step; over a machine without its record; and the law of
-//! runs whose result is that of every order of steps.
+//! Runs of a machine: observed, step by step; over a machine without its record; and what makes
+//! the result of a run that of every order of its steps (specs/Determinacy).
 #![tactic(auto)]
 
 mod bare_machine;
 mod bare_step;
-mod laws;
 mod observed_run;
 mod observer;
 mod progress;
@@ -12,7 +11,6 @@ mod step_counts;
 mod turn;
 
 pub use bare_machine::BareMachine;
-pub use laws::determinacy_law;
 pub use observed_run::run_observed;
 pub use observer::Observer;
 pub use progress::Progress;

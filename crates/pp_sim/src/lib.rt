@@ -3,16 +3,12 @@
 
 mod deck_bytes;
 mod entry;
-mod laws;
 mod program;
 mod streams;
 mod text_fault;
 mod texts;
 
 pub use entry::run_main;
-pub use laws::{
-    barrel_text_law, checked_text_law, races_report_law, races_text_law, threads_text_law,
-};
 pub use pp_command::{Asked, ChosenSteps, LineFault, TextOf, Work, read_words};
 pub use pp_deck::{Deck, DeckCode, DeckFault, read_deck};
 pub use program::run_program;

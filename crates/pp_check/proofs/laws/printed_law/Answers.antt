@@ -1,8 +1,0 @@
-use Rattle.pp_check.proofs.PrintedLawLemmas.{printed_events, printed_lawful}
-use Rattle.pp_check.proofs.laws.printed_law.Goals as goal
-
-pub returns-clause-lawful : goal.returns-clause-lawful
-returns-clause-lawful c = printed_lawful
-
-pub returns-clause-events : goal.returns-clause-events
-returns-clause-events c = printed_events

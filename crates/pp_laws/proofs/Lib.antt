@@ -1,0 +1,12 @@
+mod CircleLemmas
+mod Standing
+mod Steps
+mod DeterminacyLemmas
+mod OneRunLemmas
+mod RacesLemmas
+mod RisingTurnLemmas
+mod PrintedLineLemmas
+mod PrintedTextLemmas
+mod PrintedLawLemmas
+mod PrintedReportLemmas
+mod ReportLemmas

@@ -1,0 +1,3 @@
+pub mod PrintedTrace
+pub mod OneRun
+pub mod Circle
