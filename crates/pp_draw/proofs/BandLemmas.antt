@@ -11,26 +11,24 @@ use Rattle.pp_numbers.specs.PpNo.{names_processor, processor_count, processor_in
 use Rattle.pp_machine.specs.MachineStep.{counted}
 use Rattle.pp_text.specs.PrintedText.{each_below}
 use Rattle.pp_draw.specs.Condition.{is_sent}
-use Rattle.pp_draw.specs.DrawingLaw.{Adjoin, GoesToEnd, IsTurnOf, StandsWithin}
-use Rattle.pp_draw.specs.DrawingText.{channel_lane, count_below, drawing, is_flagged, is_used, lanes, lanes_above, processor_lane, used_among}
-use Rattle.pp_draw.specs.Frame.{foot_text}
-use Rattle.pp_draw.specs.Elements.{band_element, free_after, label_element, part_elements}
-use Rattle.pp_draw.specs.Lane.{drawn_from, next_in}
-use Rattle.pp_draw.specs.Part.{is_visible, label_from, part_of, until}
-use Rattle.pp_draw.specs.Window.{place}
-use Rattle.pp_draw.specs.declared.part.Phase.{Phase}
-use Rattle.pp_draw.specs.declared.seen_step.SeenStep.{SeenStep}
+use Rattle.pp_draw.specs.DrawingLaw.{EndsAt, IsTurnOf, StandsWithin}
+use Rattle.pp_draw.specs.DrawingText.{channel_lane, count_below, drawing, is_flagged, is_used, lanes_above, processor_lane, used_among}
+use Rattle.std.specs.List.{slice_get}
+use Rattle.std.specs.Option.{option_map, unwrap_or}
+use Rattle.pp_draw.specs.Frame.{band_width, foot_text, place, text_element}
+use Rattle.pp_draw.specs.Lane.{band_element, drawn_from, free_after, is_visible, label_from, part_class, part_elements, part_of, until}
+use Rattle.pp_draw.specs.declared.{condition.Phase.Phase, seen_step.SeenStep.SeenStep}
 use Rattle.pp_numbers.specs.declared.window.Window.{Window}
 
 -- ---- where they begin and end
 
-pub next_adjoins : (w : Window) (phase next : Phase) (after : Option Phase) → IsFalse (is_sent phase.look) → Adjoin (part_of w phase (Some next)) (part_of w next after)
+pub next_adjoins : (w : Window) (phase next : Phase) (after : Option Phase) → IsFalse (is_sent phase.look) → EndsAt (part_of w phase (Some next)) (part_of w next after).since (part_of w next after).start
 next_adjoins w phase next after lasts = record {
   turns = ap (λ (b : Bool). cond b (counted phase.since) next.since) lasts;
   places = ap (λ (b : Bool). place w (cond b (counted phase.since) next.since)) lasts;
 }
 
-pub last_to_end : (w : Window) (phase : Phase) → IsFalse (is_sent phase.look) → GoesToEnd w (part_of w phase None)
+pub last_to_end : (w : Window) (phase : Phase) → IsFalse (is_sent phase.look) → EndsAt (part_of w phase None) w.to (band_width w)
 last_to_end w phase lasts = record {
   turns = ap (λ (b : Bool). cond b (counted phase.since) w.to) lasts;
   places = ap (λ (b : Bool). place w (cond b (counted phase.since) w.to)) lasts;
@@ -88,11 +86,11 @@ stands_back text before whole h =
           ∙ ap (λ (t : List ℕ). t ++ back) (sym (append_assoc before front text)),
     )
 
-pub band_stands : (w : Window) (name : List ℕ) (free : ℕ) (before : List Phase) (phase : Phase) (more : List Phase) → IsTrue (is_visible (part_of w phase (next_in more)))
-    → StandsWithin (band_element name (part_of w phase (next_in more))) (drawn_from w name free (before ++ phase ∷ more))
+pub band_stands : (w : Window) (name : List ℕ) (free : ℕ) (before : List Phase) (phase : Phase) (more : List Phase) → IsTrue (is_visible (part_of w phase (slice_get more 0)))
+    → StandsWithin (band_element name (part_of w phase (slice_get more 0))) (drawn_from w name free (before ++ phase ∷ more))
 band_stands w name free [] phase more seen =
-    let part = part_of w phase (next_in more) in
-    let label = label_element part (label_from free part) in
+    let part = part_of w phase (slice_get more 0) in
+    let label = unwrap_or (option_map (text_element (part_class part) part.start 10) (label_from free part)) [] in
     let rest = drawn_from w name (free_after free part) more in (
       [],
       label ++ rest,
@@ -100,8 +98,8 @@ band_stands w name free [] phase more seen =
           ∙ append_assoc (band_element name part) label rest,
     )
 band_stands w name free (first ∷ before) phase more seen =
-    let part = part_of w first (next_in (before ++ phase ∷ more)) in
-    stands_back (band_element name (part_of w phase (next_in more))) (part_elements name free part) _ (band_stands w name (free_after free part) before phase more seen)
+    let part = part_of w first (slice_get (before ++ phase ∷ more) 0) in
+    stands_back (band_element name (part_of w phase (slice_get more 0))) (part_elements name free part) _ (band_stands w name (free_after free part) before phase more seen)
 
 -- ---- and lanes
 
@@ -125,13 +123,13 @@ each_stands front back count said k text less is =
 pub channel_stands : (w : Window) (shown : List Bool) (m : MachineState) (steps : List SeenStep) (c : ℕ) → IsTrue (names_channel c) → StandsWithin (channel_lane w m c) (drawing w shown m steps)
 unfolding drawing
 channel_stands w shown m steps c names =
-    stands_front (channel_lane w m c) _ (foot_text (lanes shown m))
+    stands_front (channel_lane w m c) _ (foot_text (lanes_above processor_count shown m))
     (each_stands _ _ channel_count (λ (p : ℕ). channel_lane w m (channel_number p)) (channel_index c) (channel_lane w m c) (channel_places.place_below c names) (ap (channel_lane w m) (channel_places.number_of_place c names)))
 
 pub processor_stands : (w : Window) (shown : List Bool) (m : MachineState) (steps : List SeenStep) (n : ℕ) → IsTrue (names_processor n) → StandsWithin (processor_lane w shown m steps n) (drawing w shown m steps)
 unfolding drawing
 processor_stands w shown m steps n names =
-    each_stands _ (foot_text (lanes shown m)) processor_count (λ (p : ℕ). processor_lane w shown m steps (processor_number p)) (processor_index n) (processor_lane w shown m steps n) (processor_places.place_below n names)
+    each_stands _ (foot_text (lanes_above processor_count shown m)) processor_count (λ (p : ℕ). processor_lane w shown m steps (processor_number p)) (processor_index n) (processor_lane w shown m steps n) (processor_places.place_below n names)
     (ap (processor_lane w shown m steps) (processor_places.number_of_place n names))
 
 -- ---- and below one another

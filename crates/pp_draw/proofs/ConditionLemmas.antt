@@ -1,31 +1,24 @@
 -- Which phases are drawn: those under another look than the one before. The last that is drawn is
 -- under the look of the last that came.
-use Rattle.std.proofs.Common.{◌≡◌, Bool, true, false, cond, List, [], ◌∷◌, ◌++◌, Option, None, Some, refl, sym, ap, ◌∙◌}
+use Rattle.std.proofs.Common.{◌≡◌, ℕ, Bool, true, false, cond, List, [], ◌∷◌, ◌++◌, Option, None, Some, refl, sym, ap, ◌∙◌}
 use Rattle.std.specs.Prelude.{IsTrue}
 use Rattle.std.specs.List.{last_or}
 use Rattle.std.specs.Option.{option_map}
 use Rattle.std.proofs.lemmas.Bool.{eq-eqb, eqb-true}
-use Rattle.pp_draw.specs.Condition.{goes_on, is_same}
+use Rattle.pp_draw.specs.Condition.{changes, goes_on, phases_from}
 use Rattle.pp_draw.specs.DrawingLaw.{goes_on_from, look_in}
-use Rattle.pp_draw.specs.Phases.{changes, phases_from}
-use Rattle.pp_draw.specs.declared.condition.Condition.{Condition}
+use Rattle.pp_draw.specs.declared.{condition.Condition.Condition, condition.Look.Look, condition.Phase.Phase}
 use Rattle.pp_draw.specs.declared.condition.Condition.TheVariants.{Running, InBlock, HeldBy, Stopped, Faulted}
-use Rattle.pp_draw.specs.declared.condition.Look.{Look}
 use Rattle.pp_draw.specs.declared.condition.Look.TheVariants.{Processor}
-use Rattle.pp_draw.specs.declared.part.Phase.{Phase}
 
 -- ---- a look that goes on is the same
 
-same_as : (condition next : Condition) → is_same condition next ≡ true → condition ≡ next
-same_as Running Running h = refl
-same_as InBlock InBlock h = refl
-same_as (HeldBy c) (HeldBy other) h = ap HeldBy (sym (eqb-true other c h))
-same_as Stopped Stopped h = refl
-same_as Faulted Faulted h = refl
-same_as condition next h = absurd (cc)
-
 pub same_on : (look next : Look) → goes_on look next ≡ true → look ≡ next
-same_on (Processor condition) (Processor next) h = ap Processor (same_as condition next h)
+same_on (Processor Running) (Processor Running) h = refl
+same_on (Processor InBlock) (Processor InBlock) h = refl
+same_on (Processor (HeldBy c)) (Processor (HeldBy other)) h = ap (λ (n : ℕ). Processor (HeldBy n)) (sym (eqb-true other c h))
+same_on (Processor Stopped) (Processor Stopped) h = refl
+same_on (Processor Faulted) (Processor Faulted) h = refl
 same_on look next h = absurd (cc)
 
 -- ---- and that of a processor goes on

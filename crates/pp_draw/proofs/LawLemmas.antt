@@ -1,6 +1,6 @@
 -- What a drawing tells of a run.
 use Rattle.std.proofs.Common.{◌≡◌, ℕ, Bool, true, false, cond, eqb, List, [], ◌∷◌, ◌++◌, map, Some, None, refl, sym, ap, ◌∙◌}
-use Rattle.std.specs.Prelude.{◌↔◌, IsTrue, option_to_list}
+use Rattle.std.specs.Prelude.{◌↔◌, IsTrue}
 use Rattle.std.specs.List.{cons_option, filter_map}
 use Rattle.std.proofs.lemmas.List.{map-append}
 use Rattle.pp_numbers.specs.ChannelNo.{names_channel}
@@ -9,14 +9,19 @@ use Rattle.pp_channel.specs.declared.event.Event.TheVariants.{Activate, Disconne
 use Rattle.pp_machine.specs.Headline.{HoldsOnEachChannel, events_on, opening_history}
 use Rattle.pp_machine.specs.MachineState.{MachineState, history_of, is_opened}
 use Rattle.pp_machine.specs.declared.trace.Trace.{Trace}
-use Rattle.pp_draw.specs.DrawingLaw.{first_turn, look_in, opening_turns, turns_on}
-use Rattle.pp_draw.specs.Part.{is_lost}
-use Rattle.pp_draw.specs.Phases.{changes, channel_phases, opening_phase, phase_after, phases_from, phases_on}
-use Rattle.pp_draw.specs.declared.condition.Look.{Look}
+use Rattle.pp_draw.specs.Condition.{changes, channel_phases, phase_on, phases_from}
+use Rattle.pp_draw.specs.DrawingLaw.{look_in}
+use Rattle.pp_draw.specs.Lane.{is_lost}
+use Rattle.pp_draw.specs.declared.{condition.Look.Look, condition.Phase.Phase}
 use Rattle.pp_draw.specs.declared.condition.Look.TheVariants.{Channel}
-use Rattle.pp_draw.specs.declared.part.Phase.{Phase}
 
 -- ---- a channel
+
+abbrev phase_after : Trace → Phase
+phase_after entry = record { since = entry.turn; look = Channel entry.event }
+
+abbrev phases_on : ℕ → List Trace → List Phase
+phases_on c trace = filter_map (phase_on c) trace
 
 -- something of each entry on channel c
 mapped_on : {A B : Type 0} (h : A → B) (f : Trace → A) (c : ℕ) (trace : List Trace)
@@ -28,7 +33,7 @@ mapped_on {A} {B} h f c (e ∷ trace) = by_test (eqb e.channel c) _ _ (mapped_on
     by_test true xs ys is = ap (λ (zs : List B). h (f e) ∷ zs) is
     by_test false xs ys is = is
 
-opening_mapped : {A B : Type 0} (h : A → B) (b : Bool) (x : A) → map h (option_to_list (cond b (Some x) None)) ≡ cond b (h x ∷ []) []
+opening_mapped : {A B : Type 0} (h : A → B) (b : Bool) (x : A) → map h (cond b (x ∷ []) []) ≡ cond b (h x ∷ []) []
 opening_mapped h true x = refl
 opening_mapped h false x = refl
 
@@ -37,7 +42,7 @@ opening = record { since = 0; look = Channel Activate }
 
 pub phase_for_event : (c : ℕ) (m : MachineState) → IsTrue (names_channel c) → HoldsOnEachChannel m → map look_in (channel_phases c m) ≡ map Channel (history_of c m)
 phase_for_event c m names h =
-    map-append look_in (option_to_list (opening_phase c m)) (phases_on c m.trace)
+    map-append look_in (cond (is_opened c m) (opening ∷ []) []) (phases_on c m.trace)
     ∙ ap (λ (ls : List Look). ls ++ map look_in (phases_on c m.trace)) (opening_mapped look_in (is_opened c m) opening ∙ sym (listed (is_opened c m)))
     ∙ ap (λ (ls : List Look). map Channel (opening_history c m) ++ ls) (mapped_on look_in phase_after c m.trace ∙ sym (mapped_on Channel (λ (e : Trace). e.event) c m.trace))
     ∙ sym (map-append Channel (opening_history c m) (events_on c m.trace))
@@ -47,11 +52,14 @@ phase_for_event c m names h =
     listed true = refl
     listed false = refl
 
-pub turn_for_event : (c : ℕ) (m : MachineState) → map first_turn (channel_phases c m) ≡ opening_turns c m ++ turns_on c m.trace
+pub turn_for_event : (c : ℕ) (m : MachineState) → map (λ (phase : Phase). phase.since) (channel_phases c m) ≡ cond (is_opened c m) (0 ∷ []) [] ++ filter_map (λ (e : Trace). cond (eqb e.channel c) (Some e.turn) None) m.trace
 turn_for_event c m =
-    map-append first_turn (option_to_list (opening_phase c m)) (phases_on c m.trace)
-    ∙ ap (λ (ts : List ℕ). ts ++ map first_turn (phases_on c m.trace)) (opening_mapped first_turn (is_opened c m) opening)
-    ∙ ap (λ (ts : List ℕ). opening_turns c m ++ ts) (mapped_on first_turn phase_after c m.trace)
+    map-append since (cond (is_opened c m) (opening ∷ []) []) (phases_on c m.trace)
+    ∙ ap (λ (ts : List ℕ). ts ++ map since (phases_on c m.trace)) (opening_mapped since (is_opened c m) opening)
+    ∙ ap (λ (ts : List ℕ). cond (is_opened c m) (0 ∷ []) [] ++ ts) (mapped_on since phase_after c m.trace)
+  where
+    since : Phase → ℕ
+    since phase = phase.since
 
 -- ---- each of its phases is drawn
 
@@ -65,21 +73,17 @@ all_begin c event (e ∷ trace) = by_test (eqb e.channel c) (all_begin c event t
     by_test true old new = ap (λ (ps : List Phase). phase_after e ∷ ps) new
     by_test false old new = old
 
-all_drawn : (c : ℕ) (trace : List Trace) → phases_from None (phases_on c trace) ≡ phases_on c trace
-all_drawn c [] = refl
-all_drawn c (e ∷ trace) = by_test (eqb e.channel c) (all_drawn c trace)
-  where
-    by_test : (b : Bool) → phases_from None (phases_on c trace) ≡ phases_on c trace
-        → phases_from None (cons_option (cond b (Some (phase_after e)) None) (phases_on c trace)) ≡ cons_option (cond b (Some (phase_after e)) None) (phases_on c trace)
-    by_test true drawn = ap (λ (ps : List Phase). phase_after e ∷ ps) (all_begin c e.event trace)
-    by_test false drawn = drawn
+-- an event goes on as nothing does
+from_start : (event : Event) (phases : List Phase) → phases_from None phases ≡ changes (Channel event) phases
+from_start event [] = refl
+from_start event (first ∷ more) = refl
 
 pub each_is_drawn : (c : ℕ) (m : MachineState) → phases_from None (channel_phases c m) ≡ channel_phases c m
 each_is_drawn c m = by_test (is_opened c m)
   where
-    by_test : (b : Bool) → phases_from None (option_to_list (cond b (Some opening) None) ++ phases_on c m.trace) ≡ option_to_list (cond b (Some opening) None) ++ phases_on c m.trace
+    by_test : (b : Bool) → phases_from None (cond b (opening ∷ []) [] ++ phases_on c m.trace) ≡ cond b (opening ∷ []) [] ++ phases_on c m.trace
     by_test true = ap (λ (ps : List Phase). opening ∷ ps) (all_begin c Activate m.trace)
-    by_test false = all_drawn c m.trace
+    by_test false = from_start Activate (phases_on c m.trace) ∙ all_begin c Activate m.trace
 
 -- ---- lost words
 

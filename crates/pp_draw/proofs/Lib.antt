@@ -1,10 +1,6 @@
-mod EachLemmas
 mod RowLemmas
 mod LaneLemmas
 mod BandLemmas
 mod LawLemmas
-mod ReadLemmas
-mod ElementLemmas
-mod WellFormedLemmas
 mod ConditionLemmas
 mod TurnLemmas

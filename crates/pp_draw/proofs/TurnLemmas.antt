@@ -9,14 +9,10 @@ use Rattle.pp_machine.specs.MachineStep.{counted, stepped}
 use Rattle.pp_numbers.specs.PpNo.{processor_count}
 use Rattle.pp_machine.specs.Run.{barrel}
 use Rattle.pp_run.specs.RunSteps.{RunStep, run_steps}
-use Rattle.pp_draw.specs.Condition.{goes_on}
+use Rattle.pp_draw.specs.Condition.{changes, goes_on, is_shown, phases_from, processor_phases, seen, seen_in_window}
 use Rattle.pp_draw.specs.DrawingLaw.{last_step, look_at, look_in}
-use Rattle.pp_draw.specs.Phases.{changes, phase_in, phases_from, processor_phases}
-use Rattle.pp_draw.specs.SeenStep.{is_shown, seen, seen_in_window}
-use Rattle.pp_draw.specs.declared.condition.Look.{Look}
+use Rattle.pp_draw.specs.declared.{condition.Look.Look, condition.Phase.Phase, seen_step.SeenStep.SeenStep}
 use Rattle.pp_draw.specs.declared.condition.Look.TheVariants.{Processor}
-use Rattle.pp_draw.specs.declared.part.Phase.{Phase}
-use Rattle.pp_draw.specs.declared.seen_step.SeenStep.{SeenStep}
 use Rattle.pp_numbers.specs.declared.window.Window.{Window}
 use Rattle.pp_draw.proofs.ConditionLemmas.{last_is_drawn}
 
@@ -76,7 +72,7 @@ drawn_at turn (first ∷ more) order = ap (λ (ps : List Phase). option_map look
 
 -- the phase that a step of a run begins
 abbrev phase_of : RunStep → Phase
-phase_of step = phase_in (seen step)
+phase_of step = record { since = step.before.turns; look = Processor (seen step).condition }
 
 abbrev phases : Window → ℕ → List RunStep → List Phase
 phases w n steps = processor_phases n (filter (is_shown w) (map seen steps))

@@ -1,6 +1,5 @@
--- The drawing of a run: a lane for each channel used and for each processor shown, in order of
--- number, between a legend and a scale of turns.
-use Rattle.std.specs.Prelude.{ℕ, zero, suc, ◌+◌, ◌==◌, Bool, false, not, List, [], ◌++◌, codes, length, slice_index_or, if◌then◌else◌}
+-- The drawing of a run: a lane for each channel used and each processor shown, in a frame.
+use Rattle.std.specs.Prelude.{ℕ, zero, suc, ◌+◌, ◌==◌, Bool, false, not, List, [], ◌++◌, None, codes, length, slice_index_or, if◌then◌else◌}
 use Rattle.std.specs.Int.{from_bool}
 use Rattle.pp_numbers.specs.ChannelNo.{channel_count, channel_index, channel_number}
 use Rattle.pp_channel.specs.History.{active, waiting}
@@ -10,15 +9,12 @@ use Rattle.pp_machine.specs.Run.{barrel, run}
 use Rattle.pp_deck.specs.DeckMeaning.{LoadedDeck}
 use Rattle.pp_deck.specs.InUse.{in_use}
 use Rattle.pp_text.specs.PrintedText.{channel_text, each_below, state_text}
-use Rattle.pp_draw.specs.Elements.{lane_foot_tag, lane_head}
-use Rattle.pp_draw.specs.Frame.{foot_text, head_text, legend_text, style_text, ticks_text}
-use Rattle.pp_draw.specs.Lane.{drawn}
-use Rattle.pp_draw.specs.Condition.{channel_name, processor_name}
-use Rattle.pp_draw.specs.Phases.{channel_phases, processor_phases}
-use Rattle.pp_draw.specs.SeenStep.{seen_in_window}
-use Rattle.pp_draw.specs.declared.part.Phase.{Phase}
-use Rattle.pp_draw.specs.declared.seen_step.SeenStep.{SeenStep}
+use Rattle.pp_word.specs.Numeral.{octal}
 use Rattle.pp_numbers.specs.declared.window.Window.{Window}
+use Rattle.pp_draw.specs.Condition.{channel_phases, phases_from, processor_phases, seen_in_window}
+use Rattle.pp_draw.specs.Frame.{band_width, foot_text, head_text, legend_text, style_text, text_tag, ticks_text}
+use Rattle.pp_draw.specs.Lane.{drawn_from, lane_head}
+use Rattle.pp_draw.specs.declared.{condition.Phase.Phase, seen_step.SeenStep.SeenStep}
 
 -- how many of 0, 1, .. and count - 1 pass a test
 unfoldable pub count_below : ℕ → (ℕ → Bool) → ℕ
@@ -28,8 +24,8 @@ count_below (suc k) test = count_below k test + from_bool (test k)
 -- the lane with this name and this many lanes above it: its phases, and how things stand at the end
 unfoldable pub lane_text : Window → ℕ → List ℕ → List Phase → List ℕ → List ℕ
 lane_text w row name phases standing =
-    lane_head w row name ++ drawn w name phases ++ lane_foot_tag w ++ standing
-    ++ codes "</text>\n</g>\n"
+    lane_head w row name ++ drawn_from w name 0 (phases_from None phases)
+    ++ text_tag (codes "e") (band_width w + 8) 26 ++ standing ++ codes "</text>\n</g>\n"
 
 -- whether something has happened on channel c
 abbrev pub is_used : MachineState → ℕ → Bool
@@ -43,7 +39,7 @@ used_among count m = count_below count (λ place. is_used m (channel_number plac
 unfoldable pub channel_lane : Window → MachineState → ℕ → List ℕ
 channel_lane w m c =
     if is_used m c
-    then lane_text w (used_among (channel_index c) m) (channel_name c) (channel_phases c m)
+    then lane_text w (used_among (channel_index c) m) (codes "CH" ++ octal 2 c) (channel_phases c m)
     (channel_text (active (history_of c m)) (waiting (history_of c m))) else []
 
 -- whether the processor at a place is shown, by a flag for each place
@@ -59,22 +55,19 @@ lanes_above place shown m = used_among channel_count m + count_below place (is_f
 unfoldable pub processor_lane : Window → List Bool → MachineState → List SeenStep → ℕ → List ℕ
 processor_lane w shown m steps n =
     if is_flagged shown (processor_index n)
-    then lane_text w (lanes_above (processor_index n) shown m) (processor_name n)
+    then lane_text w (lanes_above (processor_index n) shown m) (codes "PP" ++ octal 2 n)
     (processor_phases n steps) (state_text (processor_of n m).state) else []
-
--- how many lanes there are
-abbrev pub lanes : List Bool → MachineState → ℕ
-lanes shown m = lanes_above processor_count shown m
 
 -- THE TEXT of the drawing of a machine after a run to the end of the window, whose steps in the
 -- window were these. Numbers have two octal digits
 unfoldable pub drawing : Window → List Bool → MachineState → List SeenStep → List ℕ
 drawing w shown m steps =
-    head_text w (lanes shown m) ++ style_text ++ legend_text ++ ticks_text w (lanes shown m)
+    let rows = lanes_above processor_count shown m in
+    head_text w rows ++ style_text ++ legend_text ++ ticks_text w rows
     ++ each_below channel_count (λ place. channel_lane w m (channel_number place))
     ++ each_below processor_count
     (λ place. processor_lane w shown m steps (processor_number place))
-    ++ foot_text (lanes shown m)
+    ++ foot_text rows
 
 -- the drawing of a loaded deck, by the steps of its run
 abbrev pub drawing_of_run : Window → LoadedDeck → List ℕ

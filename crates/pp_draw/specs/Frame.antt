@@ -1,24 +1,53 @@
--- What stands round the lanes: the head of the picture, its style sheet, the legend, the scale.
-use Rattle.std.specs.Prelude.{ℕ, ◌+◌, ◌-◌, ◌*◌, ◌%◌, ◌==◌, List, [], ◌++◌, codes, max, nat_le, if◌then◌else◌}
-use Rattle.pp_word.specs.Numeral.{short_decimal}
-use Rattle.pp_text.specs.PrintedText.{each_below}
-use Rattle.pp_draw.specs.Elements.{lane_top, rectangle_tag, text_element, text_tag}
-use Rattle.pp_draw.specs.Window.{band_width, place}
+-- The frame of the picture: the places of turns and of lanes, in its units; the tags of elements;
+-- and what stands round the lanes: the head, the style sheet, the legend, the scale.
+use Rattle.std.specs.Prelude.{ℕ, ◌+◌, ◌-◌, ◌*◌, ◌%◌, ◌==◌, Bool, List, [], ◌++◌, codes, max, min, nat_le, if◌then◌else◌}
 use Rattle.pp_numbers.specs.declared.window.Window.{Window}
+use Rattle.pp_text.specs.PrintedText.{each_below}
+use Rattle.pp_word.specs.Numeral.{short_decimal}
 
--- the size of a picture with this many lanes; it has room for the legend
-abbrev pub picture_width : Window → ℕ
-picture_width w = max 640 (band_width w + 220)
+-- whether few turns are drawn
+abbrev pub are_few : Window → Bool
+are_few w = nat_le (w.to - w.from) 100
 
-abbrev pub picture_height : ℕ → ℕ
-picture_height rows = lane_top rows + 28
+-- the place of a turn; one outside the window has that of the nearest end. Each of many turns is
+-- narrower, but a word has room in ten
+abbrev pub place : Window → ℕ → ℕ
+place w turn = (if are_few w then 10 else 4) * (min (max turn w.from) w.to - w.from)
 
--- its first lines: its size, and what it shows
+-- how wide all turns are
+abbrev pub band_width : Window → ℕ
+band_width w = place w w.to
+
+-- a lane is this high, and those with this many lanes above them begin here
+abbrev pub lane_top : ℕ → ℕ
+lane_top row = 36 + 36 * row
+
+-- the tag of a rectangle of a class, at a place and of a size, without its end
+unfoldable pub rectangle_tag : List ℕ → ℕ → ℕ → ℕ → ℕ → List ℕ
+rectangle_tag class x y width height =
+    codes "<rect class='" ++ class ++ codes "' x='" ++ short_decimal x ++ codes "' y='"
+    ++ short_decimal y ++ codes "' width='" ++ short_decimal width ++ codes "' height='"
+    ++ short_decimal height ++ codes "'"
+
+-- the tag of a text of a class, at a place
+unfoldable pub text_tag : List ℕ → ℕ → ℕ → List ℕ
+text_tag class x y =
+    codes "<text class='" ++ class ++ codes "' x='" ++ short_decimal x ++ codes "' y='"
+    ++ short_decimal y ++ codes "'>"
+
+-- and with these words
+abbrev pub text_element : List ℕ → ℕ → ℕ → List ℕ → List ℕ
+text_element class x y said = text_tag class x y ++ said ++ codes "</text>\n"
+
+-- the first lines of a picture with this many lanes: its size, which has room for the legend, and
+-- what it shows
 unfoldable pub head_text : Window → ℕ → List ℕ
 head_text w rows =
-    codes "<svg xmlns='http://www.w3.org/2000/svg' width='" ++ short_decimal (picture_width w)
-    ++ codes "' height='" ++ short_decimal (picture_height rows) ++ codes "' viewBox='0 0 "
-    ++ short_decimal (picture_width w) ++ codes " " ++ short_decimal (picture_height rows)
+    let width = max 640 (band_width w + 220) in
+    let height = lane_top rows + 28 in
+    codes "<svg xmlns='http://www.w3.org/2000/svg' width='" ++ short_decimal width
+    ++ codes "' height='" ++ short_decimal height
+    ++ codes "' viewBox='0 0 " ++ short_decimal width ++ codes " " ++ short_decimal height
     ++ codes "'>\n<title>Channels and processors, turns " ++ short_decimal w.from
     ++ codes " to " ++ short_decimal w.to ++ codes "</title>\n"
 
@@ -58,20 +87,16 @@ legend_text =
     ++ codes "<text class='e' x='560' y='10'>fault</text>\n"
     ++ codes "</g>\n"
 
--- turns with a line: each tenth, or each twentieth where turns are narrow
-abbrev pub tick_turns : Window → ℕ
-tick_turns w = if nat_le (w.to - w.from) 100 then 10 else 20
-
--- the line of a turn and its number, in a picture with this many lanes
-abbrev pub tick_element : Window → ℕ → ℕ → List ℕ
-tick_element w rows turn =
-    rectangle_tag (codes "g") (place w turn + 80) 32 1 (36 * rows + 8) ++ codes "/>\n"
-    ++ text_element (codes "t") (place w turn + 80) (lane_top rows + 18) (short_decimal turn)
-
--- the scale of a turn, which may have a line, and of the window with the turn at its end
+-- the scale of a turn, in a picture with this many lanes: each tenth has a line and its number, or
+-- each twentieth of many
 abbrev pub tick_text : Window → ℕ → ℕ → List ℕ
-tick_text w rows turn = if turn % tick_turns w == 0 then tick_element w rows turn else []
+tick_text w rows turn =
+    if turn % (if are_few w then 10 else 20) == 0
+    then rectangle_tag (codes "g") (place w turn + 80) 32 1 (36 * rows + 8) ++ codes "/>\n"
+    ++ text_element (codes "t") (place w turn + 80) (lane_top rows + 18) (short_decimal turn)
+    else []
 
+-- and of the window, with the turn at its end
 abbrev pub ticks_text : Window → ℕ → List ℕ
 ticks_text w rows = each_below (w.to + 1 - w.from) (λ i. tick_text w rows (w.from + i))
 

@@ -1,11 +1,5 @@
-pub mod Window
 pub mod Condition
-pub mod SeenStep
-pub mod Phases
-pub mod Part
-pub mod Elements
-pub mod Lane
 pub mod Frame
+pub mod Lane
 pub mod DrawingText
 pub mod DrawingLaw
-pub mod WellFormed

@@ -1,8 +1,8 @@
-//! How channels and processors stand, and how that is shown.
+//! How channels and processors stand, from a turn on; and how that is shown.
 
 ghost use Rattle.std.specs.Prelude.{◌≡◌, ◌≤◌, length};
 ghost use Rattle.pp_text.specs.Piece.{piece_length};
-ghost use Rattle.pp_draw.specs.Condition.{face_of, goes_on, is_sent, is_same, loses_word};
+ghost use Rattle.pp_draw.specs.Condition.{face_of, goes_on};
 
 use pp_channel::{ChannelNo, Event};
 use pp_text::{channel_name, octal4};
@@ -22,22 +22,6 @@ pub enum Condition {
     Faulted,
 }
 
-impl Condition {
-    /// Whether a processor is found in the same condition again.
-    fn is_same(&self, next: &Condition) -> bool
-        ensures { result ≡ is_same self.now next.now }
-    {
-        match (self, next) {
-            (Condition::HeldBy(c), Condition::HeldBy(other)) => other.get() == c.get(),
-            (Condition::Running, Condition::Running)
-            | (Condition::InBlock, Condition::InBlock)
-            | (Condition::Stopped, Condition::Stopped)
-            | (Condition::Faulted, Condition::Faulted) => true,
-            _ => false,
-        }
-    }
-}
-
 /// What a lane shows: a channel after an event, or a processor as a step finds it.
 #[derive(Clone, Copy)]
 pub(crate) enum Look {
@@ -46,29 +30,17 @@ pub(crate) enum Look {
 }
 
 impl Look {
-    /// Whether a phase goes on: each event of a channel begins another.
+    /// Whether a phase goes on, which that of a channel does not: each event begins another.
     pub(crate) fn goes_on(&self, next: &Look) -> bool
         ensures { result ≡ goes_on self.now next.now }
     {
         match (self, next) {
-            (Look::Processor(condition), Look::Processor(next)) => condition.is_same(next),
-            _ => false,
-        }
-    }
-
-    /// Whether a function code went out.
-    pub(crate) fn is_sent(&self) -> bool
-        ensures { result ≡ is_sent self.now }
-    {
-        matches!(self, Look::Channel(Event::Function(_)))
-    }
-
-    /// Whether the word that waits is lost, since what comes next is a Disconnect.
-    pub(crate) fn loses_word(&self, next: &Look) -> bool
-        ensures { result ≡ loses_word self.now next.now }
-    {
-        match (self, next) {
-            (Look::Channel(Event::Put(_)), Look::Channel(Event::Disconnect)) => true,
+            (Look::Processor(Condition::HeldBy(c)), Look::Processor(Condition::HeldBy(other))) =>
+                other.get() == c.get(),
+            (Look::Processor(Condition::Running), Look::Processor(Condition::Running))
+            | (Look::Processor(Condition::InBlock), Look::Processor(Condition::InBlock))
+            | (Look::Processor(Condition::Stopped), Look::Processor(Condition::Stopped))
+            | (Look::Processor(Condition::Faulted), Look::Processor(Condition::Faulted)) => true,
             _ => false,
         }
     }
@@ -121,4 +93,11 @@ fn in_words(class: &[u8; 1], words: &'static [u8], label: Option<[u8; 4]>) -> Fa
         words,
         label,
     }
+}
+
+/// How a channel or a processor stands from a turn on (decimal), until its next phase.
+#[derive(Clone, Copy)]
+pub(crate) struct Phase {
+    pub(crate) since: u64,
+    pub(crate) look: Look,
 }

@@ -1,27 +1,87 @@
-//! What stands round the lanes: the head of the picture, its style sheet, the legend, the scale.
+//! The frame of the picture: the places of turns and of lanes, the tags of elements, and what
+//! stands round the lanes: the head, the style sheet, the legend, the scale.
 
-ghost use Rattle.std.specs.Prelude.{◌≡◌, ◌≤◌};
+ghost use Rattle.std.specs.Prelude.{◌≡◌, ◌<◌, ◌^◌};
 ghost use Rattle.pp_text.specs.TextWriter.{Prints};
-ghost use Rattle.pp_draw.specs.Elements.{lane_top};
-ghost use Rattle.pp_draw.specs.Frame.{foot_text, head_text, legend_text, style_text, tick_text, tick_turns, ticks_text};
+ghost use Rattle.pp_draw.specs.Frame.{are_few, band_width, foot_text, head_text, lane_top, legend_text, place, rectangle_tag, style_text, text_tag, tick_text, ticks_text};
 
-use crate::elements::{print_rectangle_tag, print_text_tag};
-use crate::window::{band_width, place};
 use pp_numbers::Window;
 use pp_text::{TextWriter, print_short_decimal};
 use std::io::Write;
 
+/// Whether few turns are drawn, for which there is more room.
+pub(crate) fn are_few(window: Window) -> bool
+    ensures { result ≡ are_few window }
+{
+    window.to.saturating_sub(window.from) <= 100
+}
+
+/// The place of a turn, in units of the picture: that of the nearest end of the window where it
+/// lies outside.
+pub(crate) fn place(window: Window, turn: u64) -> u64
+    ensures place { result ≡ place window turn }
+    ensures most { result < 2 ^ 40 }
+{
+    let width = if are_few(window) { 10 } else { 4 };
+    let from = u64::from(window.from);
+    let inside = turn.max(from).min(u64::from(window.to));
+    width * inside.saturating_sub(from)
+}
+
+/// How wide all turns are.
+pub(crate) fn band_width(window: Window) -> u64
+    ensures width { result ≡ band_width window }
+    ensures most { result < 2 ^ 40 }
+{
+    place(window, u64::from(window.to))
+}
+
 /// The upper edge of the lane with this many lanes above it.
-pub(crate) fn lane_top(row: u64) -> u64
-    requires { row ≤ 128 }
+pub(crate) fn lane_top(row: u8) -> u64
     ensures { result ≡ lane_top row }
 {
-    36 + 36 * row
+    36 + 36 * u64::from(row)
+}
+
+/// Prints the tag of a rectangle of a class, at a place and of a size, without its end.
+pub(crate) fn print_rectangle_tag<W: Write>(
+    text: &mut TextWriter<W>,
+    class: [u8; 1],
+    x: u64,
+    y: u64,
+    width: u64,
+    height: u64,
+)
+    ensures { Prints W.contents text.old text.new (rectangle_tag class x y width height) }
+{
+    text.print(b"<rect class='");
+    text.print(&class);
+    text.print(b"' x='");
+    print_short_decimal(text, x);
+    text.print(b"' y='");
+    print_short_decimal(text, y);
+    text.print(b"' width='");
+    print_short_decimal(text, width);
+    text.print(b"' height='");
+    print_short_decimal(text, height);
+    text.print(b"'");
+}
+
+/// Prints the tag of a text of a class, at a place.
+pub(crate) fn print_text_tag<W: Write>(text: &mut TextWriter<W>, class: [u8; 1], x: u64, y: u64)
+    ensures { Prints W.contents text.old text.new (text_tag class x y) }
+{
+    text.print(b"<text class='");
+    text.print(&class);
+    text.print(b"' x='");
+    print_short_decimal(text, x);
+    text.print(b"' y='");
+    print_short_decimal(text, y);
+    text.print(b"'>");
 }
 
 /// Prints the first lines of a picture with this many lanes: its size, and what it shows.
-pub(crate) fn print_head<W: Write>(text: &mut TextWriter<W>, window: Window, rows: u64)
-    requires { rows ≤ 128 }
+pub(crate) fn print_head<W: Write>(text: &mut TextWriter<W>, window: Window, rows: u8)
     ensures { Prints W.contents text.old text.new (head_text window rows) }
 {
     let width = (band_width(window) + 220).max(640);
@@ -88,8 +148,7 @@ pub(crate) fn print_legend<W: Write>(text: &mut TextWriter<W>)
 }
 
 /// Prints the lines of the scale.
-pub(crate) fn print_ticks<W: Write>(text: &mut TextWriter<W>, window: Window, rows: u64)
-    requires { rows ≤ 128 }
+pub(crate) fn print_ticks<W: Write>(text: &mut TextWriter<W>, window: Window, rows: u8)
     ensures { Prints W.contents text.old text.new (ticks_text window rows) }
 {
     let from = u64::from(window.from);
@@ -99,36 +158,23 @@ pub(crate) fn print_ticks<W: Write>(text: &mut TextWriter<W>, window: Window, ro
 }
 
 /// Prints the line and the number of a turn, if it has any.
-fn print_tick<W: Write>(text: &mut TextWriter<W>, window: Window, rows: u64, turn: u64)
-    requires { rows ≤ 128 }
+fn print_tick<W: Write>(text: &mut TextWriter<W>, window: Window, rows: u8, turn: u64)
     ensures { Prints W.contents text.old text.new (tick_text window rows turn) }
 {
-    if turn % tick_turns(window) != 0 {
+    let tick_turns = if are_few(window) { 10 } else { 20 };
+    if turn % tick_turns != 0 {
         return;
     }
     let x = place(window, turn) + 80;
-    print_rectangle_tag(text, *b"g", x, 32, 1, 36 * rows + 8);
+    print_rectangle_tag(text, *b"g", x, 32, 1, 36 * u64::from(rows) + 8);
     text.print(b"/>\n");
     print_text_tag(text, *b"t", x, lane_top(rows) + 18);
     print_short_decimal(text, turn);
     text.print(b"</text>\n");
 }
 
-/// Turns from one line to the next.
-fn tick_turns(window: Window) -> u64
-    ensures turns { result ≡ tick_turns window }
-    ensures least { 10 ≤ result }
-{
-    if window.to.saturating_sub(window.from) <= 100 {
-        10
-    } else {
-        20
-    }
-}
-
 /// Prints what the scale counts, and the end of the picture.
-pub(crate) fn print_foot<W: Write>(text: &mut TextWriter<W>, rows: u64)
-    requires { rows ≤ 128 }
+pub(crate) fn print_foot<W: Write>(text: &mut TextWriter<W>, rows: u8)
     ensures { Prints W.contents text.old text.new (foot_text rows) }
 {
     print_text_tag(text, *b"e", 8, lane_top(rows) + 18);

@@ -1,19 +1,82 @@
-//! A lane that is printed phase by phase.
+//! A lane that is printed phase by phase, and what is drawn of a phase.
 
-ghost use Rattle.std.specs.Prelude.{◌≡◌, ◌≤◌, ◌<◌, ◌^◌, ◌++◌, [], option_to_list, ℕ, List};
+ghost use Rattle.std.specs.Prelude.{◌≡◌, ◌<◌, ◌^◌, ◌++◌, [], ◌∷◌, ℕ, List, None};
+ghost use Rattle.std.specs.Option.{unwrap_or};
 ghost use Rattle.pp_text.specs.TextWriter.{Prints};
-ghost use Rattle.pp_text.specs.declared.text_writer.TextWriter.{TextWriter};
-ghost use Rattle.pp_draw.specs.Elements.{free_after, lane_head, part_elements};
-ghost use Rattle.pp_draw.specs.Lane.{LeadsTo, new_lane, still_drawn};
-ghost use Rattle.pp_draw.specs.declared.part.Phase.{Phase};
+ghost use Rattle.pp_draw.specs.Lane.{band_element, free_after, is_visible, label_from, lane_head, part_class, part_elements, part_of, still_drawn};
+ghost use Rattle.pp_draw.specs.declared.condition.Phase.{Phase};
 
-use crate::elements::{print_band, print_label};
-use crate::frame::lane_top;
-use crate::part::{Part, Phase};
-use crate::window::band_width;
+use crate::condition::{Look, Phase};
+use crate::frame::{band_width, lane_top, place, print_rectangle_tag, print_text_tag};
+use pp_channel::Event;
 use pp_numbers::Window;
 use pp_text::{TextWriter, print_short_decimal};
 use std::io::Write;
+
+/// What is drawn of a phase: a band from a place to another, for the turns from one on and before
+/// another (decimal); and whether a Disconnect lost its word.
+#[derive(Clone, Copy)]
+struct Part {
+    start: u64,
+    end: u64,
+    since: u64,
+    until: u64,
+    look: Look,
+    is_lost: bool,
+}
+
+impl Part {
+    /// That of a phase and the next, if there is one.
+    fn of(window: Window, phase: &Phase, next: &Option<Phase>) -> Part
+        ensures part { result ≡ part_of window phase.now next.now }
+        ensures most { result.start < 2 ^ 40 }
+    {
+        let (until, is_lost) = match (&phase.look, next) {
+            (Look::Channel(Event::Function(_)), _) => (phase.since.saturating_add(1), false),
+            (Look::Channel(Event::Put(_)), Some(next))
+                if matches!(next.look, Look::Channel(Event::Disconnect)) => (next.since, true),
+            (_, Some(next)) => (next.since, false),
+            (_, None) => (u64::from(window.to), false),
+        };
+        Part {
+            start: place(window, phase.since),
+            end: place(window, until),
+            since: phase.since,
+            until,
+            look: phase.look,
+            is_lost,
+        }
+    }
+
+    /// Whether some of it falls into the window.
+    fn is_visible(&self) -> bool
+        ensures { result ≡ is_visible self.now }
+    {
+        self.start < self.end
+    }
+
+    /// Its class: a lost word has one of its own.
+    fn class(&self) -> [u8; 1]
+        ensures { result ≡ part_class self.now }
+    {
+        if self.is_lost {
+            *b"l"
+        } else {
+            self.look.face().class
+        }
+    }
+
+    /// The label above it, if it has one, and there is room from this place on.
+    fn label_from(&self, free: u64) -> Option<[u8; 4]>
+        ensures { result ≡ label_from free self.now }
+    {
+        if self.is_visible() && free <= self.start {
+            self.look.face().label
+        } else {
+            None
+        }
+    }
+}
 
 /// How far a lane is printed: its phase that may go on, and the place from which there is room for
 /// a label.
@@ -26,10 +89,24 @@ pub(crate) struct Lane {
 }
 
 impl Lane {
-    /// The lane with this name, before its first phase.
-    pub(crate) fn new(window: Window, name: [u8; 4]) -> Lane
-        ensures { result ≡ new_lane window name }
+    /// Prints how the lane with this name begins, with this many lanes above it: its name, and a
+    /// line under all turns.
+    pub(crate) fn begin<W: Write>(
+        text: &mut TextWriter<W>,
+        window: Window,
+        name: [u8; 4],
+        row: u8,
+    ) -> Lane
+        ensures lane { result ≡ record { window = window; name = name; current = None; free = 0 } }
+        ensures text { Prints W.contents text.old text.new (lane_head window row name) }
     {
+        text.print(b"<g transform='translate(80,");
+        print_short_decimal(text, lane_top(row));
+        text.print(b")'>\n<text x='-72' y='26'>");
+        text.print(&name);
+        text.print(b"</text>\n<rect class='u' y='30' width='");
+        print_short_decimal(text, band_width(window));
+        text.print(b"' height='1'/>\n");
         Lane {
             window,
             name,
@@ -38,39 +115,21 @@ impl Lane {
         }
     }
 
-    /// Prints how a lane begins, with this many lanes above it: its name, and a line under all
-    /// turns.
-    pub(crate) fn print_head<W: Write>(&self, text: &mut TextWriter<W>, row: u64)
-        requires { row ≤ 128 }
-        ensures { Prints W.contents text.old text.new
-            (lane_head self.now.window row self.now.name) }
+    /// Takes in a phase, and prints the one before if it is over.
+    pub(crate) fn take<W: Write>(&mut self, text: &mut TextWriter<W>, since: u64, look: Look)
+        ensures { (printed : List ℕ) × Prints W.contents text.old text.new printed
+            × ((rest : List Phase)
+            → still_drawn self.old (record { since = since; look = look } ∷ rest)
+            ≡ printed ++ still_drawn self.new rest) }
     {
-        text.print(b"<g transform='translate(80,");
-        print_short_decimal(text, lane_top(row));
-        text.print(b")'>\n<text x='-72' y='26'>");
-        text.print(&self.name);
-        text.print(b"</text>\n<rect class='u' y='30' width='");
-        print_short_decimal(text, band_width(self.window));
-        text.print(b"' height='1'/>\n");
-    }
-
-    /// Takes in a phase, if there is one, and prints the one before if it is over.
-    pub(crate) fn take<W: Write>(&mut self, text: &mut TextWriter<W>, phase: Option<Phase>)
-        ensures { (start : TextWriter W) (whole : List ℕ) (rest : List Phase)
-            → LeadsTo W.contents start text.old whole self.old (option_to_list phase ++ rest)
-            → LeadsTo W.contents start text.new whole self.new rest }
-    {
-        let Some(next) = phase else {
-            return;
-        };
+        let next = Some(Phase { since, look });
         let Some(current) = self.current else {
-            self.current = Some(next);
+            self.current = next;
             return;
         };
-        if current.look.goes_on(&next.look) {
+        if current.look.goes_on(&look) {
             return;
         }
-        let next = Some(next);
         let part = Part::of(self.window, &current, &next);
         self.free = print_part(text, &self.name, self.free, &part);
         self.current = next;
@@ -98,9 +157,40 @@ fn print_part<W: Write>(text: &mut TextWriter<W>, name: &[u8; 4], free: u64, par
     }
     match part.label_from(free) {
         Some(label) => {
-            print_label(text, part, &label);
+            print_text_tag(text, part.class(), part.start, 10);
+            text.print(&label);
+            text.print(b"</text>\n");
             part.start + 30
         }
         None => free,
+    }
+}
+
+/// Prints the band of a part, with a title as `CH05 full 0007 lost from 20 to 30`.
+fn print_band<W: Write>(text: &mut TextWriter<W>, name: &[u8; 4], part: &Part)
+    ensures { Prints W.contents text.old text.new (band_element name.now part.now) }
+{
+    let width = part.end.saturating_sub(part.start);
+    print_rectangle_tag(text, part.class(), part.start, 14, width, 16);
+    text.print(b"><title>");
+    text.print(name);
+    text.print(b" ");
+    let face = part.look.face();
+    text.print(face.words);
+    print_label(text, &face.label);
+    let lost: &[u8] = if part.is_lost { b" lost" } else { b"" };
+    text.print(lost);
+    text.print(b" from ");
+    print_short_decimal(text, part.since);
+    text.print(b" to ");
+    print_short_decimal(text, part.until);
+    text.print(b"</title></rect>\n");
+}
+
+fn print_label<W: Write>(text: &mut TextWriter<W>, label: &Option<[u8; 4]>)
+    ensures { Prints W.contents text.old text.new (unwrap_or label.now []) }
+{
+    if let Some(label) = label {
+        text.print(label);
     }
 }

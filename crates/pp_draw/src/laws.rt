@@ -1,33 +1,26 @@
 //! Laws of drawings. This function does nothing: its contract says what is proved of the
 //! definitions.
 
-ghost use Rattle.std.specs.Prelude.{◌≡◌, ◌↔◌, ◌+◌, ◌<◌, ◌≤◌, ◌^◌, ℕ, Bool, IfSome, IsFalse, IsTrue, List, [], ◌∷◌, ◌++◌, Option, None, Some, codes, map, if◌then◌else◌};
-ghost use Rattle.std.specs.List.{last_or};
+ghost use Rattle.std.specs.Prelude.{◌≡◌, ◌==◌, ◌↔◌, ◌+◌, ◌<◌, ◌≤◌, ◌^◌, ℕ, Bool, IfSome, IsFalse, IsTrue, List, [], ◌∷◌, ◌++◌, Option, None, Some, map, if◌then◌else◌};
+ghost use Rattle.std.specs.List.{filter_map, last_or, slice_get};
 ghost use Rattle.std.specs.Option.{option_map};
 ghost use Rattle.pp_numbers.specs.ChannelNo.{channel_index, names_channel};
 ghost use Rattle.pp_channel.specs.declared.event.Event.{Event};
 ghost use Rattle.pp_channel.specs.declared.event.Event.TheVariants.{Disconnect, Put};
 ghost use Rattle.pp_machine.specs.Headline.{HoldsOnEachChannel};
-ghost use Rattle.pp_machine.specs.MachineState.{MachineState, history_of};
+ghost use Rattle.pp_machine.specs.MachineState.{MachineState, history_of, is_opened};
 ghost use Rattle.pp_machine.specs.MachineStep.{counted};
 ghost use Rattle.pp_numbers.specs.PpNo.{names_processor, processor_count, processor_index};
 ghost use Rattle.pp_machine.specs.Run.{barrel};
 ghost use Rattle.pp_run.specs.RunSteps.{run_steps};
-ghost use Rattle.pp_draw.specs.Condition.{goes_on, is_sent};
-ghost use Rattle.pp_draw.specs.DrawingText.{channel_lane, drawing, is_flagged, is_used, lanes_above, processor_lane, used_among};
-ghost use Rattle.pp_draw.specs.DrawingLaw.{Adjoin, GoesToEnd, IsTurnOf, StandsWithin, first_turn, goes_on_from, last_step, look_at, look_in, opening_turns, turns_on};
-ghost use Rattle.pp_draw.specs.Elements.{band_element};
-ghost use Rattle.pp_draw.specs.Lane.{drawn_from, next_in};
-ghost use Rattle.pp_draw.specs.Part.{is_lost, is_visible, part_of};
-ghost use Rattle.pp_draw.specs.Phases.{channel_phases, phases_from, processor_phases};
-ghost use Rattle.pp_draw.specs.SeenStep.{is_shown, seen, seen_in_window};
-ghost use Rattle.pp_draw.specs.WellFormed.{IsWellFormed};
-ghost use Rattle.pp_draw.specs.declared.condition.Condition.{Condition};
-ghost use Rattle.pp_draw.specs.declared.condition.Look.{Look};
-ghost use Rattle.pp_draw.specs.declared.condition.Look.TheVariants.{Channel, Processor};
-ghost use Rattle.pp_draw.specs.declared.part.Phase.{Phase};
-ghost use Rattle.pp_draw.specs.declared.seen_step.SeenStep.{SeenStep};
 ghost use Rattle.pp_numbers.specs.declared.window.Window.{Window};
+ghost use Rattle.pp_draw.specs.Condition.{channel_phases, goes_on, is_sent, is_shown, phases_from, processor_phases, seen, seen_in_window};
+ghost use Rattle.pp_draw.specs.DrawingLaw.{EndsAt, IsTurnOf, StandsWithin, goes_on_from, last_step, look_at, look_in};
+ghost use Rattle.pp_draw.specs.DrawingText.{channel_lane, drawing, is_flagged, is_used, lanes_above, processor_lane, used_among};
+ghost use Rattle.pp_draw.specs.Frame.{band_width};
+ghost use Rattle.pp_draw.specs.Lane.{band_element, drawn_from, is_lost, is_visible, part_of};
+ghost use Rattle.pp_draw.specs.declared.{condition.Condition.Condition, condition.Look.Look, condition.Phase.Phase, seen_step.SeenStep.SeenStep};
+ghost use Rattle.pp_draw.specs.declared.condition.Look.TheVariants.{Channel, Processor};
 
 /// What is drawn of processors is seen in the very steps of the run that the text of steps tells.
 /// A channel has a phase for each event of its history, in order and from the turn of the event on,
@@ -35,14 +28,15 @@ ghost use Rattle.pp_numbers.specs.declared.window.Window.{Window};
 /// condition of the one before: only phases under one condition are one, and all that are in a row.
 /// In each turn the lane shows how the last step of the run found the processor. A phase that has a
 /// turn in the window has its band, which goes to where the next begins, or else to the end. A word
-/// is drawn as lost where a Disconnect comes next after its Put. And every drawing is well-formed
-/// XML.
+/// is drawn as lost where a Disconnect comes next after its Put.
 pub fn drawing_law()
     ensures history { (c : ℕ) (m : MachineState) → IsTrue (names_channel c)
         → HoldsOnEachChannel m
         → map look_in (channel_phases c m) ≡ map Channel (history_of c m) }
     ensures turns { (c : ℕ) (m : MachineState)
-        → map first_turn (channel_phases c m) ≡ opening_turns c m ++ turns_on c m.trace }
+        → map (λ phase. phase.since) (channel_phases c m)
+        ≡ (if is_opened c m then 0 ∷ [] else [])
+        ++ filter_map (λ entry. if entry.channel == c then Some entry.turn else None) m.trace }
     ensures each_event { (c : ℕ) (m : MachineState)
         → phases_from None (channel_phases c m) ≡ channel_phases c m }
     ensures one_more { (phases : List Phase) (next : Phase)
@@ -65,9 +59,10 @@ pub fn drawing_law()
         ≡ Some (Processor (seen step).condition)) }
     ensures adjoin { (w : Window) (phase next : Phase) (after : Option Phase)
         → IsFalse (is_sent phase.look)
-        → Adjoin (part_of w phase (Some next)) (part_of w next after) }
+        → EndsAt (part_of w phase (Some next)) (part_of w next after).since
+        (part_of w next after).start }
     ensures to_end { (w : Window) (phase : Phase) → IsFalse (is_sent phase.look)
-        → GoesToEnd w (part_of w phase None) }
+        → EndsAt (part_of w phase None) w.to (band_width w) }
     // A function code is drawn in its turn alone.
     ensures code { (w : Window) (phase : Phase) (next : Option Phase)
         → IsTrue (is_sent phase.look)
@@ -76,8 +71,8 @@ pub fn drawing_law()
         → IsTrue (is_visible (part_of w phase next))
         ↔ ((turn : ℕ) × IsTurnOf w (part_of w phase next) turn) }
     ensures band { (w : Window) (name : List ℕ) (free : ℕ) (before : List Phase) (phase : Phase)
-        (more : List Phase) → IsTrue (is_visible (part_of w phase (next_in more)))
-        → StandsWithin (band_element name (part_of w phase (next_in more)))
+        (more : List Phase) → IsTrue (is_visible (part_of w phase (slice_get more 0)))
+        → StandsWithin (band_element name (part_of w phase (slice_get more 0)))
         (drawn_from w name free (before ++ phase ∷ more)) }
     // The lane of a channel that is not used is empty, and so is that of a processor that is not
     // shown.
@@ -98,9 +93,4 @@ pub fn drawing_law()
     ensures lost { (e next : Event) (turn : ℕ) → IsTrue (is_lost (Channel e)
         (Some (record { since = turn; look = Channel next })))
         ↔ (((word : ℕ) × (e ≡ Put word)) × (next ≡ Disconnect)) }
-    ensures well_formed { (w : Window) (shown : List Bool) (m : MachineState)
-        (steps : List SeenStep) → IsWellFormed (drawing w shown m steps) }
-    // Texts that are not.
-    ensures unclosed { ¬ IsWellFormed (codes "<svg><g></g>") }
-    ensures repeated { ¬ IsWellFormed (codes "<svg x='8' x='8'/>") }
 {}

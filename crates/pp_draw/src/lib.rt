@@ -5,26 +5,21 @@
 //! the picture. What is drawn is a function of the steps of the run (specs/DrawingText): each lane
 //! is a list of phases, each of which lasts until the next. The phases of a channel begin with its
 //! events, those of a processor with the steps that find it in another condition than the step
-//! before (specs/Phases). A phase that falls into the window is drawn as a band (specs/Part), with
-//! its word, its function code or its channel above it where there is room (specs/Lane), and with a
-//! title that tells it. After the last turn stands how the lane ends.
+//! before (specs/Condition). A phase that falls into the window is drawn as a band, with its word,
+//! its function code or its channel above it where there is room, and with a title that tells it
+//! (specs/Lane). After the last turn stands how the lane ends.
 //!
-//! The text is well-formed XML (specs/WellFormed, by `drawing_law`), and a run decides nothing of
-//! it but digits, classes and which elements there are. It has no script and no reference, and its
+//! The text is well-formed XML (`well_formed_law` of `pp_laws`), and a run decides nothing of it
+//! but digits, classes and which elements there are. It has no script and no reference, and its
 //! colours are light or dark as the reader's are.
 #![tactic(auto)]
 
 mod condition;
 mod drawing;
-mod elements;
 mod frame;
 mod lane;
-mod lanes;
 mod laws;
-mod part;
-mod rows;
 mod seen_step;
-mod window;
 
 pub use condition::Condition;
 pub use drawing::write_drawing;

@@ -1,15 +1,15 @@
 //! Runs that see how each step found its processor.
 
-ghost use Rattle.std.specs.Prelude.{◌≡◌, map, IfErr, IfOk};
+ghost use Rattle.std.specs.Prelude.{◌≡◌, map, IfErr, IfOk, IsTrue};
 ghost use Rattle.std.specs.List.{filter};
 ghost use Rattle.pp_machine.specs.Run.{IsRunOf};
 ghost use Rattle.pp_run.specs.RunSteps.{IsCutAt};
-ghost use Rattle.pp_draw.specs.SeenStep.{IsKept, condition_by, found_in, is_shown, seen, seen_in_window};
+ghost use Rattle.pp_draw.specs.Condition.{condition_by, found_in, is_shown, seen, seen_in_window};
 
 use crate::condition::Condition;
-use pp_numbers::Window;
 use pp_channel::Memory;
 use pp_machine::{Block, Cut, Machine, Need, Outcome, PROCESSORS, PpNo, PpState};
+use pp_numbers::Window;
 use pp_run::{Observer, run_observed};
 use std::alloc::Allocator;
 
@@ -35,7 +35,7 @@ pub fn run_seeing_steps<A: Allocator>(
     ensures seen { IfOk result (λ steps. steps.items ≡ seen_in_window window machine.old) }
     // A run is cut only where an event or a step had to be kept.
     ensures cut_at { IfErr result (λ c.
-        IsCutAt (IsKept window) window.to machine.old c.done) }
+        IsCutAt (λ step. IsTrue (is_shown window (seen step))) window.to machine.old c.done) }
 {
     let mut shown = ShownSteps {
         window,
@@ -69,7 +69,7 @@ impl<A: Allocator> Observer<A> for ShownSteps<A> {
 
     ghost IsNote = { λ found step. found ≡ found_in step };
 
-    ghost Keeps = { λ start step. IsKept start.window step };
+    ghost Keeps = { λ start step. IsTrue (is_shown start.window (seen step)) };
 
     fn note(&self, machine: &Machine<A>, n: PpNo) -> Found {
         Found {

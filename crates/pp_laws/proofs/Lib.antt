@@ -1,4 +1,5 @@
 mod CircleLemmas
+mod WellFormedLemmas
 mod Standing
 mod Steps
 mod DeterminacyLemmas

@@ -1,3 +1,4 @@
 pub mod PrintedTrace
 pub mod OneRun
 pub mod Circle
+pub mod WellFormed

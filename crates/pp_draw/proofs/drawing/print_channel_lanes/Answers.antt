@@ -1,6 +1,6 @@
 use Rattle.std.proofs.Common.{ap}
 use Rattle.pp_draw.specs.DrawingText.{channel_lane}
-use Rattle.pp_draw.proofs.EachLemmas.{none_printed, one_printed}
+use Rattle.pp_draw.proofs.RowLemmas.{none_printed, one_printed}
 use Rattle.pp_draw.proofs.drawing.print_channel_lanes.Goals as goal
 
 pub loop-place-init : goal.loop-place-init

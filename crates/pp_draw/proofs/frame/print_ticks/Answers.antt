@@ -1,6 +1,6 @@
 use Rattle.std.proofs.Common.{ℕ, ◌+◌, ap}
 use Rattle.pp_draw.specs.Frame.{tick_text}
-use Rattle.pp_draw.proofs.EachLemmas.{none_printed, one_printed}
+use Rattle.pp_draw.proofs.RowLemmas.{none_printed, one_printed}
 use Rattle.pp_draw.proofs.frame.print_ticks.Goals as goal
 
 pub loop-i-init : goal.loop-i-init

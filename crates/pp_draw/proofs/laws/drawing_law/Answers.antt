@@ -1,9 +1,7 @@
-use Rattle.std.proofs.Common.{rules}
 use Rattle.pp_draw.proofs.BandLemmas.{band_stands, channel_stands, code_in_turn, last_to_end, lower_channel, lower_processor, next_adjoins, processor_stands, visible_where}
 use Rattle.pp_draw.proofs.ConditionLemmas.{last_is_drawn, next_is_drawn, same_goes_on, same_on}
 use Rattle.pp_draw.proofs.LawLemmas.{each_is_drawn, lost_where, phase_for_event, turn_for_event}
 use Rattle.pp_draw.proofs.TurnLemmas.{last_at_turn, shown_where}
-use Rattle.pp_draw.proofs.WellFormedLemmas.{drawing_read}
 use Rattle.pp_draw.proofs.laws.drawing_law.Goals as goal
 
 pub returns : goal.returns
@@ -27,7 +25,4 @@ returns c = record {
   channel_rows = lower_channel;
   processor_rows = lower_processor;
   lost = lost_where;
-  well_formed = drawing_read;
-  unclosed = search rules;
-  repeated = search rules;
 }

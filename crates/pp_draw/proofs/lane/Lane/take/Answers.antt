@@ -1,12 +1,20 @@
-use Rattle.std.proofs.Common.{sym, ◌∙◌}
+use Rattle.std.proofs.Common.{[], ◌∷◌, Option, ap, sym, ◌∙◌}
+use Rattle.pp_text.proofs.PrintingLemmas.{prints_nothing}
+use Rattle.pp_draw.specs.Lane.{still_drawn}
+use Rattle.pp_draw.specs.declared.condition.Phase.{Phase}
 use Rattle.pp_draw.proofs.LaneLemmas.{comes_next, goes_by}
 use Rattle.pp_draw.proofs.lane.Lane.take.Goals as goal
 
+pub returns-in_default : goal.returns-in_default
+returns-in_default g c = ([], prints_nothing _ _, λ rest. ap (λ (o : Option Phase). still_drawn (record c.args.self.now { current = o }) (record { since = c.args.since; look = c.args.look } ∷ rest)) c.in_default.is)
+
 pub returns-then-goes_on : goal.returns-then-goes_on
-returns-then-goes_on g c = λ start whole rest h.
-    goes_by _ start _ whole c.args.self.now c.in-Some-current.current c.in-Some.next rest c.in-Some-current.is (sym c.goes_on.ensures ∙ c.if-goes_on.true) (rw c.in-Some.is at h)
+returns-then-goes_on g c = ([], prints_nothing _ _, λ rest. goes_by c.args.self.now c.in-Some.current (record { since = c.args.since; look = c.args.look }) rest c.in-Some.is (sym c.goes_on.ensures ∙ c.if-goes_on.true))
 
 pub returns : goal.returns
-returns g c = λ start whole rest h.
-    comes_next _ start _ _ whole c.args.self.now c.in-Some-current.current c.in-Some.next c.of-part.result c.print_part-self.result rest c.in-Some-current.is (sym c.goes_on.ensures ∙ c.if-goes_on.false) c.of-part.ensures.part c.print_part-self.ensures.free
-    c.print_part-self.ensures.text (rw c.in-Some.is at h)
+returns g c = (
+  _,
+  c.print_part-self.ensures.text,
+  λ rest.
+      comes_next c.args.self.now c.in-Some.current (record { since = c.args.since; look = c.args.look }) c.of-part.result c.print_part-self.result rest c.in-Some.is (sym c.goes_on.ensures ∙ c.if-goes_on.false) c.of-part.ensures.part c.print_part-self.ensures.free,
+)
