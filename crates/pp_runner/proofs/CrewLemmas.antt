@@ -116,16 +116,11 @@ taken_unused m size steps family line others taken = record {
   program_orders = ap (λ v. v.program_orders) taken.fresh.view;
 }
 
--- where there were several lines, some are left
-pub some_left : (lines others : List LineState) (line : LineState) → lines ≡ others ++ line ∷ [] → 1 < length lines → 0 < length others
-some_left lines others line is several = omega (arith, several, ap length is, length-append others (line ∷ []))
-
 -- those before the last are ready too
-pub ready_before : (m : MachineState) (size room : ℕ) (family line : LineState) (others : List LineState) → IsTaken m size room family line others → 0 < length others → AreReady m size room family others
-ready_before m size room family line others taken some = record {
+pub ready_before : (m : MachineState) (size room : ℕ) (family line : LineState) (others : List LineState) → IsTaken m size room family line others → AreReady m size room family others
+ready_before m size room family line others taken = record {
   each = taken.each;
   count = omega (arith, taken.count);
-  some = some;
   fresh = taken.fresh_others;
   central = taken.central;
 }
@@ -142,15 +137,6 @@ ended_beside {A} m n room size steps left total family line others crew after la
     let ended : AreEnded (take left m.processors ++ processor_of n m ∷ []) size steps room family (crew ++ last ∷ []) =
     zip_push (λ load pair. HasEnded load size steps room family pair) (take left m.processors) crew (processor_of n m) last all (record { line = line; fresh = taken.fresh; has = one }) in
     rw (sum, loads, after_is) ended
-
--- the first worker, behind which there is none
-pub ended_alone : {A : Type 0} (m : MachineState) (n room size steps total : ℕ) (load : Processor) (family line : LineState) (lines others : List LineState) (crew after : List (Ended A × LineState)) (last : Ended A × LineState)
-    → AreReady m size room family lines → lines ≡ others ++ line ∷ [] → total ≡ length lines → total ≤ 1 → n ≡ processor_number (length others) → load ≡ processor_of n m
-    → IsEnded load size steps line last.0 last.1 → crew ≡ [] → after ≡ crew ++ last ∷ [] → AreEnded (take total m.processors) size steps room family after
-ended_alone {A} m n room size steps total load family line lines others crew after last ready is sum few at load_is one nobody after_is =
-    let none : length others ≡ 0 = omega (arith, ap length is, length-append others (line ∷ []), sum, few) in
-    ended_beside m n room size steps 0 total family line others crew after last (taken_of m size room family line lines others is ready) (at ∙ ap processor_number none) (sym none) (omega (arith, sum, few, ready.some))
-    (subst (λ (p : Processor). IsEnded p size steps line last.0 last.1) load_is one) (rw nobody tt) after_is
 
 -- what a promise says, in the words of what it was made from
 pub promised : {A : Type 0} (load was : Processor) (size steps steps_was : ℕ) (line line_was : LineState) (ended : Ended A × LineState) → was ≡ load → steps_was ≡ steps → line_was ≡ line

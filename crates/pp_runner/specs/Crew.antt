@@ -1,5 +1,5 @@
 -- Workers that run at once, with their lines. (Only private contracts cite this.)
-use Rattle.std.specs.Prelude.{◌≡◌, ◌<◌, ◌≤◌, ℕ, List, [], All, length}
+use Rattle.std.specs.Prelude.{◌≡◌, ◌≤◌, ℕ, List, [], All, length}
 use Rattle.std.specs.List.{AllZip}
 use Rattle.std.specs.declared.vec.Vec.{Vec}
 use Rattle.pp_line.specs.LineState.{LineState, IsSplitFrom}
@@ -20,7 +20,6 @@ pub record AreReady (m : MachineState) (size room : ℕ) (family : LineState)
     (lines : List LineState) : Type 0 where
   pub each : length m.processors ≡ processor_count
   pub count : length lines ≤ processor_count
-  pub some : 0 < length lines
   pub central : length family.view.central ≡ size
   pub fresh : All (IsSplitFrom family room) lines
 

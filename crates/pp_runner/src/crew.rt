@@ -11,7 +11,7 @@ use crate::run_fault::RunFault;
 use crate::site::Site;
 use crate::worker::Ended;
 use pp_line::Line;
-use pp_machine::{Machine, Pp, PpNo};
+use pp_machine::{Machine, Pp, PpNo, PpState};
 use std::alloc::Allocator;
 use std::snapshot::Snapshot;
 use std::sync::Wait;
@@ -37,7 +37,7 @@ impl<A: Allocator> Promise<(Ended<A>, Line<A>)> for EndOf<A> {
 }
 
 /// Runs the workers of the barrel's first processors at once, one on each line. The first works in
-/// this thread.
+/// this thread, and so does one at rest, which makes no step.
 #[cycle(crew)]
 pub fn run_first<R: Threads + Wait + Sync, G: Gate + Sync, A: Allocator + Copy + Send + Sync>(
     rt: &R,
@@ -53,14 +53,17 @@ pub fn run_first<R: Threads + Wait + Sync, G: Gate + Sync, A: Allocator + Copy +
         (vec_len lines) machine.now.processors) site.now.size site.now.limits.steps
         (2 * site.now.limits.steps + 1) family.value crew.items) }
 {
-    if lines.len() > 1 {
+    if lines.is_empty() {
+        return Ok(Vec::new(site.alloc));
+    }
+    let number = PpNo::at(lines.len() - 1);
+    if lines.len() > 1 && matches!(machine.pp(number).state(), PpState::Running) {
         return beside(rt, site, gate, machine, family, lines);
     }
     let Some(line) = lines.pop() else {
         unreachable!()
     };
-    let number = PpNo::at(lines.len());
-    let mut crew = Vec::new(site.alloc);
+    let mut crew = run_first(rt, site, gate, machine, family, lines)?;
     crew.push(work(site, gate, number, machine.pp(number), line))?;
     Ok(crew)
 }
@@ -75,7 +78,7 @@ fn beside<R: Threads + Wait + Sync, G: Gate + Sync, A: Allocator + Copy + Send +
     family: Snapshot<Line<A>>,
     lines: Vec<Line<A>, A>,
 ) -> Result<Crew<A>, RunFault>
-    requires several { 1 < vec_len lines }
+    requires some { 0 < vec_len lines }
     requires ready { AreReady machine.now site.now.size (2 * site.now.limits.steps + 1)
         family.value lines.items }
     ensures { IfOk result (λ crew. AreEnded (take
@@ -87,7 +90,7 @@ fn beside<R: Threads + Wait + Sync, G: Gate + Sync, A: Allocator + Copy + Send +
         rt,
         |scope| -> Result<Crew<A>, RunFault>
             requires { IsSync R.row × IsSync G.row × IsSend A.row × IsSync A.row
-                × Frees A.Allocator A.dealloc_token × (1 < vec_len lines)
+                × Frees A.Allocator A.dealloc_token × (0 < vec_len lines)
                 × AreReady machine.now site.now.size (2 * site.now.limits.steps + 1) family.value
                 lines.items }
             ensures { IfOk result (λ crew. AreEnded

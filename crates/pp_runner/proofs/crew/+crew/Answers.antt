@@ -1,7 +1,7 @@
 use Rattle.std.proofs.Common.{◌+◌, ◌*◌, ◌∙◌, ap, subst, sym, vec_len, rules, arith}
 use Rattle.pp_machine.specs.MachineState.{processor_of}
 use Rattle.pp_numbers.specs.PpNo.{processor_number}
-use Rattle.pp_runner.proofs.CrewLemmas.{taken_of, taken_unused, some_left, ready_before, ended_alone, ended_beside, promised}
+use Rattle.pp_runner.proofs.CrewLemmas.{taken_of, taken_unused, ready_before, ended_beside, promised}
 use Rattle.pp_runner.specs.Crew.{IsEnded}
 use Rattle.pp_runner.specs.declared.crew.EndOf.{EndOf}
 use Rattle.pp_runner.proofs.crew.+crew.Goals as goal
@@ -10,7 +10,6 @@ pub beside-scope-run_first-others-requires-after_bounds : goal.beside-scope-run_
 beside-scope-run_first-others-requires-after_bounds g t c κs within =
     ready_before c.captures.machine.now c.captures.site.now.size (2 * c.captures.site.now.limits.steps + 1) c.captures.family.value c.in-Some.line c.pop.new.self.items
     (taken_of c.captures.machine.now c.captures.site.now.size (2 * c.captures.site.now.limits.steps + 1) c.captures.family.value c.in-Some.line c.captures.lines.items c.pop.new.self.items c.in-Some.ensures.items c.requires.6)
-    (some_left c.captures.lines.items c.pop.new.self.items c.in-Some.line c.in-Some.ensures.items (omega (arith, c.requires.5, c.captures.lines.ok.0)))
 
 pub beside-scope-returns : goal.beside-scope-returns
 beside-scope-returns g t c =
@@ -29,10 +28,16 @@ fn::beside::scope+FnOnce::call_once-scope-requires g t c = search rules
 
 pub run_first-returns : goal.run_first-returns
 run_first-returns g t c =
-    ended_alone c.args.machine.now c.at-number.result (2 * c.args.site.now.limits.steps + 1) c.args.site.now.size c.args.site.now.limits.steps (vec_len c.args.lines) c.pp.result.now c.args.family.value c.in-Some.line
-    c.args.lines.items c.pop.new.self.items c.new-crew.result.items c.push.new.self.items c.work.result
-    c.requires c.in-Some.ensures.items c.args.lines.ok.0 (omega (arith, c.len.ensures, c.if-len-gt1.false)) (c.at-number.ensures.number ∙ ap processor_number (c.len-2.ensures ∙ c.pop.new.self.ok.0)) c.pp.ensures c.work.ensures.ended
-    c.new-crew.ensures.items c.in_ok-push.ensures.items
+    ended_beside c.args.machine.now c.at-number.result (2 * c.args.site.now.limits.steps + 1) c.args.site.now.size c.args.site.now.limits.steps (vec_len c.pop.new.self) (vec_len c.args.lines)
+    c.args.family.value c.in-Some.line c.pop.new.self.items c.in_ok-crew.crew.items c.push.new.self.items c.work.result
+    (taken_of c.args.machine.now c.args.site.now.size (2 * c.args.site.now.limits.steps + 1) c.args.family.value c.in-Some.line c.args.lines.items c.pop.new.self.items c.in-Some.ensures.items c.requires)
+    (c.at-number.ensures.number ∙ ap processor_number (omega (arith, c.len.ensures, c.in-Some.ensures.len))) c.pop.new.self.ok.0
+    (omega (arith, c.in-Some.ensures.len)) (rw c.pp-2.ensures at c.work.ensures.ended) c.in_ok-crew.ensures c.in_ok-push.ensures.items
+
+pub run_first-run_first-requires-after_bounds : goal.run_first-run_first-requires-after_bounds
+run_first-run_first-requires-after_bounds g t c = λ κs within.
+    ready_before c.args.machine.now c.args.site.now.size (2 * c.args.site.now.limits.steps + 1) c.args.family.value c.in-Some.line c.pop.new.self.items
+    (taken_of c.args.machine.now c.args.site.now.size (2 * c.args.site.now.limits.steps + 1) c.args.family.value c.in-Some.line c.args.lines.items c.pop.new.self.items c.in-Some.ensures.items c.requires)
 
 pub beside-returns : goal.beside-returns
 beside-returns g t c = c.scoped.ensures.1
@@ -47,14 +52,8 @@ beside-scope-spawn_with-requires-clause-keeps g t c = λ κs within r ended.
     promised c.of.result.value (processor_of c.at-number.result c.captures.machine.now) c.captures.site.now.size c.steps.result c.captures.site.now.limits.steps c.of-2.result.value c.in-Some.line r
     (sym (c.of.ensures ∙ c.pp-load.ensures)) (sym c.steps.ensures.value) (sym c.of-2.ensures) (rw c.pp-load.ensures at ended)
 
-pub run_first-beside-requires-clause-several : goal.run_first-beside-requires-clause-several
-run_first-beside-requires-clause-several g t c = omega (arith, c.len.ensures, c.if-len-gt1.true)
-
 pub run_first-beside-requires-clause-ready : goal.run_first-beside-requires-clause-ready
 run_first-beside-requires-clause-ready g t c = λ κs within. c.requires
-
-pub run_first-returns-then-len-gt1 : goal.run_first-returns-then-len-gt1
-run_first-returns-then-len-gt1 g t c = c.beside.ensures
 
 pub run_first-work-requires : goal.run_first-work-requires
 run_first-work-requires g t c =

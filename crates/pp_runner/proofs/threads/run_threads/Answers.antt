@@ -16,7 +16,7 @@ use Rattle.pp_line.proofs.OrderLemmas.{order_later}
 use Rattle.pp_line.specs.Order.{IsTotalOrderOf, ExtendsEach, IsDrawnFrom, FindsWords, AreMade, entries_among, writes_among}
 use Rattle.pp_machine.specs.Headline.{opening_history}
 use Rattle.pp_numbers.specs.Profile.{processors_in}
-use Rattle.pp_numbers.proofs.ProfileLemmas.{some_processors, most_processors}
+use Rattle.pp_numbers.proofs.ProfileLemmas.{most_processors}
 use Rattle.pp_runner.proofs.ReportLemmas.{ended_tables, ended_shares, ended_begun, ended_left}
 use Rattle.pp_runner.proofs.LateAccesses.{is_late, late_entries, late_finds, made_late}
 use Rattle.pp_runner.specs.Accesses.{HaveAccessed}
@@ -104,7 +104,6 @@ pub run_first-requires-after_bounds : goal.run_first-requires-after_bounds
 run_first-requires-after_bounds g c κs within = record {
   each = c.is_sound.ensures.processors;
   count = let most = most_processors c.args.machine.now.profile in omega (arith, most, c.in_ok-first.ensures.each_processor, c.in_ok-first.lines.ok.0);
-  some = let some = some_processors c.args.machine.now.profile in omega (arith, some, c.in_ok-first.ensures.each_processor, c.in_ok-first.lines.ok.0);
   central = ap (λ (l : LineState). length l.view.central) c.of-family.ensures ∙ (ap length c.in_ok-first.ensures.first.central ∙ sym (c.size.ensures.value ∙ ap length c.central.ensures));
   fresh = subst (λ (family : LineState). All (IsSplitFrom family (2 * c.args.limits.steps + 1)) c.in_ok-first.lines.items) (sym c.of-family.ensures)
       (subst (λ (steps : ℕ). All (IsSplitFrom c.in_ok-first.first (2 * steps + 1)) c.in_ok-first.lines.items) c.steps.ensures.value c.in_ok-first.ensures.fresh);
