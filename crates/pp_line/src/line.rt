@@ -184,6 +184,7 @@ impl<A: Allocator + Copy> Line<A> {
     /// number of a look; `kept` becomes false. `Worn` is returned only for an operation that does
     /// more than look, if the load found 2^50 - 1 events; then only `seen` of the channel has
     /// changed.
+    #[inline(always)]
     pub fn act(&mut self, channel: ChannelNo, op: ChanOp) -> Result<Numbered, Worn>
         requires { 1 ≤ self.old.log.room }
         ensures ok { IfOk result (λ r. IsActed self.old channel op r self.new) }
@@ -268,6 +269,7 @@ impl<A: Allocator + Copy> Line<A> {
 
     /// Tries once to make the event, if the channel still has the word that was loaded. If it has
     /// another by now, the line finds that word, and logs a look by it.
+    #[inline(always)]
     fn try_event(
         &mut self,
         channel: ChannelNo,
