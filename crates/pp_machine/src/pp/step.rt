@@ -73,6 +73,7 @@ impl Pp {
     /// What the next step needs from outside: nothing if it is at rest.
     #[tactic(auto, unfolding(crate::specs::NeedAndEffect::need), // at rest it asks for nothing
     using(crate::proofs::StepLemmas::nothing_at_rest))]
+    #[inline(always)]
     pub fn wants(&self) -> Need
         ensures need { result ≡ need self.now }
         ensures nothing_unless_running { (result ≡ Need.Nothing) ↔ IsAtRest self.now }
@@ -88,6 +89,7 @@ impl Pp {
 
     /// Gives the answer to the need that `wants` returns.
     #[tactic(auto, using(crate::proofs::StepLemmas::answers_given))]
+    #[inline(always)]
     pub fn give(&mut self, answer: Answer) -> Outcome
         requires fits { IsTrue (fits (need self.old) answer) }
         ensures after { self.new ≡ processor_after self.old answer }
@@ -106,6 +108,7 @@ impl Pp {
     #[tactic(auto, unfolding(crate::specs::NeedAndEffect::need, // what it asks
     crate::specs::NeedAndEffect::processor_after, // what the answer does
     crate::specs::NeedAndEffect::outcome))]
+    #[inline(always)]
     fn advance(&mut self, answer: Answer) -> Outcome
         requires fits { IsTrue (fits (need self.old) answer) }
         ensures after { self.new ≡ processor_after self.old answer }
