@@ -46,8 +46,8 @@ fn open_family<A: Allocator + Copy>(
 }
 
 /// Runs the processors of a machine at once, each on a copy of its own in a thread of its own, on
-/// new channels and a copy of central memory. The machine stays as it is. No step of it has made a
-/// channel event.
+/// new channels and a copy of central memory; one at rest needs no thread. The machine stays as it
+/// is. No step of it has made a channel event.
 ///
 /// A worker runs until its processor is at rest, until it has made the steps of the limit, or until
 /// it is held at one step as often in a row as its patience allows. `Memory` is returned if an
