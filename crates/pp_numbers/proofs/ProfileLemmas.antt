@@ -8,11 +8,7 @@ use Rattle.pp_numbers.specs.declared.profile.Profile.{Profile}
 use Rattle.pp_numbers.specs.declared.profile.Profile.TheVariants.{Ten, Twenty}
 use Rattle.pp_numbers.specs.ChannelNo.{channel_count, names_channel, channel_places}
 
--- each has a processor, and no more than there are
-pub some_processors : (p : Profile) → 1 ≤ processors_in p
-some_processors Ten = omega arith
-some_processors Twenty = omega arith
-
+-- no profile has more than there are
 pub most_processors : (p : Profile) → processors_in p ≤ processor_count
 most_processors Ten = omega arith
 most_processors Twenty = omega arith

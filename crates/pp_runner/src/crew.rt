@@ -45,7 +45,7 @@ pub fn run_first<R: Threads + Wait + Sync, G: Gate + Sync, A: Allocator + Copy +
     gate: &G,
     machine: &Machine<A>,
     family: Snapshot<Line<A>>,
-    mut lines: Vec<Line<A>, A>,
+    lines: Vec<Line<A>, A>,
 ) -> Result<Crew<A>, RunFault>
     requires { AreReady machine.now site.now.size (2 * site.now.limits.steps + 1) family.value
         lines.items }
@@ -56,13 +56,39 @@ pub fn run_first<R: Threads + Wait + Sync, G: Gate + Sync, A: Allocator + Copy +
     if lines.is_empty() {
         return Ok(Vec::new(site.alloc));
     }
-    let number = PpNo::at(lines.len() - 1);
-    if lines.len() > 1 && matches!(machine.pp(number).state(), PpState::Running) {
-        return beside(rt, site, gate, machine, family, lines);
+    let last = machine.pp(PpNo::at(lines.len() - 1));
+    if lines.len() > 1 && matches!(last.state(), PpState::Running) {
+        beside(rt, site, gate, machine, family, lines)
+    } else {
+        run_last(rt, site, gate, machine, family, lines)
     }
+}
+
+// The calls are nested, so each takes stack once for every worker: these two are not compiled in
+// place, where each would take the other's too.
+
+/// Runs the worker on the last line in this thread, after those before it.
+#[cycle(crew)]
+#[inline(never)]
+fn run_last<R: Threads + Wait + Sync, G: Gate + Sync, A: Allocator + Copy + Send + Sync>(
+    rt: &R,
+    site: &Site<A>,
+    gate: &G,
+    machine: &Machine<A>,
+    family: Snapshot<Line<A>>,
+    mut lines: Vec<Line<A>, A>,
+) -> Result<Crew<A>, RunFault>
+    requires some { 0 < vec_len lines }
+    requires ready { AreReady machine.now site.now.size (2 * site.now.limits.steps + 1)
+        family.value lines.items }
+    ensures { IfOk result (λ crew. AreEnded (take
+        (vec_len lines) machine.now.processors) site.now.size site.now.limits.steps
+        (2 * site.now.limits.steps + 1) family.value crew.items) }
+{
     let Some(line) = lines.pop() else {
         unreachable!()
     };
+    let number = PpNo::at(lines.len());
     let mut crew = run_first(rt, site, gate, machine, family, lines)?;
     crew.push(work(site, gate, number, machine.pp(number), line))?;
     Ok(crew)
@@ -70,6 +96,7 @@ pub fn run_first<R: Threads + Wait + Sync, G: Gate + Sync, A: Allocator + Copy +
 
 /// Runs the worker on the last line in a thread of its own, beside those before it.
 #[cycle(crew)]
+#[inline(never)]
 fn beside<R: Threads + Wait + Sync, G: Gate + Sync, A: Allocator + Copy + Send + Sync>(
     rt: &R,
     site: &Site<A>,

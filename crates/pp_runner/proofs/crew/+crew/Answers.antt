@@ -26,18 +26,18 @@ beside-scope-returns g t c =
 pub fn::beside::scope+FnOnce::call_once-scope-requires : goal.fn::beside::scope+FnOnce::call_once-scope-requires
 fn::beside::scope+FnOnce::call_once-scope-requires g t c = search rules
 
-pub run_first-returns : goal.run_first-returns
-run_first-returns g t c =
+pub run_last-returns : goal.run_last-returns
+run_last-returns g t c =
     ended_beside c.args.machine.now c.at-number.result (2 * c.args.site.now.limits.steps + 1) c.args.site.now.size c.args.site.now.limits.steps (vec_len c.pop.new.self) (vec_len c.args.lines)
     c.args.family.value c.in-Some.line c.pop.new.self.items c.in_ok-crew.crew.items c.push.new.self.items c.work.result
-    (taken_of c.args.machine.now c.args.site.now.size (2 * c.args.site.now.limits.steps + 1) c.args.family.value c.in-Some.line c.args.lines.items c.pop.new.self.items c.in-Some.ensures.items c.requires)
-    (c.at-number.ensures.number ∙ ap processor_number (omega (arith, c.len.ensures, c.in-Some.ensures.len))) c.pop.new.self.ok.0
-    (omega (arith, c.in-Some.ensures.len)) (rw c.pp-2.ensures at c.work.ensures.ended) c.in_ok-crew.ensures c.in_ok-push.ensures.items
+    (taken_of c.args.machine.now c.args.site.now.size (2 * c.args.site.now.limits.steps + 1) c.args.family.value c.in-Some.line c.args.lines.items c.pop.new.self.items c.in-Some.ensures.items c.requires.ready)
+    (c.at-number.ensures.number ∙ ap processor_number c.len.ensures) c.pop.new.self.ok.0
+    (omega (arith, c.in-Some.ensures.len)) (rw c.pp.ensures at c.work.ensures.ended) c.in_ok-crew.ensures c.in_ok-push.ensures.items
 
-pub run_first-run_first-requires-after_bounds : goal.run_first-run_first-requires-after_bounds
-run_first-run_first-requires-after_bounds g t c = λ κs within.
+pub run_last-run_first-requires-after_bounds : goal.run_last-run_first-requires-after_bounds
+run_last-run_first-requires-after_bounds g t c = λ κs within.
     ready_before c.args.machine.now c.args.site.now.size (2 * c.args.site.now.limits.steps + 1) c.args.family.value c.in-Some.line c.pop.new.self.items
-    (taken_of c.args.machine.now c.args.site.now.size (2 * c.args.site.now.limits.steps + 1) c.args.family.value c.in-Some.line c.args.lines.items c.pop.new.self.items c.in-Some.ensures.items c.requires)
+    (taken_of c.args.machine.now c.args.site.now.size (2 * c.args.site.now.limits.steps + 1) c.args.family.value c.in-Some.line c.args.lines.items c.pop.new.self.items c.in-Some.ensures.items c.requires.ready)
 
 pub beside-returns : goal.beside-returns
 beside-returns g t c = c.scoped.ensures.1
@@ -55,7 +55,7 @@ beside-scope-spawn_with-requires-clause-keeps g t c = λ κs within r ended.
 pub run_first-beside-requires-clause-ready : goal.run_first-beside-requires-clause-ready
 run_first-beside-requires-clause-ready g t c = λ κs within. c.requires
 
-pub run_first-work-requires : goal.run_first-work-requires
-run_first-work-requires g t c =
+pub run_last-work-requires : goal.run_last-work-requires
+run_last-work-requires g t c =
     taken_unused c.args.machine.now c.args.site.now.size c.args.site.now.limits.steps c.args.family.value c.in-Some.line c.pop.new.self.items
-    (taken_of c.args.machine.now c.args.site.now.size (2 * c.args.site.now.limits.steps + 1) c.args.family.value c.in-Some.line c.args.lines.items c.pop.new.self.items c.in-Some.ensures.items c.requires)
+    (taken_of c.args.machine.now c.args.site.now.size (2 * c.args.site.now.limits.steps + 1) c.args.family.value c.in-Some.line c.args.lines.items c.pop.new.self.items c.in-Some.ensures.items c.requires.ready)

@@ -9,3 +9,6 @@ decreases-beside-scope g l = 3 * vec_len l.lines + 1
 
 abbrev pub decreases-run_first : goal.decreases-run_first
 decreases-run_first g l = 3 * vec_len l.lines + 3
+
+abbrev pub decreases-run_last : goal.decreases-run_last
+decreases-run_last g l = 3 * vec_len l.lines + 2
