@@ -6,8 +6,8 @@ ghost use Rattle.pp_text.specs.Written.{IsWritten};
 ghost use Rattle.pp_state.specs.CentralText.{central_line, central_text, shown_word};
 
 use crate::display_code::print_displayed;
-use pp_numbers::Bounds;
 use pp_machine::Central;
+use pp_numbers::Bounds;
 use pp_text::{TextWriter, WriteFault, print_octal};
 use std::alloc::Allocator;
 use std::io::Write;

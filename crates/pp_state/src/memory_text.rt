@@ -8,8 +8,8 @@ ghost use Rattle.pp_text.specs.Written.{IsWritten};
 ghost use Rattle.pp_state.specs.MemoryText.{displayed_words, has_words, memory_line, memory_text, octal_words, shown_line, trimmed};
 
 use crate::display_code::displayed2;
-use pp_numbers::Bounds;
 use pp_machine::Pp;
+use pp_numbers::Bounds;
 use pp_text::{TextWriter, WriteFault, print_octal};
 use pp_word::Word12;
 use std::io::Write;
