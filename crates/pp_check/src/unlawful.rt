@@ -25,7 +25,7 @@ impl Display for Unlawful {
 
 /// `PUT 0007`.
 fn write_event<W: Write>(f: &mut Formatter<W>, event: &Event) -> fmt::Result {
-    f.write_str(name_of(event))?;
+    f.write_str(mnemonic(event))?;
     match event {
         Event::Put(word) | Event::Take(word) | Event::Function(word) => {
             write!(f, " {:04o}", word.get())
@@ -34,7 +34,8 @@ fn write_event<W: Write>(f: &mut Formatter<W>, event: &Event) -> fmt::Result {
     }
 }
 
-fn name_of(event: &Event) -> &'static str {
+/// Its three letters in a trace.
+fn mnemonic(event: &Event) -> &'static str {
     match event {
         Event::Activate => "ACN",
         Event::Disconnect => "DCN",

@@ -58,7 +58,7 @@ takes contents start old new whole lane after next rest h so_far =
       rest = append_assoc so_far.printed more (still_drawn after rest) ∙ ap (λ (t : List ℕ). so_far.printed ++ t) (sym (same rest)) ∙ so_far.rest;
     }
 
--- behind the front of a lane no phase has come
+-- after its head no phase of a lane has come yet
 pub comes_first : {W : Type 0} (contents : W → Option (List ℕ)) (start now : TextWriter W) (w : Window) (name said front : List ℕ) (lane : Lane) (phases left : List Phase)
     → lane ≡ record { window = w; name = said; current = None; free = 0 } → said ≡ name → left ≡ phases → Prints contents start now front
     → LeadsTo contents start now (front ++ drawn_from w name 0 (phases_from None phases)) lane left

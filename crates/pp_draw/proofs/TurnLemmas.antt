@@ -9,7 +9,8 @@ use Rattle.pp_machine.specs.MachineStep.{counted, stepped}
 use Rattle.pp_numbers.specs.PpNo.{processor_count}
 use Rattle.pp_machine.specs.Run.{barrel}
 use Rattle.pp_run.specs.RunSteps.{RunStep, run_steps}
-use Rattle.pp_draw.specs.Condition.{changes, goes_on, is_shown, phases_from, processor_phases, seen, seen_in_window}
+use Rattle.pp_draw.specs.Condition.{changes, goes_on, phases_from, processor_phases}
+use Rattle.pp_draw.specs.SeenStep.{is_shown, seen, seen_in_window}
 use Rattle.pp_draw.specs.DrawingLaw.{last_step, look_at, look_in}
 use Rattle.pp_draw.specs.declared.{condition.Look.Look, condition.Phase.Phase, seen_step.SeenStep.SeenStep}
 use Rattle.pp_draw.specs.declared.condition.Look.TheVariants.{Processor}

@@ -1,53 +1,15 @@
--- How steps find processors; how channels and processors stand, in phases; and how that is shown.
-use Rattle.std.specs.Prelude.{ℕ, ◌-◌, Bool, true, false, ◌==◌, nat_le, List, [], ◌∷◌, ◌++◌, map, Option, None, Some, codes, if◌then◌else◌}
-use Rattle.std.specs.List.{filter, filter_map}
+-- How channels and processors stand, in phases, and how that is shown.
+use Rattle.std.specs.Prelude.{ℕ, Bool, true, false, ◌==◌, List, [], ◌∷◌, ◌++◌, Option, None, Some, codes, if◌then◌else◌}
+use Rattle.std.specs.List.{filter_map}
 use Rattle.pp_word.specs.Numeral.{octal}
 use Rattle.pp_channel.specs.declared.event.Event.TheVariants.{Activate, Disconnect, Put, Take, Function}
-use Rattle.pp_machine.specs.MachineState.{MachineState, is_opened, processor_of}
-use Rattle.pp_machine.specs.MachineStep.{step_outcome}
-use Rattle.pp_machine.specs.NeedAndEffect.{need}
-use Rattle.pp_numbers.specs.PpNo.{processor_count}
-use Rattle.pp_machine.specs.Run.{barrel}
-use Rattle.pp_machine.specs.declared.{block.Block.Block, need.Need.Need, outcome.Outcome.Outcome, pp_state.PpState.PpState, trace.Trace.Trace}
-use Rattle.pp_run.specs.RunSteps.{RunStep, run_steps}
-use Rattle.pp_numbers.specs.declared.window.Window.{Window}
+use Rattle.pp_machine.specs.MachineState.{MachineState, is_opened}
+use Rattle.pp_machine.specs.declared.trace.Trace.{Trace}
 use Rattle.pp_draw.specs.declared.condition.Condition.TheVariants.{Running, InBlock, HeldBy, Stopped, Faulted}
 use Rattle.pp_draw.specs.declared.condition.Look.TheVariants.{Channel, Processor}
-use Rattle.pp_draw.specs.declared.{condition.Condition.Condition, condition.Look.Look, condition.Phase.Phase, seen_step.Found.Found, seen_step.SeenStep.SeenStep}
+use Rattle.pp_draw.specs.declared.{condition.Look.Look, condition.Phase.Phase, seen_step.SeenStep.SeenStep}
 
--- by its state: a processor that runs is held by the channel that it needs, or else in a block or
--- not
-abbrev pub condition_by : PpState → Outcome → Need → Option Block → Condition
-condition_by PpState.Stopped outcome need block = Stopped
-condition_by (PpState.Fault number) outcome need block = Faulted
-condition_by PpState.Running Outcome.Held (Need.Channel c operation) block = HeldBy c
-condition_by PpState.Running outcome need (Some block) = InBlock
-condition_by PpState.Running outcome need None = Running
-
--- what is noted before a step of a run
-abbrev pub found_in : RunStep → Found
-found_in step =
-    let pp = processor_of step.processor step.before in
-    record { turn = step.before.turns; state = pp.state; need = need pp; block = pp.block }
-
--- how a step of a run finds its processor
-abbrev pub seen : RunStep → SeenStep
-seen step =
-    let pp = processor_of step.processor step.before in
-    let outcome = step_outcome step.processor step.before in
-    let condition = condition_by pp.state outcome (need pp) pp.block in
-    record { turn = step.before.turns; pp = step.processor; condition = condition }
-
--- whether a step is shown: of a turn in the window, which the run does not go past, or in the round
--- before it, whose steps say how the processors stand where the window begins
-abbrev pub is_shown : Window → SeenStep → Bool
-is_shown w step = nat_le (w.from - processor_count) step.turn
-
--- the steps that are shown, of a run of a machine to the end of the window
-abbrev pub seen_in_window : Window → MachineState → List SeenStep
-seen_in_window w m = filter (is_shown w) (map seen (run_steps (barrel m.profile w.to) m))
-
--- whether a phase goes on, which that of a channel does not: each event begins another
+-- whether the next look continues a phase. Of a channel none does: each event begins another
 abbrev pub goes_on : Look → Look → Bool
 goes_on (Processor Running) (Processor Running) = true
 goes_on (Processor InBlock) (Processor InBlock) = true

@@ -11,9 +11,10 @@ use Rattle.pp_deck.specs.InUse.{in_use}
 use Rattle.pp_text.specs.PrintedText.{channel_text, each_below, state_text}
 use Rattle.pp_word.specs.Numeral.{octal}
 use Rattle.pp_numbers.specs.declared.window.Window.{Window}
-use Rattle.pp_draw.specs.Condition.{channel_phases, phases_from, processor_phases, seen_in_window}
+use Rattle.pp_draw.specs.Condition.{channel_phases, phases_from, processor_phases}
 use Rattle.pp_draw.specs.Frame.{band_width, foot_text, head_text, legend_text, style_text, text_tag, ticks_text}
 use Rattle.pp_draw.specs.Lane.{drawn_from, lane_head}
+use Rattle.pp_draw.specs.SeenStep.{seen_in_window}
 use Rattle.pp_draw.specs.declared.{condition.Phase.Phase, seen_step.SeenStep.SeenStep}
 
 -- how many of 0, 1, .. and count - 1 pass a test

@@ -5,12 +5,12 @@ use Rattle.pp_numbers.specs.declared.window.Window.{Window}
 use Rattle.pp_text.specs.PrintedText.{each_below}
 use Rattle.pp_word.specs.Numeral.{short_decimal}
 
--- whether few turns are drawn
+-- whether at most 100 turns are drawn; each is then wider
 abbrev pub are_few : Window → Bool
 are_few w = nat_le (w.to - w.from) 100
 
--- the place of a turn; one outside the window has that of the nearest end. Each of many turns is
--- narrower, but a word has room in ten
+-- the place of a turn; one outside the window has that of the nearest end. A turn is 10 units wide,
+-- or 4 where more than 100 are drawn: ten turns then still have room for a label
 abbrev pub place : Window → ℕ → ℕ
 place w turn = (if are_few w then 10 else 4) * (min (max turn w.from) w.to - w.from)
 
@@ -87,8 +87,8 @@ legend_text =
     ++ codes "<text class='e' x='560' y='10'>fault</text>\n"
     ++ codes "</g>\n"
 
--- the scale of a turn, in a picture with this many lanes: each tenth has a line and its number, or
--- each twentieth of many
+-- at a turn of the scale: a line and its number at each tenth turn, or each twentieth where more
+-- than 100 are drawn
 abbrev pub tick_text : Window → ℕ → ℕ → List ℕ
 tick_text w rows turn =
     if turn % (if are_few w then 10 else 20) == 0
@@ -96,7 +96,7 @@ tick_text w rows turn =
     ++ text_element (codes "t") (place w turn + 80) (lane_top rows + 18) (short_decimal turn)
     else []
 
--- and of the window, with the turn at its end
+-- the whole scale, the end of the window included
 abbrev pub ticks_text : Window → ℕ → List ℕ
 ticks_text w rows = each_below (w.to + 1 - w.from) (λ i. tick_text w rows (w.from + i))
 

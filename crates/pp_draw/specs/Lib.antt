@@ -1,4 +1,5 @@
 pub mod Condition
+pub mod SeenStep
 pub mod Frame
 pub mod Lane
 pub mod DrawingText

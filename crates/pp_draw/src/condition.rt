@@ -24,13 +24,13 @@ pub enum Condition {
 
 /// What a lane shows: a channel after an event, or a processor as a step finds it.
 #[derive(Clone, Copy)]
-pub(crate) enum Look {
+pub enum Look {
     Channel(Event),
     Processor(Condition),
 }
 
 impl Look {
-    /// Whether a phase goes on, which that of a channel does not: each event begins another.
+    /// Whether the next look continues a phase. Of a channel none does: each event begins another.
     pub(crate) fn goes_on(&self, next: &Look) -> bool
         ensures { result ≡ goes_on self.now next.now }
     {
@@ -97,7 +97,7 @@ fn in_words(class: &[u8; 1], words: &'static [u8], label: Option<[u8; 4]>) -> Fa
 
 /// How a channel or a processor stands from a turn on (decimal), until its next phase.
 #[derive(Clone, Copy)]
-pub(crate) struct Phase {
-    pub(crate) since: u64,
-    pub(crate) look: Look,
+pub struct Phase {
+    pub since: u64,
+    pub look: Look,
 }

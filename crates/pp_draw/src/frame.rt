@@ -9,8 +9,8 @@ use pp_numbers::Window;
 use pp_text::{TextWriter, print_short_decimal};
 use std::io::Write;
 
-/// Whether few turns are drawn, for which there is more room.
-pub(crate) fn are_few(window: Window) -> bool
+/// Whether at most 100 turns are drawn; each is then wider.
+fn are_few(window: Window) -> bool
     ensures { result ≡ are_few window }
 {
     window.to.saturating_sub(window.from) <= 100
@@ -161,8 +161,8 @@ pub(crate) fn print_ticks<W: Write>(text: &mut TextWriter<W>, window: Window, ro
 fn print_tick<W: Write>(text: &mut TextWriter<W>, window: Window, rows: u8, turn: u64)
     ensures { Prints W.contents text.old text.new (tick_text window rows turn) }
 {
-    let tick_turns = if are_few(window) { 10 } else { 20 };
-    if turn % tick_turns != 0 {
+    let spacing = if are_few(window) { 10 } else { 20 };
+    if turn % spacing != 0 {
         return;
     }
     let x = place(window, turn) + 80;

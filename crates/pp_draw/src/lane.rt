@@ -16,13 +16,13 @@ use std::io::Write;
 /// What is drawn of a phase: a band from a place to another, for the turns from one on and before
 /// another (decimal); and whether a Disconnect lost its word.
 #[derive(Clone, Copy)]
-struct Part {
-    start: u64,
-    end: u64,
-    since: u64,
-    until: u64,
-    look: Look,
-    is_lost: bool,
+pub struct Part {
+    pub start: u64,
+    pub end: u64,
+    pub since: u64,
+    pub until: u64,
+    pub look: Look,
+    pub is_lost: bool,
 }
 
 impl Part {
@@ -177,7 +177,7 @@ fn print_band<W: Write>(text: &mut TextWriter<W>, name: &[u8; 4], part: &Part)
     text.print(b" ");
     let face = part.look.face();
     text.print(face.words);
-    print_label(text, &face.label);
+    print_label_in_title(text, &face.label);
     let lost: &[u8] = if part.is_lost { b" lost" } else { b"" };
     text.print(lost);
     text.print(b" from ");
@@ -187,7 +187,7 @@ fn print_band<W: Write>(text: &mut TextWriter<W>, name: &[u8; 4], part: &Part)
     text.print(b"</title></rect>\n");
 }
 
-fn print_label<W: Write>(text: &mut TextWriter<W>, label: &Option<[u8; 4]>)
+fn print_label_in_title<W: Write>(text: &mut TextWriter<W>, label: &Option<[u8; 4]>)
     ensures { Prints W.contents text.old text.new (unwrap_or label.now []) }
 {
     if let Some(label) = label {

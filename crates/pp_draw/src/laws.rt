@@ -14,7 +14,8 @@ ghost use Rattle.pp_numbers.specs.PpNo.{names_processor, processor_count, proces
 ghost use Rattle.pp_machine.specs.Run.{barrel};
 ghost use Rattle.pp_run.specs.RunSteps.{run_steps};
 ghost use Rattle.pp_numbers.specs.declared.window.Window.{Window};
-ghost use Rattle.pp_draw.specs.Condition.{channel_phases, goes_on, is_sent, is_shown, phases_from, processor_phases, seen, seen_in_window};
+ghost use Rattle.pp_draw.specs.Condition.{channel_phases, goes_on, is_sent, phases_from, processor_phases};
+ghost use Rattle.pp_draw.specs.SeenStep.{is_shown, seen, seen_in_window};
 ghost use Rattle.pp_draw.specs.DrawingLaw.{EndsAt, IsTurnOf, StandsWithin, goes_on_from, last_step, look_at, look_in};
 ghost use Rattle.pp_draw.specs.DrawingText.{channel_lane, drawing, is_flagged, is_used, lanes_above, processor_lane, used_among};
 ghost use Rattle.pp_draw.specs.Frame.{band_width};
@@ -22,13 +23,14 @@ ghost use Rattle.pp_draw.specs.Lane.{band_element, drawn_from, is_lost, is_visib
 ghost use Rattle.pp_draw.specs.declared.{condition.Condition.Condition, condition.Look.Look, condition.Phase.Phase, seen_step.SeenStep.SeenStep};
 ghost use Rattle.pp_draw.specs.declared.condition.Look.TheVariants.{Channel, Processor};
 
-/// What is drawn of processors is seen in the very steps of the run that the text of steps tells.
-/// A channel has a phase for each event of its history, in order and from the turn of the event on,
+/// What is drawn of processors is seen in the very steps of the run that the text of steps tells. A
+/// channel has a phase for each event of its history, in order and from the turn of the event on,
 /// and each is drawn. A phase of a processor is drawn just where it does not go on under the
 /// condition of the one before: only phases under one condition are one, and all that are in a row.
 /// In each turn the lane shows how the last step of the run found the processor. A phase that has a
-/// turn in the window has its band, which goes to where the next begins, or else to the end. A word
-/// is drawn as lost where a Disconnect comes next after its Put.
+/// turn in the window has its band, which goes to where the next begins, or else to the end, but
+/// for a function code's, which is its turn alone. A word is drawn as lost where a Disconnect comes
+/// next after its Put.
 pub fn drawing_law()
     ensures history { (c : ℕ) (m : MachineState) → IsTrue (names_channel c)
         → HoldsOnEachChannel m
@@ -57,6 +59,7 @@ pub fn drawing_law()
         w.from ≤ step.before.turns + processor_count
         → look_at turn (phases_from None (processor_phases n (seen_in_window w m)))
         ≡ Some (Processor (seen step).condition)) }
+    // No gap is between a part and the next, and they do not overlap.
     ensures adjoin { (w : Window) (phase next : Phase) (after : Option Phase)
         → IsFalse (is_sent phase.look)
         → EndsAt (part_of w phase (Some next)) (part_of w next after).since

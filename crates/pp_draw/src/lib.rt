@@ -9,9 +9,9 @@
 //! its function code or its channel above it where there is room, and with a title that tells it
 //! (specs/Lane). After the last turn stands how the lane ends.
 //!
-//! The text is well-formed XML (`well_formed_law` of `pp_laws`), and a run decides nothing of it
-//! but digits, classes and which elements there are. It has no script and no reference, and its
-//! colours are light or dark as the reader's are.
+//! The text is well-formed XML (`well_formed_law` of `pp_laws`). What a run decides gets into it as
+//! digits and as words of a fixed list. It has no script and no reference, and its colours are
+//! light or dark as the reader's are.
 #![tactic(auto)]
 
 mod condition;
@@ -21,8 +21,9 @@ mod lane;
 mod laws;
 mod seen_step;
 
-pub use condition::Condition;
+pub use condition::{Condition, Look, Phase};
 pub use drawing::write_drawing;
+pub use lane::Part;
 pub use laws::drawing_law;
 pub use pp_numbers::{MOST_TURNS, Window};
 pub use seen_step::{SeenStep, run_seeing_steps};

@@ -4,7 +4,7 @@ ghost use Rattle.std.specs.Prelude.{◌≡◌, map, IfErr, IfOk, IsTrue};
 ghost use Rattle.std.specs.List.{filter};
 ghost use Rattle.pp_machine.specs.Run.{IsRunOf};
 ghost use Rattle.pp_run.specs.RunSteps.{IsCutAt};
-ghost use Rattle.pp_draw.specs.Condition.{condition_by, found_in, is_shown, seen, seen_in_window};
+ghost use Rattle.pp_draw.specs.SeenStep.{condition_by, found_in, is_shown, seen, seen_in_window};
 
 use crate::condition::Condition;
 use pp_channel::Memory;

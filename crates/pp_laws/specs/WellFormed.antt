@@ -10,7 +10,7 @@ use Rattle.std.specs.Str.{bytes_eq}
 -- what a character is to XML: `<`, `>`, `'`, `/`, `=`, a space, a line feed, a letter, another that
 -- may stand in a text, or one that may not: `&`, and each that is not printed
 pub data Sign : Type 0 where
-  less greater quote slash equals space line_feed letter other barred : Sign
+  less greater quote slash equals space line_feed letter other forbidden : Sign
 
 abbrev pub sign_of : ℕ → Sign
 sign_of character =
@@ -21,13 +21,14 @@ sign_of character =
     else if nat_le 65 character && nat_le character 90 then letter
     else if nat_le 97 character && nat_le character 122 then letter
     else if nat_le 32 character && nat_le character 126 && not (character == 38) then other
-    else barred
+    else forbidden
 
--- where a reader stands: before the first tag, or nowhere; or within elements, whose names it has,
--- the innermost first, and which are none after the last tag: between tags, after a `<`, after the
+-- where a reader stands: before the first tag, or nowhere; between tags, after a `<`, after the
 -- slash of a tag without content, in the name of an opening or of a closing tag; or in an opening
--- tag, of which it has the names of the attributes: after a space, after the `=` of an attribute,
--- in its value, after it, or in its name. A name is what is read of it, the last character first
+-- tag: after a space, after the `=` of an attribute, in its value, after it, or in its name.
+-- `within` has the names of the open elements, the innermost first; it is empty after the last tag,
+-- and past its name an opening tag's is among them. `name` and `attributes` are what is read of a
+-- tag so far; a name's last character comes first
 pub data Reader : Type 0 where
   before nowhere : Reader
   between opened slashed : (within : List (List ℕ)) → Reader
@@ -37,7 +38,7 @@ pub data Reader : Type 0 where
 
 -- where a character of each sign leads, which is nowhere if no line says it
 abbrev pub read_at : Reader → Sign → ℕ → Reader
-read_at reader barred character = nowhere
+read_at reader forbidden character = nowhere
 read_at before less character = opened []
 read_at (between []) line_feed character = between []
 read_at (between []) sign character = nowhere

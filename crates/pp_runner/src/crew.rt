@@ -1,4 +1,4 @@
-//! Runs the workers concurrently, one thread each.
+//! Runs the workers at once; those at rest need no thread of their own.
 
 ghost use Rattle.std.specs.Prelude.{◌+◌, ◌*◌, ◌<◌, take, vec_len, IfOk};
 ghost use denote.Param.Send.{IsSync, IsSend, Frees};
@@ -64,8 +64,8 @@ pub fn run_first<R: Threads + Wait + Sync, G: Gate + Sync, A: Allocator + Copy +
     }
 }
 
-// The calls are nested, so each takes stack once for every worker: these two are not compiled in
-// place, where each would take the other's too.
+// The calls nest once for each worker. If these two were compiled in place, each level would hold
+// the stack of both.
 
 /// Runs the worker on the last line in this thread, after those before it.
 #[cycle(crew)]

@@ -1,0 +1,45 @@
+-- How the steps of a run find their processors.
+use Rattle.std.specs.Prelude.{ℕ, ◌-◌, Bool, nat_le, List, map, Option, None, Some}
+use Rattle.std.specs.List.{filter}
+use Rattle.pp_numbers.specs.PpNo.{processor_count}
+use Rattle.pp_numbers.specs.declared.window.Window.{Window}
+use Rattle.pp_machine.specs.MachineState.{MachineState, processor_of}
+use Rattle.pp_machine.specs.MachineStep.{step_outcome}
+use Rattle.pp_machine.specs.NeedAndEffect.{need}
+use Rattle.pp_machine.specs.Run.{barrel}
+use Rattle.pp_machine.specs.declared.{block.Block.Block, need.Need.Need, outcome.Outcome.Outcome, pp_state.PpState.PpState}
+use Rattle.pp_run.specs.RunSteps.{RunStep, run_steps}
+use Rattle.pp_draw.specs.declared.condition.Condition.TheVariants.{Running, InBlock, HeldBy, Stopped, Faulted}
+use Rattle.pp_draw.specs.declared.{condition.Condition.Condition, seen_step.Found.Found, seen_step.SeenStep.SeenStep}
+
+-- by its state: a processor that runs is held by the channel that it needs, or else in a block or
+-- not
+abbrev pub condition_by : PpState → Outcome → Need → Option Block → Condition
+condition_by PpState.Stopped outcome need block = Stopped
+condition_by (PpState.Fault number) outcome need block = Faulted
+condition_by PpState.Running Outcome.Held (Need.Channel c operation) block = HeldBy c
+condition_by PpState.Running outcome need (Some block) = InBlock
+condition_by PpState.Running outcome need None = Running
+
+-- what is noted before a step of a run
+abbrev pub found_in : RunStep → Found
+found_in step =
+    let pp = processor_of step.processor step.before in
+    record { turn = step.before.turns; state = pp.state; need = need pp; block = pp.block }
+
+-- how a step of a run finds its processor
+abbrev pub seen : RunStep → SeenStep
+seen step =
+    let pp = processor_of step.processor step.before in
+    let outcome = step_outcome step.processor step.before in
+    let condition = condition_by pp.state outcome (need pp) pp.block in
+    record { turn = step.before.turns; pp = step.processor; condition = condition }
+
+-- whether a step is shown: of a turn in the window, which the run does not go past, or in the round
+-- before it, whose steps say how the processors stand where the window begins
+abbrev pub is_shown : Window → SeenStep → Bool
+is_shown w step = nat_le (w.from - processor_count) step.turn
+
+-- the steps that are shown, of a run of a machine to the end of the window
+abbrev pub seen_in_window : Window → MachineState → List SeenStep
+seen_in_window w m = filter (is_shown w) (map seen (run_steps (barrel m.profile w.to) m))
