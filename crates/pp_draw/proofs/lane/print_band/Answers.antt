@@ -15,5 +15,5 @@ returns g c =
       | else-part w ↦ ap now w.lost-is ∙ ap words (sym w.if-part.false)
     ] in
     (rw (c.class.ensures, c.saturating_sub-width.ensures) at c.print_rectangle_tag.ensures) ▹ c.print.ensures ▹ c.print-2.ensures ▹ c.print-3.ensures
-    ▹ (rw c.face-face.ensures.words at c.print-4.ensures) ▹ (rw c.face-face.ensures.label at c.print_label.ensures) ▹ (rw lost at c.print-5.ensures)
+    ▹ (rw c.face-face.ensures.words at c.print-4.ensures) ▹ (rw c.face-face.ensures.label at c.print_label_in_title.ensures) ▹ (rw lost at c.print-5.ensures)
     ▹ c.print-6.ensures ▹ c.print_short_decimal.ensures ▹ c.print-7.ensures ▹ c.print_short_decimal-2.ensures ▹ c.print-8.ensures
