@@ -75,17 +75,24 @@ one_turn : (default : ℕ) (text : Option Text) (n m : ℕ) → ReadsTurn defaul
 one_turn default None n m one also = one ∙ sym also
 one_turn default (Some text) n m one also = one_number (Some text) n m one.0 also.0
 
-one_end : (text : Option Text) (turns others n m : ℕ) → turns ≡ others → ReadsEnd turns text n → ReadsEnd others text m → n ≡ m
-one_end None turns others n m same one also = one ∙ same ∙ sym also
-one_end (Some text) turns others n m same one also = one_number (Some text) n m one.0 also.0
+end_turn : (text : Option Text) (turns others to : ℕ) → turns ≡ others → turns ≤ 999999 → ReadsEnd others text to → ReadsTurn turns text to
+end_turn None turns others to same most k = k ∙ sym same
+end_turn (Some text) turns others to same most k = (k.0, omega (arith, k.1, same, most))
 
 one_length : (value_of : Text → Option Text) (v w : Window) → ReadsWindow value_of v → ReadsWindow value_of w → v.to - v.from ≡ w.to - w.from
 unfolding ReadsWindow
 one_length value_of v w one also =
     let turns = one_number (value_of (codes "turns")) one.0 also.0 one.1.0 also.1.0 in
-    let to = one_end (value_of (codes "to")) one.0 also.0 v.to w.to turns one.2 also.2 in
+    let text = value_of (codes "to") in
+    let to = one_turn one.0 text v.to w.to (end_turn text one.0 one.0 v.to refl one.1.1 one.2) (end_turn text one.0 also.0 w.to turns one.1.1 also.2) in
     let from = one_turn 0 (value_of (codes "from")) v.from w.from one.3 also.3 in
     ap₂ (λ (t f : ℕ). t - f) to from
+
+-- where the text of an end is no turn, the options say no window
+pub no_end : (value_of : Text → Option Text) (turns : ℕ) → ReadsTurns value_of turns → ((to : ℕ) → ReadsTurn turns (value_of (codes "to")) to → ⊥) → (w : Window) → ReadsWindow value_of w → ⊥
+unfolding ReadsWindow
+no_end value_of turns reads none w k =
+    none w.to (end_turn (value_of (codes "to")) turns k.0 w.to (one_number (value_of (codes "turns")) turns k.0 reads.0 k.1.0) reads.1 k.2)
 
 -- where the options say a window and more turns than a picture has, the window does not fit one
 pub no_fit : (fits : Bool) (name : Text) (value_of : Text → Option Text) (w : Window) → ReadsWindow value_of w → (IsTrue fits → w.to - w.from ≤ 2000) → AsksForMore name value_of → IsTrue (not fits)

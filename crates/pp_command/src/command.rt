@@ -23,46 +23,50 @@ pub(crate) struct OptionForm {
     pub(crate) value: ValueForm,
 }
 
-/// The value of an option: none, a number in a range, or a text which the help calls `name`.
+/// The value of an option, and the help of the option.
 #[derive(Clone, Copy)]
 pub(crate) enum ValueForm {
-    Flag {
-        help: &'static str,
-    },
+    /// No value.
+    Flag(&'static str),
     Number(NumberRange),
-    Text {
-        name: &'static str,
-        help: &'static str,
-    },
+    /// A text, by what the help calls it.
+    Text(&'static str, &'static str),
 }
 
-/// A command with its help and its options.
+/// A command with its short help and its options.
 #[derive(Clone, Copy)]
 pub(crate) struct CommandForm {
     pub(crate) name: &'static str,
     /// Its line in the list of commands, with which its short help begins.
     pub(crate) about: &'static str,
-    /// What its long help says in place of this line.
-    pub(crate) long_about: &'static str,
-    /// The end of both.
+    /// The end of both helps.
     pub(crate) example: &'static str,
     pub(crate) options: &'static [OptionForm],
+}
+
+/// A command with its help. The long text stands apart, as the prover takes longer over one within
+/// a static value.
+#[derive(Clone, Copy)]
+pub(crate) struct CommandHelp {
+    pub(crate) form: &'static CommandForm,
+    /// What its long help says in place of the line in the list.
+    pub(crate) long_about: &'static str,
 }
 
 impl ValueForm {
     /// What the help calls it.
     fn name(self) -> &'static str {
         match self {
-            ValueForm::Flag { .. } => "",
+            ValueForm::Flag(_) => "",
             ValueForm::Number(_) => "N",
-            ValueForm::Text { name, .. } => name,
+            ValueForm::Text(name, _) => name,
         }
     }
 
     fn help(self) -> &'static str {
         match self {
             ValueForm::Number(range) => range.help,
-            ValueForm::Flag { help } | ValueForm::Text { help, .. } => help,
+            ValueForm::Flag(help) | ValueForm::Text(_, help) => help,
         }
     }
 }
@@ -77,8 +81,8 @@ fn option_of<'a>(alloc: Global, form: &OptionForm) -> Arg<'a>
         .required(form.required)
         .help(form.value.help());
     match form.value {
-        ValueForm::Flag { .. } => option.action(ArgAction::SetTrue),
-        ValueForm::Number(_) | ValueForm::Text { .. } => option
+        ValueForm::Flag(_) => option.action(ArgAction::SetTrue),
+        ValueForm::Number(_) | ValueForm::Text(..) => option
             .action(ArgAction::Set)
             .value_name(form.value.name()),
     }
@@ -95,21 +99,21 @@ fn file_argument<'a>(alloc: Global) -> Arg<'a>
         .help(FILE_HELP)
 }
 
-/// A command with these options as well.
-fn with_options<'a>(
+/// A command with these options as well, and a file.
+fn with_arguments<'a>(
     alloc: Global,
     mut command: Command<'a>,
     options: &[OptionForm],
 ) -> Result<Command<'a>, AllocError>
     requires { (fields_of command).has_globals ≡ false }
-    ensures app { IfOk result (λ c. app_of c
-        ≡ fold with_rule (app_of command.entry) (map rule_of_form options.now)) }
+    ensures app { IfOk result (λ c. app_of c ≡ with_rule
+        (fold with_rule (app_of command.entry) (map rule_of_form options.now)) file_argument) }
     ensures local { IfOk result (λ c. (fields_of c).has_globals ≡ false) }
 {
     for form in options {
         command = command.arg(option_of(alloc, form))?;
     }
-    Ok(command)
+    command.arg(file_argument(alloc))
 }
 
 /// Whether this is one of the words.
@@ -123,36 +127,37 @@ fn is_word(words: &[&str], name: &str) -> bool
 /// words looks at no others.
 fn command_of<'a>(
     alloc: Global,
-    form: &CommandForm,
+    help: &CommandHelp,
     words: &[&str],
 ) -> Result<Command<'a>, AllocError>
     ensures app { IfOk result (λ c. app_of c
-        ≡ app_by (map (λ s. s.now) words.now) (command_of_form form.now)) }
+        ≡ app_by (map (λ s. s.now) words.now) (command_of_form help.now.form.now)) }
     ensures local { IfOk result (λ c. (fields_of c).has_globals ≡ false) }
 {
+    let form = help.form;
     let command = Command::new(alloc, form.name)
         .about(form.about)
-        .long_about(form.long_about)
+        .long_about(help.long_about)
         .after_help(form.example);
-    if !is_word(words, form.name) {
-        return Ok(command);
+    if is_word(words, form.name) {
+        with_arguments(alloc, command, form.options)
+    } else {
+        Ok(command)
     }
-    let command = with_options(alloc, command, form.options)?;
-    command.arg(file_argument(alloc))
 }
 
 /// An app with these commands as well.
 fn with_commands<'a>(
     alloc: Global,
     mut app: Command<'a>,
-    forms: &[CommandForm],
+    helps: &[CommandHelp],
     words: &[&str],
 ) -> Result<Command<'a>, AllocError>
     ensures { IfOk result (λ c. app_of c ≡ with_commands (app_of app.entry)
-        (map (λ form. app_by (map (λ s. s.now) words.now) (command_of_form form)) forms.now)) }
+        (map (λ help. app_by (map (λ s. s.now) words.now) (command_of_form help.form.now)) helps.now)) }
 {
-    for form in forms {
-        app = app.subcommand(command_of(alloc, form, words)?)?;
+    for help in helps {
+        app = app.subcommand(command_of(alloc, help, words)?)?;
     }
     Ok(app)
 }

@@ -1,6 +1,7 @@
 //! The commands: for each its name, its help and its options.
 
-use crate::command::{CommandForm, OptionForm, ValueForm};
+use crate::command::ValueForm::{Flag, Number, Text};
+use crate::command::{CommandForm, CommandHelp, OptionForm};
 use crate::number_range::{DRAWN_FROM, FROM, PATIENCE, STEPS, TO, TURNS};
 
 /// An example of a command, over a deck in which one processor hands a word to another; and what
@@ -41,27 +42,34 @@ where four.deck has the lines
     };
 }
 
-/// An option whose value is a number.
-macro_rules! number {
-    (required: $required:literal, $name:literal, $range:expr) => {
+/// An option, and whether its command needs it.
+macro_rules! option {
+    (required: $required:literal, $name:literal, $value:expr) => {
         OptionForm {
             name: $name,
             required: $required,
-            value: ValueForm::Number($range),
+            value: $value,
         }
     };
 }
 
-/// An option whose value is a text.
-macro_rules! text {
-    (required: $required:literal, $name:literal, $value:literal, $help:literal) => {
-        OptionForm {
-            name: $name,
-            required: $required,
-            value: ValueForm::Text {
-                name: $value,
-                help: $help,
+/// A command with its help.
+macro_rules! command {
+    (
+        name: $name:literal,
+        about: $about:literal,
+        long_about: $long_about:literal,
+        example: $example:expr,
+        options: $options:expr,
+    ) => {
+        CommandHelp {
+            form: &CommandForm {
+                name: $name,
+                about: $about,
+                example: $example,
+                options: $options,
             },
+            long_about: $long_about,
         }
     };
 }
@@ -110,22 +118,22 @@ pub(crate) const EXAMPLE: &str = handoff_example!("barrel --turns 40");
 pub(crate) const FILE_HELP: &str = "The file to read; standard input if not given, or -";
 
 /// How many turns to run.
-const TURNS_OPTION: OptionForm = number!(required: true, "turns", TURNS);
+const TURNS_OPTION: OptionForm = option!(required: true, "turns", Number(TURNS));
 
 /// How many processors the machine has.
-const PROCESSORS_OPTION: OptionForm = text!(required: false, "processors", "N",
-        "How many processors the machine has, 10 or 20 (decimal); 10 if not given");
+const PROCESSORS_OPTION: OptionForm = option!(required: false, "processors", Text("N",
+        "How many processors the machine has, 10 or 20 (decimal); 10 if not given"));
 
 /// The first place or address to print.
 const FIRST_OPTION: OptionForm =
-    text!(required: false, "first", "N", "The first address to print (octal; 0 if not given)");
+    option!(required: false, "first", Text("N", "The first address to print (octal; 0 if not given)"));
 
 /// `--turns N [--processors N]`
 const RUN_OPTIONS: &[OptionForm] = &[TURNS_OPTION, PROCESSORS_OPTION];
 
 /// The commands, in the order in which help lists them.
-pub(crate) const COMMANDS: [CommandForm; 13] = [
-    CommandForm {
+pub(crate) const COMMANDS: [CommandHelp; 13] = [
+    command! {
         name: "barrel",
         about: "Runs a deck in the barrel, one step a turn, and prints what happened",
         long_about: "\
@@ -145,7 +153,7 @@ the channel of its own number, as at a dead start.",
         example: EXAMPLE,
         options: RUN_OPTIONS,
     },
-    CommandForm {
+    command! {
         name: "threads",
         about: "Runs a deck with one thread per processor, and prints what happened",
         long_about: "\
@@ -171,12 +179,12 @@ Where the deck has a line DEAD, the processors without a section wait for their 
 the channel of its own number, as at a dead start.",
         example: handoff_example!("threads --steps 100 --patience 1000000"),
         options: &[
-            number!(required: true, "steps", STEPS),
-            number!(required: true, "patience", PATIENCE),
+            option!(required: true, "steps", Number(STEPS)),
+            option!(required: true, "patience", Number(PATIENCE)),
             PROCESSORS_OPTION,
         ],
     },
-    CommandForm {
+    command! {
         name: "list",
         about: "Prints the listing of a deck, one instruction a line, which is itself a deck",
         long_about: "\
@@ -192,7 +200,7 @@ The listing is itself a deck, and loads the same machine, where it is no longer 
         example: four_example!("list"),
         options: &[PROCESSORS_OPTION],
     },
-    CommandForm {
+    command! {
         name: "dump",
         about: "Runs a deck in the barrel, and prints a deck to go on from",
         long_about: "\
@@ -207,7 +215,7 @@ and the first of these is told on standard error. Any other fault is one line th
         example: four_example!("dump --turns 40"),
         options: RUN_OPTIONS,
     },
-    CommandForm {
+    command! {
         name: "steps",
         about: "Runs a deck in the barrel, and prints each step",
         long_about: "\
@@ -228,16 +236,16 @@ of central memory.",
         example: four_example!("steps --turns 40 --pp 0"),
         options: &[
             TURNS_OPTION,
-            text!(required: false, "pp", "N,N,..",
-                "Print the steps of these processors only (octal)"),
-            text!(required: false, "ch", "N,N,..",
-                "Print the steps that ask these channels only (octal)"),
-            number!(required: false, "from", FROM),
-            number!(required: false, "to", TO),
+            option!(required: false, "pp", Text("N,N,..",
+                "Print the steps of these processors only (octal)")),
+            option!(required: false, "ch", Text("N,N,..",
+                "Print the steps that ask these channels only (octal)")),
+            option!(required: false, "from", Number(FROM)),
+            option!(required: false, "to", Number(TO)),
             PROCESSORS_OPTION,
         ],
     },
-    CommandForm {
+    command! {
         name: "state",
         about: "Runs a deck in the barrel, and prints how things stand then",
         long_about: "\
@@ -257,7 +265,7 @@ of central memory.",
         example: four_example!("state --turns 40"),
         options: RUN_OPTIONS,
     },
-    CommandForm {
+    command! {
         name: "ends",
         about: "Runs a deck in the barrel, and says how the run ends",
         long_about: "\
@@ -273,7 +281,7 @@ standard error.",
         example: four_example!("ends --turns 999999"),
         options: RUN_OPTIONS,
     },
-    CommandForm {
+    command! {
         name: "memory",
         about: "Runs a deck in the barrel, and prints the words of a processor's memory",
         long_about: "\
@@ -287,14 +295,14 @@ are spaces). What goes wrong is one line on standard error.",
         example: four_example!("memory --turns 40 --pp 0"),
         options: &[
             TURNS_OPTION,
-            text!(required: true, "pp", "N", "The processor (octal)"),
+            option!(required: true, "pp", Text("N", "The processor (octal)")),
             FIRST_OPTION,
-            text!(required: false, "last", "N",
-                "The last address to print (octal; 7777 if not given)"),
+            option!(required: false, "last", Text("N",
+                "The last address to print (octal; 7777 if not given)")),
             PROCESSORS_OPTION,
         ],
     },
-    CommandForm {
+    command! {
         name: "central",
         about: "Runs a deck in the barrel, and prints the words of central memory",
         long_about: "\
@@ -312,12 +320,12 @@ where word.deck has the lines
         options: &[
             TURNS_OPTION,
             FIRST_OPTION,
-            text!(required: false, "last", "N",
-                "The last address to print (octal; 377777 if not given)"),
+            option!(required: false, "last", Text("N",
+                "The last address to print (octal; 377777 if not given)")),
             PROCESSORS_OPTION,
         ],
     },
-    CommandForm {
+    command! {
         name: "sessions",
         about: "Runs a deck in the barrel, and prints the sessions of its channels",
         long_about: "\
@@ -335,17 +343,11 @@ line. Turns and counts are decimal, words octal. What goes wrong is one line on 
         example: handoff_example!("sessions --turns 40"),
         options: &[
             TURNS_OPTION,
-            OptionForm {
-                name: "words",
-                required: false,
-                value: ValueForm::Flag {
-                    help: "Print the words and function codes as well",
-                },
-            },
+            option!(required: false, "words", Flag("Print the words and function codes as well")),
             PROCESSORS_OPTION,
         ],
     },
-    CommandForm {
+    command! {
         name: "races",
         about: "Runs a deck in the barrel, and says whether every order of steps ends the same",
         long_about: "\
@@ -367,7 +369,7 @@ polls a channel each look counts. SAME IN EVERY ORDER never stands where somethi
         example: handoff_example!("races --turns 40"),
         options: RUN_OPTIONS,
     },
-    CommandForm {
+    command! {
         name: "draw",
         about: "Runs a deck in the barrel, and draws what happened",
         long_about: "\
@@ -384,12 +386,12 @@ to draw and the one before which the picture ends: --turns 999999 --from 5000 --
         example: handoff_example!("draw --turns 40"),
         options: &[
             TURNS_OPTION,
-            number!(required: false, "from", DRAWN_FROM),
-            number!(required: false, "to", TO),
+            option!(required: false, "from", Number(DRAWN_FROM)),
+            option!(required: false, "to", Number(TO)),
             PROCESSORS_OPTION,
         ],
     },
-    CommandForm {
+    command! {
         name: "check",
         about: "Reads a channel trace, and says whether it is lawful",
         long_about: "\
@@ -413,7 +415,7 @@ where handoff.trace has the lines
   000000 PP00 CH05 ACN
   000020 PP00 CH05 PUT 0007
   000021 PP01 CH05 TAK 0007",
-        options: &[text!(required: false, "opened", "N,N,..",
-            "The channels that were open before the trace (octal)")],
+        options: &[option!(required: false, "opened", Text("N,N,..",
+            "The channels that were open before the trace (octal)"))],
     },
 ];

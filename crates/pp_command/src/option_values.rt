@@ -2,7 +2,7 @@
 
 ghost use Rattle.std.specs.Prelude.{◌≡◌, ◌-◌, ◌≤◌, ◌↔◌, IsTrue, codes, option_map, IfSome, IsSome};
 ghost use Rattle.pp_numbers.specs.Limits.{AreLimits};
-ghost use Rattle.pp_command.specs.CommandLine.{Finds, ReadsAddress, ReadsBounds, ReadsChannels, ReadsChosen, ReadsEnd, ReadsNumber, ReadsProcessor, ReadsProcessors, ReadsProfile, ReadsTurn, ReadsFlag, ReadsTurns, ReadsWindow, value_in};
+ghost use Rattle.pp_command.specs.CommandLine.{Finds, ReadsAddress, ReadsBounds, ReadsChannels, ReadsChosen, ReadsNumber, ReadsProcessor, ReadsProcessors, ReadsProfile, ReadsTurn, ReadsFlag, ReadsTurns, ReadsWindow, value_in};
 
 use crate::channel_list::listed_channels;
 use crate::number_range::{FROM, PATIENCE, STEPS, TURNS};
@@ -133,29 +133,15 @@ pub(crate) fn turn_of(matches: &ArgMatches<'_>, id: &str, default: u32) -> Optio
     }
 }
 
-/// The turn before which a picture of a run of `turns` turns ends, if it is in range; that of the
-/// run if the options do not say it.
-fn end_of(matches: &ArgMatches<'_>, turns: u32) -> Option<u32>
-    ensures { Finds (ReadsEnd turns (value_in matches.now (codes "to"))) result }
-{
-    let Some(text) = value_of(matches, "to") else {
-        return Some(turns);
-    };
-    match text.parse::<u32>() {
-        Ok(to) if to <= turns => Some(to),
-        Ok(_) | Err(_) => None,
-    }
-}
-
 /// The turns that the options say to be drawn, if they are in range, however many they are.
 #[tactic(auto, unfolding(crate::specs::CommandLine::ReadsWindow))]
 pub(crate) fn window_of(matches: &ArgMatches<'_>) -> Option<Window>
     ensures { Finds (ReadsWindow (value_in matches.now)) result }
 {
     let turns = turns_of(matches)?;
-    let to = end_of(matches, turns)?;
+    let to = turn_of(matches, "to", turns)?;
     let from = turn_of(matches, "from", 0)?;
-    if to < from {
+    if to < from || turns < to {
         return None;
     }
     Some(Window { from, to })

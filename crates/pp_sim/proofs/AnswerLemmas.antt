@@ -2,6 +2,7 @@
 use Rattle.std.proofs.Common.{◌≡◌, ◌≢◌, refl, ℕ, ◌≤◌, ◌<◌, Bool, true, false, cond, List, length, take, inl, inr, Option, Some, None, Result, Ok, Err, subst}
 use Rattle.std.specs.Prelude.{◌⊎◌, IfErr, IfSome, OnOk}
 use Rattle.std.specs.Io.KnownBytes.{Consumes, IsAtEnd, Keeps}
+use Rattle.std.proofs.KnownBytes.{Keeps-refl}
 use Rattle.std.proofs.lemmas.Bool.{cases_lt, lt-ltb}
 use Rattle.pp_sim.proofs.ByteLemmas.{read_front}
 use Rattle.pp_machine.specs.Headline.{HoldsOnEachChannel}
@@ -99,16 +100,12 @@ answered_deck profile before after old new Prevents IsDeckText front answer answ
   unwritten = unwritten_answer profile Prevents IsDeckText answer front old new answered;
 }
 
-pub kept_as_it_was : (kept : Option (List ℕ)) → Keeps kept kept
-kept_as_it_was None = tt
-kept_as_it_was (Some bytes) = refl
-
 -- where no text was made, nothing was written
 pub refused : (profile : Profile) (Prevents : LoadedDeck → Busy → Type 0) (IsDeckText : LoadedDeck → List ℕ → Type 0) (f : TextFault) (bytes : List ℕ) (kept : Option (List ℕ))
     → IsLoadFault profile bytes f → IsAnswerUnless profile Prevents IsDeckText (Err f) bytes kept kept
-refused profile Prevents IsDeckText (fault.Deck f) bytes kept is = (is, kept_as_it_was kept)
+refused profile Prevents IsDeckText (fault.Deck f) bytes kept is = (is, Keeps-refl kept)
 refused profile Prevents IsDeckText (fault.NotBetweenPrograms going_on) bytes kept is = absurd is
-refused profile Prevents IsDeckText fault.Memory bytes kept is = kept_as_it_was kept
+refused profile Prevents IsDeckText fault.Memory bytes kept is = Keeps-refl kept
 refused profile Prevents IsDeckText fault.Read bytes kept is = absurd is
 refused profile Prevents IsDeckText fault.Write bytes kept is = absurd is
 refused profile Prevents IsDeckText (fault.Trace f) bytes kept is = absurd is

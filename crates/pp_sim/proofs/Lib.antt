@@ -1,5 +1,2 @@
 mod AnswerLemmas
 mod ByteLemmas
-mod DumpTextLemmas
-mod StateLemmas
-mod PrintedLemmas

@@ -23,21 +23,21 @@ pub fn run_main<
     let alloc = rt.alloc();
     let arguments = match read_arguments(rt, alloc) {
         Ok(arguments) => arguments,
-        Err(fault) if fault.kind() == ErrorKind::OutOfMemory => return without_memory(error),
-        Err(_) => {
-            let _ = writeln!(error, "ppsim: a word is not UTF-8");
-            return ExitCode::from(BAD_USAGE);
-        }
+        Err(fault) => return without_words(fault.kind(), error),
     };
     let Ok(words) = as_words(alloc, &arguments) else {
-        return without_memory(error);
+        return without_words(ErrorKind::OutOfMemory, error);
     };
     ExitCode::from(run_program(rt, alloc, words.as_slice(), input, output, error))
 }
 
-fn without_memory<E: Write>(error: &mut E) -> ExitCode {
-    let _ = writeln!(error, "ppsim: out of memory");
-    ExitCode::from(NO_MEMORY)
+fn without_words<E: Write>(kind: ErrorKind, error: &mut E) -> ExitCode {
+    if kind == ErrorKind::OutOfMemory {
+        let _ = writeln!(error, "ppsim: out of memory");
+        return ExitCode::from(NO_MEMORY);
+    }
+    let _ = writeln!(error, "ppsim: a word is not UTF-8");
+    ExitCode::from(BAD_USAGE)
 }
 
 /// The program's words, its name first.

@@ -110,16 +110,13 @@ fn tell_line_fault<O: Write, E: Write>(
 ) -> u8
     ensures { IsReported fault.now result (O.contents output.old) (O.contents output.new) }
 {
+    if let LineFault::Refused(refusal) = fault {
+        return show_refusal(alloc, refusal, output, error);
+    }
+    let _ = writeln!(error, "ppsim: {fault}");
     match fault {
-        LineFault::Refused(refusal) => show_refusal(alloc, refusal, output, error),
-        LineFault::Number | LineFault::Picture => {
-            let _ = writeln!(error, "ppsim: {fault}");
-            BAD_USAGE
-        }
-        LineFault::Memory => {
-            let _ = writeln!(error, "ppsim: {fault}");
-            NO_MEMORY
-        }
+        LineFault::Memory => NO_MEMORY,
+        _ => BAD_USAGE,
     }
 }
 

@@ -13,7 +13,7 @@ use thiserror::Error;
 
 /// Why a text of a deck or of a trace was not written. Every fault but `Write` comes before the
 /// first byte is written.
-#[derive(Clone, Copy, Debug, PartialEq, Eq, Error)]
+#[derive(Clone, Copy, Debug, Error)]
 pub enum TextFault {
     /// The reader failed.
     #[error("read fault")]

@@ -26,7 +26,7 @@ fn with_little<R: AllocGlobal + Files + Threads + Wait + Sync>(
     let is_without = if done.is_ok() {
         text.contains(" MEMORY\n")
     } else {
-        done == Err(TextFault::Memory) && text.is_empty()
+        matches!(done, Err(TextFault::Memory)) && text.is_empty()
     };
     if is_without {
         return None;

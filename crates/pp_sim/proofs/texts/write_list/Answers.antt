@@ -7,7 +7,6 @@ use Rattle.pp_sim.specs.TextOf.{IsListText}
 
 pub returns : goal.returns
 returns g c = λ profile bytes meant same.
-    let meant = meant in
     rw c.answer_to.ensures (answers_written profile NothingPrevents IsListText bytes _ c.write_listing.result _ _
     (record {
       deck = _;

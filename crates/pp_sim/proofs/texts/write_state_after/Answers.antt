@@ -1,4 +1,4 @@
-use Rattle.std.proofs.Common.{◌≡◌, Bool, List, ℕ, ap, ◌∙◌}
+use Rattle.std.proofs.Common.{◌≡◌, Bool, List, ℕ, Ok, Result, ap, ◌∙◌}
 use Rattle.std.proofs.lemmas.Result.{err_from_is_err_and}
 use Rattle.pp_machine.specs.MachineState.{MachineState}
 use Rattle.pp_machine.specs.Run.{barrel, run}
@@ -8,10 +8,13 @@ use Rattle.pp_run.specs.RunSteps.{run_steps}
 use Rattle.pp_state.specs.HeldSteps.{each_held_steps}
 use Rattle.pp_state.specs.StateText.{state_after, state_text}
 use Rattle.pp_sim.proofs.AnswerLemmas.{answers_after, refused}
-use Rattle.pp_sim.proofs.StateLemmas.{one_deck}
 use Rattle.pp_sim.proofs.texts.write_state_after.Goals as goal
 use Rattle.pp_sim.specs.TextOf.{IsTextAfter}
 use Rattle.pp_sim.specs.TextAnswer.{NothingPrevents}
+
+-- a text that is read twice means one deck
+one_deck : {E : Type 0} (meaning : Result LoadedDeck E) (one other : LoadedDeck) → meaning ≡ Ok one → meaning ≡ Ok other → one ≡ other
+one_deck meaning one other e h = cc
 
 pub returns : goal.returns
 returns g c =
