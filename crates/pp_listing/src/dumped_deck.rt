@@ -43,7 +43,6 @@ pub fn write_dump<A: Allocator, W: Write>(writer: &mut W, deck: &Deck<A>) -> Res
 }
 
 /// Writes the listing of a deck to go on from, printed from the machine as it stands.
-#[tactic(auto, using(crate::proofs::DumpLawLemmas::dump_in_parts))]
 fn write_between<A: Allocator, W: Write>(writer: &mut W, deck: &Deck<A>) -> Result<(), WriteFault>
     ensures { IsWritten (dump (record { machine = deck.now.machine; named = deck.now.named }))
         result (W.contents writer.old) (W.contents writer.new) }

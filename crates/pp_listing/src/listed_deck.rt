@@ -25,7 +25,6 @@ use std::io::Write;
 /// if a text means the deck and the listing is no longer than a deck may be (1,048,576 bytes,
 /// decimal). The text goes out in pieces, and takes no memory. If the writer fails, the rest of the
 /// text is lost.
-#[tactic(auto, using(crate::proofs::TextLemmas::listing_in_parts))]
 pub fn write_listing<A: Allocator, W: Write>(
     writer: &mut W,
     deck: &Deck<A>,
