@@ -20,7 +20,6 @@ use Rattle.pp_deck.proofs.SectionLinesLemmas.{KeepsCurrent, all_append, all_flat
 use Rattle.pp_listing.specs.ListedLine.{says}
 use Rattle.pp_listing.specs.Listing.{instruction_lines, start_line}
 use Rattle.pp_listing.proofs.InstructionLemmas.{among_at, among_before, instructions_all, instructions_hold, start_all}
-use Rattle.pp_numbers.specs.ChannelNo.{all_channels, channel_count, channel_number}
 use Rattle.pp_numbers.specs.PpNo.{all_processors, names_processor}
 use Rattle.pp_numbers.proofs.PpNoLemmas.{processor_fits, numbers_of_processors}
 
@@ -37,11 +36,6 @@ pub sections_by_number : (named : ℕ → Bool) (body : ℕ → List Line) → (
 unfolding number_count
 sections_by_number named body none =
     numbers_of_processors (section_if named body) (λ n out. ap (λ (b : Bool). cond b (section n ∷ body n) []) (none n out))
-
--- a test of each place is one of each channel
-pub any_by_place : (test : ℕ → Bool) → list_any (λ place. test (channel_number place)) (range_with_len 0 channel_count) ≡ list_any test all_channels
-unfolding all_channels tabulate
-any_by_place test = refl
 
 -- the lines of a processor behind its heading
 abbrev pub body_of : Processor → List Line

@@ -81,5 +81,9 @@ fn print_dead_start<A: Allocator, W: Write>(text: &mut TextWriter<W>, machine: &
 fn has_opened_channel<A: Allocator>(machine: &Machine<A>) -> bool
     ensures { result ≡ list_any (λ c. is_opened c machine.now) all_channels }
 {
-    (0..CHANNELS).any(|place| machine.opened(ChannelNo::at(place)))
+    let mut any = false;
+    for place in 0..CHANNELS {
+        any |= machine.opened(ChannelNo::at(place));
+    }
+    any
 }

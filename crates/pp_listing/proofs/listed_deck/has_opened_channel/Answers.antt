@@ -1,14 +1,31 @@
-use Rattle.std.proofs.Common.{rules, refl, ◌∙◌}
-use Rattle.std.proofs.lemmas.Iterator.{YieldsList-from_range}
-use Rattle.std.proofs.lemmas.Iterator.Search.{any_from_yields_List}
-use Rattle.pp_numbers.specs.ChannelNo.{channel_count, channel_number}
+use Rattle.std.proofs.Common.{◌≡◌, ◌∙◌, Bool, true, false, ℕ, [], ◌∷◌, ap, arith, refl, sym}
+use Rattle.std.specs.Prelude.{◌||◌}
+use Rattle.std.specs.List.{list_any}
+use Rattle.std.proofs.lemmas.List.Folds.{list_any-append}
+use Rattle.pp_word.specs.Tables.{tabulate}
+use Rattle.pp_word.proofs.GrowingLists.{tabulate_more}
+use Rattle.pp_numbers.specs.ChannelNo.{all_channels, channel_count, channel_number}
 use Rattle.pp_machine.specs.MachineState.{is_opened}
-use Rattle.pp_listing.proofs.ListedLemmas.{any_by_place}
 use Rattle.pp_listing.proofs.listed_deck.has_opened_channel.Goals as goal
 
+no_more : (b : Bool) → (b || false) ≡ b
+no_more true = refl
+no_more false = refl
+
+pub loop-place-init : goal.loop-place-init
+unfolding tabulate
+loop-place-init g c = refl
+
+pub loop-place-preserved : goal.loop-place-preserved
+loop-place-preserved g c =
+    let opened : ℕ → Bool = λ n. is_opened n c.args.machine.now in
+    let so_far = tabulate c.loop-place.place channel_number in
+    let next = channel_number c.loop-place.place in
+    ap (λ (b : Bool). b || c.opened-any.result) c.loop-place.invariant
+    ∙ ap (λ (b : Bool). list_any opened so_far || b) (c.opened-any.ensures ∙ ap opened c.at.ensures.number ∙ sym (no_more (opened next)))
+    ∙ sym (list_any-append opened so_far (next ∷ []))
+    ∙ sym (ap (list_any opened) (tabulate_more c.loop-place.place channel_number))
+
 pub returns : goal.returns
-returns g c =
-    let m = c.args.machine.now in
-    any_from_yields_List (λ place. is_opened (channel_number place) m) _ _ _ c.any.ensures.ran
-    (YieldsList-from_range 0 channel_count channel_count refl refl) (λ x b q k. search rules)
-    ∙ any_by_place (λ n. is_opened n m)
+unfolding all_channels
+returns g c = let all : c.loop-place.place ≡ channel_count = omega arith in rw all at c.loop-place.invariant
