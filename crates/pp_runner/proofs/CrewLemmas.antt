@@ -1,6 +1,7 @@
 -- A worker and its line more.
 use Rattle.std.proofs.Common.{◌≡◌, ℕ, ◌+◌, ◌-◌, ◌*◌, ◌<◌, ◌≤◌, List, [], ◌∷◌, ◌++◌, length, take, sym, ap, ◌∙◌, subst, arith}
 use Rattle.std.specs.Prelude.{Some, All, slice_index_or}
+use Rattle.std.specs.List.{AllZip}
 use Rattle.pp_line.proofs.JoinedLines.{zip_push}
 use Rattle.std.proofs.lemmas.List.{take_more, length-append}
 use Rattle.std.proofs.lemmas.List.Elements.{All-pop, All-push, All-weaker}
@@ -15,12 +16,12 @@ use Rattle.pp_runner.specs.Types.{End, Ended, Entry}
 use Rattle.pp_machine.specs.Headline.{opening_history}
 use Rattle.pp_machine.specs.MachineState.{MachineState, processor_of}
 use Rattle.pp_machine.specs.Processor.{Processor, no_processor}
-use Rattle.pp_numbers.specs.PpNo.{processor_count, processor_index, processor_number, processor_places}
+use Rattle.pp_numbers.specs.PpNo.{processor_count, processor_index}
 use Rattle.pp_machine.specs.Replay.{looks_and_events}
 use Rattle.pp_runner.proofs.LabourLemmas.{work_begun}
 use Rattle.pp_runner.proofs.LogLemmas.{stands_done}
 use Rattle.pp_runner.proofs.LineLemmas.{operated_least, same_line_still, same_line_twice}
-use Rattle.pp_runner.specs.Crew.{AreReady, IsEnded, HasEnded, AreEnded, HasOpened}
+use Rattle.pp_runner.specs.Crew.{AreReady, IsEnded, HasEnded, HasOpened}
 use Rattle.pp_runner.specs.Labour.{IsAtWork, IsUnused, HasSeen, IsSameLine, HasOperated}
 use Rattle.pp_runner.specs.End.{IsEnd, WornWithCause}
 use Rattle.pp_runner.specs.WorkerReport.{events_in, sights_in}
@@ -80,26 +81,22 @@ pub not_given_up : {A : Type 0} (patience : ℕ) (line : LineState) (finish : En
     → ended.0.finish ≡ finish → (ended.0.finish ≡ Patience → length line.view.found + patience ≤ length ended.1.view.found)
 not_given_up patience line finish ended other was = λ is. absurd (other (sym was ∙ is))
 
--- the processor of the place after a number of others
-place_behind : (n place : ℕ) → n ≡ processor_number place → place < processor_count → processor_index n ≡ place
-place_behind n place is below = ap processor_index is ∙ processor_places.place_of_number place below
-
 -- the first processors, with the one that comes next
 processors_push : (m : MachineState) (n place : ℕ) → processor_index n ≡ place → place < length m.processors → take (place + 1) m.processors ≡ take place m.processors ++ processor_of n m ∷ []
 processors_push m n place at below =
     take_more m.processors place no_processor below ∙ ap (λ k. take place m.processors ++ slice_index_or m.processors k no_processor ∷ []) (sym at)
 
 -- the last line, and those before it
-pub record IsTaken (m : MachineState) (size room : ℕ) (family line : LineState) (others : List LineState) : Type 0 where
+pub record IsTaken (m : MachineState) (size steps : ℕ) (family line : LineState) (others : List LineState) : Type 0 where
   pub each : length m.processors ≡ processor_count
   pub count : length others < processor_count
-  pub fresh : IsSplitFrom family room line
-  pub fresh_others : All (IsSplitFrom family room) others
+  pub fresh : IsSplitFrom family (2 * steps + 1) line
+  pub fresh_others : All (IsSplitFrom family (2 * steps + 1)) others
   pub central : length family.view.central ≡ size
 
-pub taken_of : (m : MachineState) (size room : ℕ) (family line : LineState) (lines others : List LineState) → lines ≡ others ++ line ∷ [] → AreReady m size room family lines → IsTaken m size room family line others
-taken_of m size room family line lines others is ready =
-    let parts = All-pop (IsSplitFrom family room) lines others (Some line) is ready.fresh in record {
+pub taken_of : (m : MachineState) (size steps : ℕ) (family line : LineState) (lines others : List LineState) → lines ≡ others ++ line ∷ [] → AreReady m size steps family lines → IsTaken m size steps family line others
+taken_of m size steps family line lines others is ready =
+    let parts = All-pop (IsSplitFrom family (2 * steps + 1)) lines others (Some line) is ready.fresh in record {
       each = ready.each;
       count = omega (arith, ready.count, ap length is, length-append others (line ∷ []));
       fresh = parts.1;
@@ -107,18 +104,18 @@ taken_of m size room family line lines others is ready =
       central = ready.central;
     }
 
--- nothing was asked of the last line
-pub taken_unused : (m : MachineState) (size steps : ℕ) (family line : LineState) (others : List LineState) → IsTaken m size (2 * steps + 1) family line others → IsUnused size steps line
-taken_unused m size steps family line others taken = record {
-  log = taken.fresh.log;
-  central = ap (λ v. length v.central) taken.fresh.view ∙ taken.central;
-  written = ap (λ v. v.written) taken.fresh.view;
-  program_orders = ap (λ v. v.program_orders) taken.fresh.view;
+-- nothing was asked of a line that was split from others
+pub split_unused : (size steps : ℕ) (family line : LineState) → IsSplitFrom family (2 * steps + 1) line → length family.view.central ≡ size → IsUnused size steps line
+split_unused size steps family line fresh central = record {
+  log = fresh.log;
+  central = ap (λ v. length v.central) fresh.view ∙ central;
+  written = ap (λ v. v.written) fresh.view;
+  program_orders = ap (λ v. v.program_orders) fresh.view;
 }
 
 -- those before the last are ready too
-pub ready_before : (m : MachineState) (size room : ℕ) (family line : LineState) (others : List LineState) → IsTaken m size room family line others → AreReady m size room family others
-ready_before m size room family line others taken = record {
+pub ready_before : (m : MachineState) (size steps : ℕ) (family line : LineState) (others : List LineState) → IsTaken m size steps family line others → AreReady m size steps family others
+ready_before m size steps family line others taken = record {
   each = taken.each;
   count = omega (arith, taken.count);
   fresh = taken.fresh_others;
@@ -126,22 +123,15 @@ ready_before m size room family line others taken = record {
 }
 
 -- workers, and the one behind them
-pub ended_beside : {A : Type 0} (m : MachineState) (n room size steps left total : ℕ) (family line : LineState) (others : List LineState) (crew after : List (Ended A × LineState)) (last : Ended A × LineState)
-    → IsTaken m size room family line others → n ≡ processor_number left → left ≡ length others → total ≡ left + 1
-    → IsEnded (processor_of n m) size steps line last.0 last.1 → AreEnded (take left m.processors) size steps room family crew → after ≡ crew ++ last ∷ []
-    → AreEnded (take total m.processors) size steps room family after
-ended_beside {A} m n room size steps left total family line others crew after last taken at those sum one all after_is =
-    let below : left < processor_count = omega (arith, taken.count, those) in
-    let loads : take (left + 1) m.processors ≡ take left m.processors ++ processor_of n m ∷ [] =
-    processors_push m n left (place_behind n left at below) (omega (arith, below, taken.each)) in
-    let ended : AreEnded (take left m.processors ++ processor_of n m ∷ []) size steps room family (crew ++ last ∷ []) =
-    zip_push (λ load pair. HasEnded load size steps room family pair) (take left m.processors) crew (processor_of n m) last all (record { line = line; fresh = taken.fresh; has = one }) in
+pub ended_beside : {A : Type 0} (m : MachineState) (n size steps left total : ℕ) (family line : LineState) (others : List LineState) (crew after : List (Ended A × LineState)) (last : Ended A × LineState)
+    → IsTaken m size steps family line others → processor_index n ≡ left → left ≡ length others → total ≡ left + 1
+    → HasEnded size steps family (processor_of n m) last → AllZip (HasEnded size steps family) (take left m.processors) crew → after ≡ crew ++ last ∷ []
+    → AllZip (HasEnded size steps family) (take total m.processors) after
+ended_beside {A} m n size steps left total family line others crew after last taken at those sum one all after_is =
+    let loads : take (left + 1) m.processors ≡ take left m.processors ++ processor_of n m ∷ [] = processors_push m n left at (omega (arith, taken.count, those, taken.each)) in
+    let ended : AllZip (HasEnded size steps family) (take left m.processors ++ processor_of n m ∷ []) (crew ++ last ∷ []) =
+    zip_push (HasEnded size steps family) (take left m.processors) crew (processor_of n m) last all one in
     rw (sum, loads, after_is) ended
-
--- what a promise says, in the words of what it was made from
-pub promised : {A : Type 0} (load was : Processor) (size steps steps_was : ℕ) (line line_was : LineState) (ended : Ended A × LineState) → was ≡ load → steps_was ≡ steps → line_was ≡ line
-    → IsEnded was size steps_was line_was ended.0 ended.1 → IsEnded load size steps line ended.0 ended.1
-promised load was size steps steps_was line line_was ended a b c h = rw (← a, ← b, ← c) h
 
 -- a line that gives a share to another has one less, and has opened what it had
 pub opened_split : (m : MachineState) (all some : ℕ) (first after : LineState) → after ≡ record first { view = parent_view first.view } → HasOpened m all some first → HasOpened m all (some - 1) after

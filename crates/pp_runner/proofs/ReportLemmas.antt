@@ -16,22 +16,22 @@ use Rattle.pp_runner.proofs.CrewLemmas.{same_seen}
 use Rattle.pp_runner.proofs.EndLemmas.{worn_later}
 use Rattle.pp_runner.proofs.LateAccesses.{is_late, late_accessed}
 use Rattle.pp_runner.specs.Accesses.{HaveAccessed}
-use Rattle.pp_runner.specs.Crew.{IsEnded, HasEnded, AreEnded, worker_of}
+use Rattle.pp_runner.specs.Crew.{IsEnded, HasEnded, worker_of}
 use Rattle.pp_runner.specs.Labour.{HasSeen, NoneOlder}
 use Rattle.pp_runner.specs.End.{WornWithCause}
 use Rattle.pp_runner.specs.WorkerReport.{AreWorkers}
 
-module _ {A : Type 0} (size steps room : ℕ) (family : LineState) where
+module _ {A : Type 0} (size steps : ℕ) (family : LineState) where
   -- what holds of each that has ended
-  ended_each : (P : Ended A × LineState → Type 0) → ((load : Processor) (ended : Ended A × LineState) → HasEnded load size steps room family ended → P ended)
-      → (loads : List Processor) (crew : List (Ended A × LineState)) → AreEnded loads size steps room family crew → All P crew
+  ended_each : (P : Ended A × LineState → Type 0) → ((load : Processor) (ended : Ended A × LineState) → HasEnded size steps family load ended → P ended)
+      → (loads : List Processor) (crew : List (Ended A × LineState)) → AllZip (HasEnded size steps family) loads crew → All P crew
   ended_each P one [] [] all = All-nil P
   ended_each P one [] (ended ∷ crew) all = absurd all
   ended_each P one (p ∷ loads) [] all = absurd all
   ended_each P one (p ∷ loads) (ended ∷ crew) all = All-cons P ended crew (one p ended all.0) (ended_each P one loads crew all.1)
 
   -- the lines are of one family, and have a share each
-  pub ended_tables : (loads : List Processor) (crew : List (Ended A × LineState)) → AreEnded loads size steps room family crew → All (λ ended. ended.1.table ≡ family.table) crew
+  pub ended_tables : (loads : List Processor) (crew : List (Ended A × LineState)) → AllZip (HasEnded size steps family) loads crew → All (λ ended. ended.1.table ≡ family.table) crew
   ended_tables loads crew all = ended_each (λ ended. ended.1.table ≡ family.table) (λ load ended one. one.has.same_line.table ∙ one.fresh.table) loads crew all
 
   shares_of : (crew : List (Ended A × LineState)) (first : LineState) → All (λ ended. ended.1.view.shares ≡ 1) crew → (all_joined first (lines_of crew)).view.shares ≡ first.view.shares + length crew
@@ -42,14 +42,14 @@ module _ {A : Type 0} (size steps room : ℕ) (family : LineState) where
       let rest = shares_of crew (joined first ended.1) (All-tail P ended crew each) in
       omega (arith, one, rest)
 
-  pub ended_shares : (loads : List Processor) (crew : List (Ended A × LineState)) (first : LineState) → AreEnded loads size steps room family crew → (all_joined first (lines_of crew)).view.shares ≡ first.view.shares + length loads
+  pub ended_shares : (loads : List Processor) (crew : List (Ended A × LineState)) (first : LineState) → AllZip (HasEnded size steps family) loads crew → (all_joined first (lines_of crew)).view.shares ≡ first.view.shares + length loads
   ended_shares loads crew first all =
-      let count = AllZip-long (λ load ended. HasEnded load size steps room family ended) loads crew all in
+      let count = AllZip-long (HasEnded size steps family) loads crew all in
       let sum = shares_of crew first (ended_each (λ ended. ended.1.view.shares ≡ 1) (λ load ended one. one.has.same_line.shares ∙ ap (λ v. v.shares) one.fresh.view) loads crew all) in
       omega (arith, count, sum)
 
   -- nothing that a worker did or saw is older than what its line's family had seen
-  begun_one : (happened : ℕ → ℕ) → HasSeen happened family → (load : Processor) (ended : Ended A × LineState) → HasEnded load size steps room family ended → NoneOlder happened ended.1.log.entries
+  begun_one : (happened : ℕ → ℕ) → HasSeen happened family → (load : Processor) (ended : Ended A × LineState) → HasEnded size steps family load ended → NoneOlder happened ended.1.log.entries
   begun_one happened has load ended one =
       let seen = same_seen happened family one.line (ap (λ v. v.seen) one.fresh.view) has in
       let none : NoneOlder happened one.line.log.entries =
@@ -62,7 +62,7 @@ module _ {A : Type 0} (size steps room : ℕ) (family : LineState) where
       let Q : Ended A × LineState → Type 0 = λ ended. All P ended.1.log.entries in
       All-append P ended.1.log.entries (flat_map (λ l. l.log.entries) (lines_of crew)) (All-head Q ended crew each) (all_entries P crew (All-tail Q ended crew each))
 
-  pub ended_begun : (loads : List Processor) (crew : List (Ended A × LineState)) (happened : ℕ → ℕ) → HasSeen happened family → AreEnded loads size steps room family crew → NoneOlder happened (flat_map (λ l. l.log.entries) (lines_of crew))
+  pub ended_begun : (loads : List Processor) (crew : List (Ended A × LineState)) (happened : ℕ → ℕ) → HasSeen happened family → AllZip (HasEnded size steps family) loads crew → NoneOlder happened (flat_map (λ l. l.log.entries) (lines_of crew))
   ended_begun loads crew happened has all =
       all_entries (λ entry. happened entry.channel ≤ entry.number) crew (ended_each (λ ended. NoneOlder happened ended.1.log.entries) (begun_one happened has) loads crew all)
 
@@ -83,10 +83,10 @@ IsExtended order l = ExtendsEach order l.view.program_orders
 abbrev IsDrawn : LineState → Type 0
 IsDrawn l = IsDrawnFrom l.view.program_orders l.log.entries
 
-module _ {A : Type 0} (size steps room : ℕ) (family : LineState) (opening : ℕ → List Event) (histories : List (List Event)) (begins : (c : ℕ) → IsPrefix (opening c) (history_on c histories)) (has : HasSeen (λ c. length (opening c)) family)
+module _ {A : Type 0} (size steps : ℕ) (family : LineState) (opening : ℕ → List Event) (histories : List (List Event)) (begins : (c : ℕ) → IsPrefix (opening c) (history_on c histories)) (has : HasSeen (λ c. length (opening c)) family)
     (happened : ℕ → ℕ) (order : List Access) where
   pub ended_left : (loads : List Processor) (crew : List (Ended A × LineState)) (logs : List (Ended A × Vec Entry A)) → AllZip (λ ended log. IsLogBeside ended log) crew logs
-      → All (HasFew happened) (lines_of crew) → All (IsExtended order) (lines_of crew) → All IsDrawn (lines_of crew) → AreEnded loads size steps room family crew
+      → All (HasFew happened) (lines_of crew) → All (IsExtended order) (lines_of crew) → All IsDrawn (lines_of crew) → AllZip (HasEnded size steps family) loads crew
       → AreLeft loads size steps happened (filter (is_late opening histories begins) order) (lines_of crew) (map worker_of logs)
   ended_left [] [] [] beside few extends drawn all = record { workers = tt; worn = All-nil (λ (w : Worker A). WornWithCause happened w.finish w.pp); accesses = []; accessed = tt; written = refl }
   ended_left [] [] (log ∷ logs) beside few extends drawn all = absurd beside
@@ -103,7 +103,7 @@ module _ {A : Type 0} (size steps room : ℕ) (family : LineState) (opening : �
             (worn_later (λ c. seen_on c l.view.seen) happened w.finish w.pp (All-head (HasFew happened) l (lines_of crew) few) one.worn) more.worn;
         accesses = one.made.accesses ∷ more.accesses;
         accessed = (
-          late_accessed opening histories begins p order w l one.made (begun_one size steps room family (λ c. length (opening c)) has p ended all.0)
+          late_accessed opening histories begins p order w l one.made (begun_one size steps family (λ c. length (opening c)) has p ended all.0)
               (All-head (IsExtended order) l (lines_of crew) extends) (All-head IsDrawn l (lines_of crew) drawn) beside.0.1,
           more.accessed,
         );

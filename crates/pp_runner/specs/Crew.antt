@@ -1,11 +1,11 @@
 -- Workers that run at once, with their lines. (Only private contracts cite this.)
-use Rattle.std.specs.Prelude.{◌≡◌, ◌≤◌, ℕ, List, [], All, length}
-use Rattle.std.specs.List.{AllZip}
+use Rattle.std.specs.Prelude.{◌≡◌, ◌≤◌, ◌+◌, ◌*◌, ℕ, List, [], All, length}
 use Rattle.std.specs.declared.vec.Vec.{Vec}
 use Rattle.pp_line.specs.LineState.{LineState, IsSplitFrom}
 use Rattle.pp_line.specs.LineLog.{seen_on}
 use Rattle.pp_line.specs.Merge.{IsOpeningLog}
 use Rattle.pp_runner.specs.Types.{Ended, Entry, Worker}
+use Rattle.pp_runner.specs.declared.crew.Begun.{Begun}
 use Rattle.pp_machine.specs.Headline.{opening_history}
 use Rattle.pp_machine.specs.MachineState.{MachineState}
 use Rattle.pp_machine.specs.Processor.{Processor}
@@ -16,12 +16,12 @@ use Rattle.pp_runner.specs.WorkerReport.{IsWorker}
 
 -- The workers of the barrel's first processors are ready, each on one of lines split from one,
 -- beside central memory of this size.
-pub record AreReady (m : MachineState) (size room : ℕ) (family : LineState)
+pub record AreReady (m : MachineState) (size steps : ℕ) (family : LineState)
     (lines : List LineState) : Type 0 where
   pub each : length m.processors ≡ processor_count
   pub count : length lines ≤ processor_count
   pub central : length family.view.central ≡ size
-  pub fresh : All (IsSplitFrom family room) lines
+  pub fresh : All (IsSplitFrom family (2 * steps + 1)) lines
 
 -- A line has opened the channels that dead start opened, and seen that: its log has an Activate for
 -- each, and no other event. It holds some of all shares, beside the machine's central memory.
@@ -49,14 +49,16 @@ pub record IsEnded {A : Type 0} (load : Processor) (size steps : ℕ) (line : Li
   pub same_line : IsSameLine line after
 
 -- one that began with a line that was split from this family's
-pub record HasEnded {A : Type 0} (load : Processor) (size steps room : ℕ) (family : LineState)
+pub record HasEnded {A : Type 0} (size steps : ℕ) (family : LineState) (load : Processor)
     (ended : Ended A × LineState) : Type 0 where
   pub line : LineState
-  pub fresh : IsSplitFrom family room line
+  pub fresh : IsSplitFrom family (2 * steps + 1) line
   pub has : IsEnded load size steps line ended.0 ended.1
 
--- for each of these processors one, beside its line, in their order
-abbrev pub AreEnded : {A : Type 0} → List Processor → ℕ → ℕ → ℕ → LineState
-    → List (Ended A × LineState) → Type 0
-AreEnded loads size steps room family crew =
-    AllZip (λ load ended. HasEnded load size steps room family ended) loads crew
+-- a worker has begun with this processor and one of these lines
+abbrev pub HasBegun : {A : Type 0} → Processor → ℕ → ℕ → LineState → Begun A → Type 0
+HasBegun load size steps family (Begun.Here line) = IsSplitFrom family (2 * steps + 1) line
+HasBegun load size steps family (Begun.Apart child) =
+    IsSplitFrom family (2 * steps + 1) child.promise.line.value
+    × (child.promise.load.value ≡ load) × (child.promise.site.value.size ≡ size)
+    × (child.promise.site.value.limits.steps ≡ steps)

@@ -1,8 +1,10 @@
-//! Runs the workers at once; those at rest need no thread of their own.
+//! Runs the workers at once; those at rest need no thread.
 
-ghost use Rattle.std.specs.Prelude.{◌+◌, ◌*◌, ◌<◌, take, vec_len, IfOk};
+ghost use Rattle.std.specs.Prelude.{◌≡◌, ◌+◌, ◌*◌, take, length, vec_len, IfOk};
+ghost use Rattle.std.specs.List.{AllZip};
 ghost use denote.Param.Send.{IsSync, IsSend, Frees};
-ghost use Rattle.pp_runner.specs.Crew.{IsEnded, AreEnded, AreReady};
+ghost use Rattle.pp_line.specs.LineState.{IsSplitFrom};
+ghost use Rattle.pp_runner.specs.Crew.{IsEnded, HasEnded, AreReady, HasBegun};
 ghost use Rattle.pp_runner.specs.Labour.{IsUnused};
 
 use crate::gate::Gate;
@@ -16,7 +18,7 @@ use std::alloc::Allocator;
 use std::snapshot::Snapshot;
 use std::sync::Wait;
 use std::thread;
-use std::thread::{Promise, Threads};
+use std::thread::{Promise, PromisedHandle, Scope, Threads};
 
 /// Workers that have ended, in order, each beside its line, which has its log.
 pub type Crew<A> = Vec<(Ended<A>, Line<A>), A>;
@@ -26,130 +28,132 @@ pub type Crew<A> = Vec<(Ended<A>, Line<A>), A>;
 struct EndOf<A: Allocator> {
     load: Snapshot<Pp>,
     line: Snapshot<Line<A>>,
-    size: u32,
-    steps: u32,
+    site: Snapshot<Site<A>>,
 }
 
 impl<A: Allocator> Promise<(Ended<A>, Line<A>)> for EndOf<A> {
     ghost use Rattle.pp_runner.specs.Crew.{IsEnded};
 
-    ghost kept_by = { λ p ended. IsEnded p.load.value p.size p.steps p.line.value ended.0 ended.1 };
+    ghost kept_by = { λ p ended. IsEnded p.load.value p.site.value.size p.site.value.limits.steps
+        p.line.value ended.0 ended.1 };
 }
 
-/// Runs the workers of the barrel's first processors at once, one on each line. The first works in
-/// this thread, and so does one at rest, which makes no step.
-#[cycle(crew)]
-pub fn run_first<R: Threads + Wait + Sync, G: Gate + Sync, A: Allocator + Copy + Send + Sync>(
-    rt: &R,
-    site: &Site<A>,
-    gate: &G,
-    machine: &Machine<A>,
-    family: Snapshot<Line<A>>,
-    lines: Vec<Line<A>, A>,
-) -> Result<Crew<A>, RunFault>
-    requires { AreReady machine.now site.now.size (2 * site.now.limits.steps + 1) family.value
-        lines.items }
-    ensures { IfOk result (λ crew. AreEnded (take
-        (vec_len lines) machine.now.processors) site.now.size site.now.limits.steps
-        (2 * site.now.limits.steps + 1) family.value crew.items) }
+/// A worker that has begun.
+#[derive(Drop)]
+enum Begun<A: Allocator> {
+    /// In this thread, which has yet to run it, on this line.
+    Here(Line<A>),
+    /// In a thread of its own.
+    Apart(PromisedHandle<(Ended<A>, Line<A>), EndOf<A>>),
+}
+
+/// Begins a worker: the first in this thread, and so one at rest, which makes no step.
+fn begin<'s, 'e: 's, G: Gate + Sync, A: Allocator + Copy + Send + Sync>(
+    scope: &Scope<'s, &'e ()>,
+    site: &'e Site<A>,
+    gate: &'e G,
+    number: PpNo,
+    load: &'e Pp,
+    family: &Line<A>,
+    line: Line<A>,
+) -> Result<Begun<A>, RunFault>
+    requires fresh { IsSplitFrom family.now (2 * site.now.limits.steps + 1) line }
+    requires central { length family.now.view.central ≡ site.now.size }
+    ensures { IfOk result (HasBegun load.now site.now.size site.now.limits.steps family.now) }
 {
-    if lines.is_empty() {
-        return Ok(Vec::new(site.alloc));
+    if number.index() == 0 || !matches!(load.state(), PpState::Running) {
+        return Ok(Begun::Here(line));
     }
-    let last = machine.pp(PpNo::at(lines.len() - 1));
-    if lines.len() > 1 && matches!(last.state(), PpState::Running) {
-        beside(rt, site, gate, machine, family, lines)
-    } else {
-        run_last(rt, site, gate, machine, family, lines)
-    }
+    let promise = EndOf {
+        load: Snapshot::of(load),
+        line: Snapshot::of(&line),
+        site: Snapshot::of(site),
+    };
+    let child = scope.spawn_with(
+        promise,
+        move || -> (Ended<A>, Line<A>)
+            requires { IsUnused site.now.size site.now.limits.steps line }
+            ensures { IsEnded load.entry.now site.entry.now.size
+                site.entry.now.limits.steps line result.0 result.1 }
+        { work(site, gate, number, load, line) },
+    )?;
+    Ok(Begun::Apart(child))
 }
 
-// The calls nest once for each worker. If these two were compiled in place, each level would hold
-// the stack of both.
+// The calls nest once for each worker. If this were compiled in place, each level would hold its
+// stack.
 
-/// Runs the worker on the last line in this thread, after those before it.
-#[cycle(crew)]
+/// Runs a worker that is to run here, or waits for its thread.
 #[inline(never)]
-fn run_last<R: Threads + Wait + Sync, G: Gate + Sync, A: Allocator + Copy + Send + Sync>(
+fn finish<R: Threads, G: Gate, A: Allocator + Copy>(
     rt: &R,
     site: &Site<A>,
     gate: &G,
-    machine: &Machine<A>,
-    family: Snapshot<Line<A>>,
+    number: PpNo,
+    load: &Pp,
+    family: &Line<A>,
+    begun: Begun<A>,
+) -> (Ended<A>, Line<A>)
+    requires begun { HasBegun load.now site.now.size site.now.limits.steps family.now begun }
+    requires central { length family.now.view.central ≡ site.now.size }
+    ensures { HasEnded site.now.size site.now.limits.steps family.now load.now result }
+{
+    match begun {
+        Begun::Here(line) => work(site, gate, number, load, line),
+        Begun::Apart(child) => child.join(rt),
+    }
+}
+
+/// Begins the worker on the last line, runs those before it, and waits for it.
+fn run_lines<'s, 'e: 's, R: Threads, G: Gate + Sync, A: Allocator + Copy + Send + Sync>(
+    rt: &R,
+    scope: &Scope<'s, &'e ()>,
+    site: &'e Site<A>,
+    gate: &'e G,
+    machine: &'e Machine<A>,
+    family: &Line<A>,
     mut lines: Vec<Line<A>, A>,
 ) -> Result<Crew<A>, RunFault>
-    requires some { 0 < vec_len lines }
-    requires ready { AreReady machine.now site.now.size (2 * site.now.limits.steps + 1)
-        family.value lines.items }
-    ensures { IfOk result (λ crew. AreEnded (take
-        (vec_len lines) machine.now.processors) site.now.size site.now.limits.steps
-        (2 * site.now.limits.steps + 1) family.value crew.items) }
+    requires { AreReady machine.now site.now.size site.now.limits.steps family.now lines.items }
+    ensures { IfOk result (λ crew. AllZip (HasEnded site.now.size site.now.limits.steps family.now)
+        (take (vec_len lines) machine.now.processors) crew.items) }
 {
     let Some(line) = lines.pop() else {
-        unreachable!()
+        return Ok(Vec::new(site.alloc));
     };
     let number = PpNo::at(lines.len());
-    let mut crew = run_first(rt, site, gate, machine, family, lines)?;
-    crew.push(work(site, gate, number, machine.pp(number), line))?;
+    let load = machine.pp(number);
+    let begun = begin(scope, site, gate, number, load, family, line)?;
+    let others = run_lines(rt, scope, site, gate, machine, family, lines);
+    let last = finish(rt, site, gate, number, load, family, begun);
+    let mut crew = others?;
+    crew.push(last)?;
     Ok(crew)
 }
 
-/// Runs the worker on the last line in a thread of its own, beside those before it.
-#[cycle(crew)]
-#[inline(never)]
-fn beside<R: Threads + Wait + Sync, G: Gate + Sync, A: Allocator + Copy + Send + Sync>(
+/// Runs the workers of the barrel's first processors at once, one on each line.
+pub fn run_crew<R: Threads + Wait + Sync, G: Gate + Sync, A: Allocator + Copy + Send + Sync>(
     rt: &R,
     site: &Site<A>,
     gate: &G,
     machine: &Machine<A>,
-    family: Snapshot<Line<A>>,
+    family: &Line<A>,
     lines: Vec<Line<A>, A>,
 ) -> Result<Crew<A>, RunFault>
-    requires some { 0 < vec_len lines }
-    requires ready { AreReady machine.now site.now.size (2 * site.now.limits.steps + 1)
-        family.value lines.items }
-    ensures { IfOk result (λ crew. AreEnded (take
-        (vec_len lines) machine.now.processors) site.now.size site.now.limits.steps
-        (2 * site.now.limits.steps + 1) family.value crew.items) }
+    requires { AreReady machine.now site.now.size site.now.limits.steps family.now lines.items }
+    ensures { IfOk result (λ crew. AllZip (HasEnded site.now.size site.now.limits.steps family.now)
+        (take (vec_len lines) machine.now.processors) crew.items) }
 {
     thread::scope(
         thread::scope_env(),
         rt,
         |scope| -> Result<Crew<A>, RunFault>
-            requires { IsSync R.row × IsSync G.row × IsSend A.row × IsSync A.row
-                × Frees A.Allocator A.dealloc_token × (0 < vec_len lines)
-                × AreReady machine.now site.now.size (2 * site.now.limits.steps + 1) family.value
-                lines.items }
-            ensures { IfOk result (λ crew. AreEnded
-                (take (vec_len lines) machine.entry.now.processors) site.entry.now.size
-                site.entry.now.limits.steps (2 * site.entry.now.limits.steps + 1) family.value
-                crew.items) }
-        {
-            let mut others = lines;
-            let Some(line) = others.pop() else {
-                unreachable!()
-            };
-            let number = PpNo::at(others.len());
-            let load = machine.pp(number);
-            let promise = EndOf {
-                load: Snapshot::of(load),
-                line: Snapshot::of(&line),
-                size: site.size,
-                steps: site.limits.steps(),
-            };
-            let child = scope.spawn_with(
-                promise,
-                move || -> (Ended<A>, Line<A>)
-                    requires { IsUnused site.now.size site.now.limits.steps line }
-                    ensures { IsEnded load.entry.now site.entry.now.size
-                        site.entry.now.limits.steps line result.0 result.1 }
-                { work(site, gate, number, load, line) },
-            )?;
-            let others = run_first(rt, site, gate, machine, family, others);
-            let last = child.join(rt);
-            let mut crew = others?;
-            crew.push(last)?;
-            Ok(crew)
-        },
+            requires { IsSync G.row × IsSend A.row × IsSync A.row
+                × Frees A.Allocator A.dealloc_token × AreReady machine.now site.now.size
+                site.now.limits.steps family.now lines.items }
+            ensures { IfOk result (λ crew. AllZip
+                (HasEnded site.entry.now.size site.entry.now.limits.steps family.entry.now)
+                (take (vec_len lines) machine.entry.now.processors) crew.items) }
+        { run_lines(rt, scope, site, gate, machine, family, lines) },
     )
 }

@@ -171,20 +171,12 @@ impl<A: Allocator + Copy> Labour<A> {
         ensures line { result.1 ≡ self.line }
         ensures finish { result.0.finish ≡ finish }
     {
-        let Labour {
-            number: _,
-            pp,
-            answers,
-            line,
-            tries: _,
-            spinning: _,
-        } = self;
         let ended = Ended {
-            pp,
-            answers,
+            pp: self.pp,
+            answers: self.answers,
             finish,
         };
-        (ended, line)
+        (ended, self.line)
     }
 }
 

@@ -37,7 +37,7 @@ impl<A: Allocator + Copy> LockedCentral<A> {
     {
         let mut banks = Vec::with_capacity(alloc, BANKS)?;
         for bank in 0..BANKS {
-            banks.push(Mutex::new(Bank::of(alloc, central, bank)?))?;
+            banks.push_reserved(Mutex::new(Bank::of(alloc, central, bank)?));
         }
         Ok(LockedCentral {
             banks,

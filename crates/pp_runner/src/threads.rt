@@ -6,7 +6,7 @@ ghost use Rattle.pp_numbers.specs.Profile.{processors_in};
 ghost use Rattle.pp_runner.specs.Crew.{HasOpened};
 ghost use Rattle.pp_runner.specs.Report.{IsReportOf};
 
-use crate::crew::run_first;
+use crate::crew::run_crew;
 use crate::gate::Gate;
 use crate::opening::opening_line;
 use crate::report::Report;
@@ -19,7 +19,6 @@ use pp_line::{Closed, Line};
 use pp_machine::Machine;
 use pp_numbers::Limits;
 use std::alloc::Allocator;
-use std::snapshot::Snapshot;
 use std::sync::Wait;
 use std::thread::Threads;
 
@@ -40,7 +39,7 @@ fn open_family<A: Allocator + Copy>(
     let mut first = opening_line(alloc, machine, processors as u32 + 1)?;
     let mut lines = Vec::with_capacity(alloc, processors)?;
     for count in 0..processors {
-        lines.push(first.split(room)?)?;
+        lines.push_reserved(first.split(room)?);
     }
     Ok((first, lines))
 }
@@ -71,8 +70,7 @@ pub fn run_threads<R: Threads + Wait + Sync, G: Gate + Sync, A: Allocator + Copy
     };
     // Two entries an answer at most, and a look at which the worker gives up.
     let (first, lines) = open_family(alloc, machine, 2 * limits.steps() + 1)?;
-    let family = Snapshot::of(&first);
-    let crew = run_first(rt, &site, gate, machine, family, lines)?;
+    let crew = run_crew(rt, &site, gate, machine, &first, lines)?;
     // The events of the line that opened channels stand in no worker's log.
     let Closed { logs, channels } = first.close_with(crew)?;
     Ok(Report {

@@ -35,18 +35,20 @@ pub fn workers<A: Allocator>(
     ensures { IfOk result (λ workers. workers.items ≡ map worker_of crew.items) }
 {
     let mut workers = Vec::with_capacity(alloc, crew.len())?;
-    for (ended, log) in crew {
-        let Ended {
+    for (
+        Ended {
             pp,
             answers,
             finish,
-        } = ended;
-        workers.push(Worker {
+        },
+        log,
+    ) in crew {
+        workers.push_reserved(Worker {
             pp,
             log,
             answers,
             finish,
-        })?;
+        });
     }
     Ok(workers)
 }

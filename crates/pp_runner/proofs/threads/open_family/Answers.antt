@@ -15,6 +15,7 @@ loop-count-init g c =
       opened = subst (λ (some : ℕ). HasOpened c.args.machine.now all some c.in_ok-first.first) (omega arith) (subst (λ (n : ℕ). HasOpened c.args.machine.now n n c.in_ok-first.first) same c.in_ok-first.ensures);
       fresh = subst (λ (ls : List LineState). All (IsSplitFrom c.in_ok-first.first c.args.room) ls) (sym c.in_ok-lines.ensures.items) (All-nil (IsSplitFrom c.in_ok-first.first c.args.room));
       made = omega (arith, c.in_ok-lines.ensures.len);
+      room = c.in_ok-lines.ensures.exact;
     }
 
 pub split-requires : goal.split-requires
@@ -25,9 +26,10 @@ loop-count-preserved g c =
     let parent = c.in_ok-split.ensures.parent in
     let all = processors_in c.args.machine.now.profile + 1 in record {
       opened = subst (λ (some : ℕ). HasOpened c.args.machine.now all some c.split.new.self) (omega arith) (opened_split c.args.machine.now all (all - c.loop-count.count) c.loop-count.first c.split.new.self parent c.loop-count.invariant.opened);
-      fresh = subst (λ (ls : List LineState). All (IsSplitFrom c.split.new.self c.args.room) ls) (sym c.in_ok-push.ensures.items)
+      fresh = subst (λ (ls : List LineState). All (IsSplitFrom c.split.new.self c.args.room) ls) (sym c.push_reserved.ensures.items)
           (split_more c.args.room c.loop-count.first c.split.new.self c.in_ok-split.field-0 c.loop-count.lines.items parent c.in_ok-split.ensures.line c.loop-count.invariant.fresh);
-      made = omega (arith, c.in_ok-push.ensures.len, c.loop-count.invariant.made);
+      made = omega (arith, c.push_reserved.ensures.len, c.loop-count.invariant.made);
+      room = c.push_reserved.ensures.capacity ∙ c.loop-count.invariant.room;
     }
 
 pub returns : goal.returns

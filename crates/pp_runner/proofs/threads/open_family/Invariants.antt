@@ -1,4 +1,4 @@
-use Rattle.std.proofs.Common.{◌≡◌, ◌+◌, ◌-◌, vec_len}
+use Rattle.std.proofs.Common.{◌≡◌, ◌+◌, ◌-◌, vec_len, vec_capacity}
 use Rattle.std.specs.Prelude.{All}
 use Rattle.pp_numbers.specs.Profile.{processors_in}
 use Rattle.pp_line.specs.LineState.{IsSplitFrom}
@@ -10,4 +10,5 @@ invariant-loop-count g l = record {
   opened : HasOpened l.machine (processors_in l.machine.profile + 1) (processors_in l.machine.profile + 1 - l.count) l.first;
   fresh : All (IsSplitFrom l.first l.room) l.lines.items;
   made : vec_len l.lines ≡ l.count;
+  room : vec_capacity l.lines ≡ l.processors;
 }

@@ -21,7 +21,6 @@ use Rattle.pp_runner.proofs.ReportLemmas.{ended_tables, ended_shares, ended_begu
 use Rattle.pp_runner.proofs.LateAccesses.{is_late, late_entries, late_finds, made_late}
 use Rattle.pp_runner.specs.Accesses.{HaveAccessed}
 use Rattle.pp_runner.specs.Crew.{worker_of}
-use Rattle.pp_runner.specs.Labour.{HasSeen}
 use Rattle.pp_runner.specs.WorkerReport.{IsWorker, AreWorkers, logs_of}
 use Rattle.pp_runner.proofs.threads.run_threads.Goals as goal
 
@@ -35,12 +34,11 @@ close_with-requires g c =
     let ended = c.in_ok-crew.ensures in
     let few = most_processors c.args.machine.now.profile in
     let each : length loads ≡ vec_len c.in_ok-first.lines = length-take-le (vec_len c.in_ok-first.lines) c.args.machine.now.processors (omega (arith, c.is_sound.ensures.processors, few, many)) in
-    let shares = ended_shares c.size.result steps (2 * steps + 1) c.of-family.result.value loads crew first ended in (
+    let shares = ended_shares c.size.result steps first loads crew first ended in (
       -- what lines leave together takes as much memory as a report
       c.requires-raw.1.1.1.1.1.1.1.1.0,
       (
-        subst (λ (family : LineState). All (λ ended. ended.1.table ≡ family.table) crew) c.of-family.ensures
-            (ended_tables c.size.result steps (2 * steps + 1) c.of-family.result.value loads crew ended),
+        ended_tables c.size.result steps first loads crew ended,
         omega (arith, shares, each, many, c.in_ok-first.ensures.first.shares, c.in_ok-first.ensures.first.whole),
       ),
     )
@@ -59,12 +57,11 @@ returns g c =
     let logs = c.in_ok-logs.field-0.logs.items in
     let ws = map worker_of logs in
     let channels = c.in_ok-logs.field-0.channels in
-    let family = c.of-family.result.value in
     let ended = c.in_ok-crew.ensures in
     let closed = c.in_ok-logs.ensures.channels in
     let few = most_processors p in
     let each : length loads ≡ vec_len c.in_ok-first.lines = length-take-le (vec_len c.in_ok-first.lines) processors (omega (arith, c.is_sound.ensures.processors, few, many)) in
-    let shares = ended_shares size steps (2 * steps + 1) family loads crew first ended in
+    let shares = ended_shares size steps first loads crew first ended in
     let whole = joined_whole first lines in
     let known : IsRecordedBy (all_joined first lines).log.entries (all_joined first lines).view.seen channels = closed.known.all_known (omega (arith, shares, whole, each, many, c.in_ok-first.ensures.first.shares, c.in_ok-first.ensures.first.whole)) in
     let opening : ℕ → List Event = λ k. opening_history k c.args.machine.now in
@@ -73,13 +70,13 @@ returns g c =
     let same : logs_of ws ≡ flat_map (λ l. l.log.entries) lines = flat_map-map (λ w. w.log.items) worker_of logs ∙ same_logs crew logs c.in_ok-logs.ensures.logs in
     let seen : All (λ l. (k : ℕ) → seen_on k l.view.seen ≤ length (history_on k channels)) lines = All-weaker (λ (l : LineState). SeesAtLeast l (all_joined first lines)) (λ (l : LineState). (k : ℕ) → seen_on k l.view.seen ≤ length (history_on k channels))
     (λ l less k. let all = known.counted k in let here = less k in omega (arith, all, here)) lines c.in_ok-logs.ensures.nothing_forgotten in
-    let has = subst (λ (line : LineState). HasSeen (λ k. length (opening k)) line) (sym c.of-family.ensures) c.in_ok-first.ensures.first.seen in
-    let begun = ended_begun size steps (2 * steps + 1) family loads crew (λ k. length (opening k)) has ended in
+    let has = c.in_ok-first.ensures.first.seen in
+    let begun = ended_begun size steps first loads crew (λ k. length (opening k)) has ended in
     let merged = merges_after opening channels first.log.entries (flat_map (λ l. l.log.entries) lines) c.in_ok-first.ensures.first.opening
     (subst (λ (log : List Entry). Merges no_opening channels log) (joined_entries first lines) closed.merged) in
     let in_order = c.in_ok-logs.ensures.order in
     let order : List Access = filter (is_late opening channels merged.begins) in_order.order in
-    let left = ended_left size steps (2 * steps + 1) family opening channels merged.begins has (λ k. length (history_on k channels)) in_order.order loads crew logs c.in_ok-logs.ensures.logs seen
+    let left = ended_left size steps first opening channels merged.begins has (λ k. length (history_on k channels)) in_order.order loads crew logs c.in_ok-logs.ensures.logs seen
     (All-tail (λ (l : LineState). ExtendsEach in_order.order l.view.program_orders) first lines in_order.program_orders) (All-tail (λ (l : LineState). IsDrawnFrom l.view.program_orders l.log.entries) first lines in_order.logs) ended in
     let writes : flat_map (λ l. l.view.written) (first ∷ lines) ≡ flat_map writes_among left.accesses = (λ j. c.in_ok-first.ensures.first.no_write j ++ left.written j) in record {
       each_processor = ap length given ∙ (AllZip-long (λ load w. IsWorker load size steps w) loads ws left.workers ∙ (each ∙ many));
@@ -100,11 +97,10 @@ returns g c =
       worn = rw given left.worn;
     }
 
-pub run_first-requires-after_bounds : goal.run_first-requires-after_bounds
-run_first-requires-after_bounds g c κs within = record {
+pub run_crew-requires-after_bounds : goal.run_crew-requires-after_bounds
+run_crew-requires-after_bounds g c κs within = record {
   each = c.is_sound.ensures.processors;
   count = let most = most_processors c.args.machine.now.profile in omega (arith, most, c.in_ok-first.ensures.each_processor, c.in_ok-first.lines.ok.0);
-  central = ap (λ (l : LineState). length l.view.central) c.of-family.ensures ∙ (ap length c.in_ok-first.ensures.first.central ∙ sym (c.size.ensures.value ∙ ap length c.central.ensures));
-  fresh = subst (λ (family : LineState). All (IsSplitFrom family (2 * c.args.limits.steps + 1)) c.in_ok-first.lines.items) (sym c.of-family.ensures)
-      (subst (λ (steps : ℕ). All (IsSplitFrom c.in_ok-first.first (2 * steps + 1)) c.in_ok-first.lines.items) c.steps.ensures.value c.in_ok-first.ensures.fresh);
+  central = ap length c.in_ok-first.ensures.first.central ∙ sym (c.size.ensures.value ∙ ap length c.central.ensures);
+  fresh = subst (λ (steps : ℕ). All (IsSplitFrom c.in_ok-first.first (2 * steps + 1)) c.in_ok-first.lines.items) c.steps.ensures.value c.in_ok-first.ensures.fresh;
 }

@@ -1,11 +1,16 @@
-use Rattle.std.proofs.Common.{rules, map, ap, sym, ◌∙◌}
-use Rattle.std.proofs.lemmas.List.{map-id}
+use Rattle.std.proofs.Common.{rules, arith, map, length, ap, sym, ◌∙◌}
+use Rattle.std.proofs.lemmas.List.{length-map, map-id}
 use Rattle.std.proofs.lemmas.Iterator.Adapters.{YieldsList-from_vec}
-use Rattle.std.proofs.lemmas.Iterator.Consumers.{YieldsList-end}
+use Rattle.std.proofs.lemmas.Iterator.Consumers.{YieldsList-end, YieldsList-turn}
 use Rattle.pp_runner.specs.Crew.{worker_of}
 use Rattle.pp_runner.proofs.worker.workers.Goals as goal
 
+pub push_reserved-requires : goal.push_reserved-requires
+push_reserved-requires g c =
+    let turn = YieldsList-turn (YieldsList-from_vec c.args.crew.items (search rules) (search rules)) c.loop-pp.yielded c.loop-pp.pp-iterator c.loop-pp.yielded_by _ c.next.new.self _ c.in-Some.is c.next.ensures.steps in
+    omega (arith, turn.0, ap length c.loop-pp.invariant.made, length-map c.loop-pp.yielded worker_of, c.loop-pp.workers.ok.0, c.args.crew.ok.0, c.loop-pp.invariant.room)
+
 pub returns : goal.returns
 returns g c =
-    let all = YieldsList-end (YieldsList-from_vec c.args.crew.items (search rules) (search rules)) c.loop-ended.yielded c.loop-ended.ended-iterator c.loop-ended.yielded_by _ c.next.new.self c.in-None.is c.next.ensures.steps in
-    c.loop-ended.invariant.made ∙ ap (map worker_of) (sym (map-id c.loop-ended.yielded) ∙ all.0)
+    let all = YieldsList-end (YieldsList-from_vec c.args.crew.items (search rules) (search rules)) c.loop-pp.yielded c.loop-pp.pp-iterator c.loop-pp.yielded_by _ c.next.new.self c.in-None.is c.next.ensures.steps in
+    c.loop-pp.invariant.made ∙ ap (map worker_of) (sym (map-id c.loop-pp.yielded) ∙ all.0)
