@@ -64,8 +64,7 @@ pub fn open_lines<A: Allocator + Copy>(alloc: A, room: u32, lines: u32) -> Resul
     ensures log { IfOk result (λ line. line.log ≡ empty_log room) }
     ensures view { IfOk result (λ line. line.view ≡ first_view lines []) }
 {
-    let central = Vec::new(alloc);
-    open_lines_beside(alloc, room, lines, central.as_slice())
+    open_lines_beside(alloc, room, lines, &[])
 }
 
 /// The same, beside central memory of these words, which the lines share too.
@@ -349,13 +348,8 @@ impl<A: Allocator + Copy> Line<A> {
     {
         self.words.check_shares(ChannelNo::at(0));
         let line = &self;
-        let others: Vec<((), Vec<Entry, A>), A> = Vec::new(line.alloc);
-        match recorded_channels(
-            line.alloc,
-            line.log.entries(),
-            others.as_slice(),
-            &line.seen,
-        ) {
+        let others: [((), Vec<Entry, A>); 0] = [];
+        match recorded_channels(line.alloc, line.log.entries(), &others, &line.seen) {
             Ok(channels) => Ok(channels),
             Err(memory) => Err((self, memory)),
         }

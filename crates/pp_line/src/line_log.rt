@@ -104,19 +104,16 @@ impl<A: Allocator> LineLog<A> {
         requires { 0 < self.old.room }
         ensures { self.new ≡ looked self.old (look_entry channel number flags) }
     {
+        let look = Entry {
+            channel,
+            number,
+            what: Seen::Saw(flags),
+        };
         if self.ends_in_look_at(channel) {
             let last = self.entries.len() - 1;
-            self.entries[last] = Entry {
-                channel,
-                number,
-                what: Seen::Saw(flags),
-            };
+            self.entries[last] = look;
         } else {
-            self.entries.push_reserved(Entry {
-                channel,
-                number,
-                what: Seen::Saw(flags),
-            });
+            self.entries.push_reserved(look);
             self.room -= 1;
         }
         self.kept = false;

@@ -133,7 +133,7 @@ fn unrecorded_histories<A: Allocator + Copy>(
 {
     let mut untold = Vec::with_capacity(alloc, CHANNELS)?;
     for count in seen {
-        untold.push(EventsByNumber::untold(alloc, *count)?)?;
+        untold.push_reserved(EventsByNumber::untold(alloc, *count)?);
     }
     Ok(untold)
 }

@@ -53,7 +53,7 @@ impl<A: Allocator + Copy> Line<A> {
         let mut logs = Vec::with_capacity(alloc, others.len())?;
         for (value, other) in others {
             let log = absorb(&mut words, &mut seen, other);
-            logs.push((value, log))?;
+            logs.push_reserved((value, log));
         }
         words.check_shares(ChannelNo::at(0));
         let channels = recorded_channels(alloc, log.entries(), logs.as_slice(), &seen)?;

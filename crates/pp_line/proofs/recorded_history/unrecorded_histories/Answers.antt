@@ -9,11 +9,12 @@ loop-count-preserved g c =
     let index = c.loop-count.count-index in
     let h = c.in_ok-untold-2.field-0 in
     let each = c.loop-count.invariant.each in record {
-      each = ap length c.in_ok-push.ensures.items ∙ (length-append before (h ∷ []) ∙ ap (λ (n : ℕ). n + 1) each);
-      room = below_more (λ p. length (get_or c.push.new.self.items p []) ≡ get_or c.args.seen.now p 0) index
-          (λ p low. ap (λ hs. length (get_or hs p [])) c.in_ok-push.ensures.items ∙ (ap length (get_or_append_left before (h ∷ []) [] p (omega (arith, low, each))) ∙ c.loop-count.invariant.room p low))
-          (ap (λ hs. length (get_or hs index [])) c.in_ok-push.ensures.items ∙ (ap (λ n. length (get_or (before ++ h ∷ []) n [])) (sym each) ∙ (ap length (get_or-append_seam before h [] []) ∙ c.in_ok-untold-2.ensures)));
+      each = ap length c.push_reserved.ensures.items ∙ (length-append before (h ∷ []) ∙ ap (λ (n : ℕ). n + 1) each);
+      room = c.push_reserved.ensures.capacity ∙ c.loop-count.invariant.room;
+      events = below_more (λ p. length (get_or c.push_reserved.new.self.items p []) ≡ get_or c.args.seen.now p 0) index
+          (λ p low. ap (λ hs. length (get_or hs p [])) c.push_reserved.ensures.items ∙ (ap length (get_or_append_left before (h ∷ []) [] p (omega (arith, low, each))) ∙ c.loop-count.invariant.events p low))
+          (ap (λ hs. length (get_or hs index [])) c.push_reserved.ensures.items ∙ (ap (λ n. length (get_or (before ++ h ∷ []) n [])) (sym each) ∙ (ap length (get_or-append_seam before h [] []) ∙ c.in_ok-untold-2.ensures)));
     }
 
 pub returns-clause-each_event : goal.returns-clause-each_event
-returns-clause-each_event g c = λ place below. c.loop-count.invariant.room place (omega (arith, below, c.loop-count-test.false))
+returns-clause-each_event g c = λ place below. c.loop-count.invariant.events place (omega (arith, below, c.loop-count-test.false))

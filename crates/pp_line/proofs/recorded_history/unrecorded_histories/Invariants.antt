@@ -1,8 +1,10 @@
-use Rattle.std.proofs.Common.{◌≡◌, ℕ, ◌<◌, [], length, get_or}
+use Rattle.std.proofs.Common.{◌≡◌, ℕ, ◌<◌, [], length, get_or, vec_capacity}
+use Rattle.pp_numbers.specs.ChannelNo.{channel_count}
 use Rattle.pp_line.proofs.recorded_history.unrecorded_histories.Given as goal
 
 abbrev pub invariant-loop-count : goal.invariant-loop-count
 invariant-loop-count g l = record {
   each : length l.untold.items ≡ l.count-index;
-  room : (p : ℕ) → p < l.count-index → length (get_or l.untold.items p []) ≡ get_or l.seen p 0;
+  room : vec_capacity l.untold ≡ channel_count;
+  events : (p : ℕ) → p < l.count-index → length (get_or l.untold.items p []) ≡ get_or l.seen p 0;
 }

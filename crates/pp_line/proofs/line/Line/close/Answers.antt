@@ -1,5 +1,4 @@
-use Rattle.std.proofs.Common.{rules, ◌≡◌, ℕ, List, [], ◌∷◌, ◌++◌, sym, ap, ◌∙◌, subst}
-use Rattle.std.specs.List.{flat_map}
+use Rattle.std.proofs.Common.{rules, ℕ, List, [], ◌∷◌, ◌++◌, sym, ap, ◌∙◌, subst}
 use Rattle.std.proofs.lemmas.List.{append-nil}
 use Rattle.pp_line.specs.Types.{Entry, Event, LineView}
 use Rattle.pp_line.specs.Merge.{IsRecordedBy}
@@ -14,16 +13,15 @@ use Rattle.std.proofs.lemmas.List.Elements.{All-cons, All-nil}
 use Rattle.pp_line.proofs.line.Line.close.Goals as goal
 
 -- a log, and no others
-alone : {X : Type 0} (f : X → List Entry) (seen : List ℕ) (histories : List (List Event)) (log : List Entry) (others : List X) → others ≡ [] → IsRecordedBy log seen histories → IsRecordedBy (log ++ flat_map f others) seen histories
-alone f seen histories log others none told = rw none (subst (λ (l : List Entry). IsRecordedBy l seen histories) (sym (append-nil log)) told)
+alone : (seen : List ℕ) (histories : List (List Event)) (log : List Entry) → IsRecordedBy log seen histories → IsRecordedBy (log ++ []) seen histories
+alone seen histories log told = subst (λ (l : List Entry). IsRecordedBy l seen histories) (sym (append-nil log)) told
 
 pub recorded_channels-requires : goal.recorded_channels-requires
 recorded_channels-requires g c =
     let tells = c.check_shares.ensures.tells.1 in
     let all = ap (λ (line : LineState). line.view.shares) c.self.view_is ∙ (c.requires ∙ sym (ap (λ (line : LineState). line.view.whole) c.self.view_is)) in
-    let none : c.as_slice.result.now ≡ [] = search rules in
     let told = told_whole c.self.invariant.3 tells all in
-    (search rules, (tells.histories, alone _ _ tells.histories _ _ none (rw (c.entries.ensures, c.self.invariant.0) told)))
+    (search rules, (tells.histories, alone _ tells.histories _ (rw (c.entries.ensures, c.self.invariant.0) told)))
 
 pub invariant_of-self : goal.invariant_of-self
 invariant_of-self g c =
@@ -39,8 +37,7 @@ returns-in-Ok g c =
     let tells = c.check_shares.ensures.tells.1 in
     let all = ap (λ (line : LineState). line.view.shares) c.self.view_is ∙ (c.requires ∙ sym (ap (λ (line : LineState). line.view.whole) c.self.view_is)) in
     let known = subst (λ (line : LineState). Knows line.view line.log.entries tells.histories) c.self.view_is (knows_by_log c.self.invariant.3 tells.known) in
-    let none : c.as_slice.result.now ≡ [] = search rules in
-    let same = (c.in-Ok.ensures) tells.histories (alone _ _ tells.histories _ _ none (rw (c.entries.ensures, c.self.invariant.0) (told_whole c.self.invariant.3 tells all))) in
+    let same = (c.in-Ok.ensures) tells.histories (alone _ tells.histories _ (rw (c.entries.ensures, c.self.invariant.0) (told_whole c.self.invariant.3 tells all))) in
     let program_orders = ap (λ (line : LineState). line.view.program_orders) c.self.view_is ∙ sym (append-nil c.args.self.view.program_orders) in
     let log_of = subst (λ (line : LineState). IsLogOf line.view line.log.entries) c.self.view_is c.self.invariant.3 in record {
       ok = subst (λ (hs : List (List Event)). AreClosed c.args.self hs) (sym same) (closed_by c.args.self tells.histories known c.requires);
