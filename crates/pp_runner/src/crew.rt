@@ -47,7 +47,11 @@ enum Begun<A: Allocator> {
     Apart(PromisedHandle<(Ended<A>, Line<A>), EndOf<A>>),
 }
 
+// The calls nest once for each worker. If these two were compiled in place, each level would hold
+// the stack of both.
+
 /// Begins a worker: the first in this thread, and so one at rest, which makes no step.
+#[inline(never)]
 fn begin<'s, 'e: 's, G: Gate + Sync, A: Allocator + Copy + Send + Sync>(
     scope: &Scope<'s, &'e ()>,
     site: &'e Site<A>,
@@ -79,9 +83,6 @@ fn begin<'s, 'e: 's, G: Gate + Sync, A: Allocator + Copy + Send + Sync>(
     )?;
     Ok(Begun::Apart(child))
 }
-
-// The calls nest once for each worker. If this were compiled in place, each level would hold its
-// stack.
 
 /// Runs a worker that is to run here, or waits for its thread.
 #[inline(never)]

@@ -35,19 +35,12 @@ pub fn workers<A: Allocator>(
     ensures { IfOk result (λ workers. workers.items ≡ map worker_of crew.items) }
 {
     let mut workers = Vec::with_capacity(alloc, crew.len())?;
-    for (
-        Ended {
-            pp,
-            answers,
-            finish,
-        },
-        log,
-    ) in crew {
+    for (ended, log) in crew {
         workers.push_reserved(Worker {
-            pp,
+            pp: ended.pp,
             log,
-            answers,
-            finish,
+            answers: ended.answers,
+            finish: ended.finish,
         });
     }
     Ok(workers)

@@ -7,10 +7,10 @@ use Rattle.pp_runner.proofs.worker.workers.Goals as goal
 
 pub push_reserved-requires : goal.push_reserved-requires
 push_reserved-requires g c =
-    let turn = YieldsList-turn (YieldsList-from_vec c.args.crew.items (search rules) (search rules)) c.loop-pp.yielded c.loop-pp.pp-iterator c.loop-pp.yielded_by _ c.next.new.self _ c.in-Some.is c.next.ensures.steps in
-    omega (arith, turn.0, ap length c.loop-pp.invariant.made, length-map c.loop-pp.yielded worker_of, c.loop-pp.workers.ok.0, c.args.crew.ok.0, c.loop-pp.invariant.room)
+    let turn = YieldsList-turn (YieldsList-from_vec c.args.crew.items (search rules) (search rules)) c.loop-ended.yielded c.loop-ended.ended-iterator c.loop-ended.yielded_by _ c.next.new.self _ c.in-Some.is c.next.ensures.steps in
+    omega (arith, turn.0, ap length c.loop-ended.invariant.made, length-map c.loop-ended.yielded worker_of, c.loop-ended.workers.ok.0, c.args.crew.ok.0, c.loop-ended.invariant.room)
 
 pub returns : goal.returns
 returns g c =
-    let all = YieldsList-end (YieldsList-from_vec c.args.crew.items (search rules) (search rules)) c.loop-pp.yielded c.loop-pp.pp-iterator c.loop-pp.yielded_by _ c.next.new.self c.in-None.is c.next.ensures.steps in
-    c.loop-pp.invariant.made ∙ ap (map worker_of) (sym (map-id c.loop-pp.yielded) ∙ all.0)
+    let all = YieldsList-end (YieldsList-from_vec c.args.crew.items (search rules) (search rules)) c.loop-ended.yielded c.loop-ended.ended-iterator c.loop-ended.yielded_by _ c.next.new.self c.in-None.is c.next.ensures.steps in
+    c.loop-ended.invariant.made ∙ ap (map worker_of) (sym (map-id c.loop-ended.yielded) ∙ all.0)
