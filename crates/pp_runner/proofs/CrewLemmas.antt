@@ -22,7 +22,7 @@ use Rattle.pp_runner.proofs.LabourLemmas.{work_begun}
 use Rattle.pp_runner.proofs.LogLemmas.{stands_done}
 use Rattle.pp_runner.proofs.LineLemmas.{operated_least, same_line_still, same_line_twice}
 use Rattle.pp_runner.specs.Crew.{AreReady, IsEnded, HasEnded, HasOpened}
-use Rattle.pp_runner.specs.Labour.{IsAtWork, IsUnused, HasSeen, IsSameLine, HasOperated}
+use Rattle.pp_runner.specs.Labour.{IsAtWork, HasSeen, IsSameLine, HasOperated}
 use Rattle.pp_runner.specs.End.{IsEnd, WornWithCause}
 use Rattle.pp_runner.specs.WorkerReport.{events_in, sights_in}
 use Rattle.pp_runner.specs.declared.end.End.TheVariants.{Patience}
@@ -103,15 +103,6 @@ taken_of m size steps family line lines others is ready =
       fresh_others = parts.0;
       central = ready.central;
     }
-
--- nothing was asked of a line that was split from others
-pub split_unused : (size steps : ℕ) (family line : LineState) → IsSplitFrom family (2 * steps + 1) line → length family.view.central ≡ size → IsUnused size steps line
-split_unused size steps family line fresh central = record {
-  log = fresh.log;
-  central = ap (λ v. length v.central) fresh.view ∙ central;
-  written = ap (λ v. v.written) fresh.view;
-  program_orders = ap (λ v. v.program_orders) fresh.view;
-}
 
 -- those before the last are ready too
 pub ready_before : (m : MachineState) (size steps : ℕ) (family line : LineState) (others : List LineState) → IsTaken m size steps family line others → AreReady m size steps family others

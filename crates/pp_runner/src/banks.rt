@@ -1,7 +1,7 @@
 //! The banks of locked central memory.
 
-ghost use Rattle.std.specs.Prelude.{◌≡◌, ◌<◌, IfOk, replicate, slice_index, slice_set};
-ghost use Rattle.pp_runner.specs.Banks.{StandsAt, IsBankOf};
+ghost use Rattle.std.specs.Prelude.{◌≡◌, ◌<◌, ◌+◌, ◌*◌, ℕ, IfOk, replicate, slice_index, slice_set};
+ghost use Rattle.pp_runner.specs.Banks.{StandsAt};
 
 use pp_channel::Memory;
 use pp_machine::Central;
@@ -81,7 +81,8 @@ impl<A: Allocator> Bank<A> {
     /// The words of central memory that stand in this bank.
     pub fn of(alloc: A, central: &Central<A>, bank: usize) -> Result<Self, Memory>
         requires { bank < 32 }
-        ensures { IfOk result (IsBankOf bank central.now) }
+        ensures { IfOk result (λ words. (place : ℕ) → place < 4096
+            → slice_index words place ≡ slice_index central.now (32 * place + bank)) }
     {
         let mut filled = Bank::empty(alloc)?;
         for place in 0..BANK_WORDS {
