@@ -41,10 +41,7 @@ impl<A: Allocator> ChannelAuthors<A> {
     pub(crate) fn of(&self, number: usize) -> Option<PpNo>
         ensures { result ≡ slice_index_or self.now number None }
     {
-        match self.by_number.get(number) {
-            Some(author) => *author,
-            None => None,
-        }
+        *self.by_number.get(number)?
     }
 
     /// Marks an event, if it has no author yet.
@@ -86,7 +83,7 @@ fn unknown_authors<A: Allocator + Copy>(
 {
     let mut authors = Vec::with_capacity(alloc, CHANNELS)?;
     for channel in channels {
-        authors.push(ChannelAuthors::unknown(alloc, channel.history().len())?)?;
+        authors.push_reserved(ChannelAuthors::unknown(alloc, channel.history().len())?);
     }
     Ok(authors)
 }
