@@ -12,7 +12,7 @@ use Rattle.pp_runner.proofs.labour.Labour.take_step.Goals as goal
 
 pub returns-then-is_err : goal.returns-then-is_err
 returns-then-is_err g c = record {
-  work = subst (λ (xs : List Answer). IsAtWork c.args.load.now c.args.site.now.size c.args.site.now.limits.steps c.args.self.now.pp xs c.args.self.now.line) (sym c.reserve.ensures.items) c.requires.work;
+  work = subst (λ (xs : List Answer). IsAtWork c.args.load.now c.args.site.now.size c.args.site.now.limits.steps c.args.self.now.pp xs c.args.self.now.line) (sym {A = List Answer} c.reserve.ensures.items) c.requires.work;
   same_line = same_line_still _;
   operated = operated_tries c.args.self.now.tries c.args.self.now.tries 0 (operations (need c.args.self.now.pp)) c.args.self.now.line c.args.self.now.line (omega arith) (operated_none _ _);
   few_tries = (omega arith, omega arith);
@@ -27,7 +27,7 @@ returns-then-is_err g c = record {
 
 pub loop-held-init : goal.loop-held-init
 loop-held-init g c = record {
-  work = subst (λ (xs : List Answer). IsAtWork c.args.load.now c.args.site.now.size c.args.site.now.limits.steps c.args.self.now.pp xs c.args.self.now.line) (sym c.reserve.ensures.items) c.requires.work;
+  work = subst (λ (xs : List Answer). IsAtWork c.args.load.now c.args.site.now.size c.args.site.now.limits.steps c.args.self.now.pp xs c.args.self.now.line) (sym {A = List Answer} c.reserve.ensures.items) c.requires.work;
   same_line = same_line_still _;
   same_pp = refl;
   same_answers = c.reserve.ensures.items;

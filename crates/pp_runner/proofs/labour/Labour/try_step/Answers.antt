@@ -1,4 +1,4 @@
-use Rattle.std.proofs.Common.{◌≡◌, ℕ, List, length, refl, sym, ◌∙◌, subst, arith, rules}
+use Rattle.std.proofs.Common.{◌≡◌, ℕ, List, length, refl, sym, ◌∙◌, subst, arith}
 use Rattle.pp_machine.specs.NeedAndEffect.{need}
 use Rattle.pp_runner.specs.Types.{Answer, Need}
 use Rattle.pp_runner.specs.Labour.{IsAtWork, IsAnswered}
@@ -15,7 +15,7 @@ returns-in-Held g c =
     c.requires.work (omega (arith, c.args.self.now.answers.ok.0, c.requires.steps_left)) told (c.give.ensures.held_by_channel c.in-Held.is) same in record {
       work = held.work;
       same_line = c.ask-told.ensures.same_line;
-      operated = search rules;
+      operated = rw c.wants.ensures.need at c.ask-told.ensures.operated;
       tries = refl;
       moved = λ is. absurd cc;
       held = λ is. (same, refl, held.was);
@@ -27,7 +27,7 @@ returns-in-Moved-clause-work g c =
     let told : IsAnswered c.args.site.now.size (need c.args.self.now.pp) c.in-Ok.answer c.args.self.now.line c.ask-told.new.line =
     subst (λ (size : ℕ). IsAnswered size (need c.args.self.now.pp) c.in-Ok.answer c.args.self.now.line c.ask-told.new.line) c.requires.central
     (subst (λ (n : Need). IsAnswered (length c.args.self.now.line.view.central) n c.in-Ok.answer c.args.self.now.line c.ask-told.new.line) c.wants.ensures.need (rw c.in-Ok.is at c.ask-told.ensures.answered)) in
-    subst (λ (xs : List Answer). IsAtWork c.args.load.now c.args.site.now.size c.args.site.now.limits.steps c.note.new.self.pp xs c.note.new.self.line) (sym c.note.ensures.items)
+    subst (λ (xs : List Answer). IsAtWork c.args.load.now c.args.site.now.size c.args.site.now.limits.steps c.note.new.self.pp xs c.note.new.self.line) (sym {A = List Answer} c.note.ensures.items)
     (work_moved c.args.load.now c.args.site.now.size c.args.site.now.limits.steps c.args.self.now.pp c.note.new.self.pp c.args.self.now.answers.items c.in-Ok.answer c.args.self.now.line c.ask-told.new.line c.note.new.self.line
     c.requires.work (omega (arith, c.args.self.now.answers.ok.0, c.requires.steps_left)) told (sym c.give.ensures.outcome ∙ c.in-Moved.is) (c.note.ensures.pp ∙ c.give.ensures.after) c.note.ensures.line)
 
