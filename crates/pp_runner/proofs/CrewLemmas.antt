@@ -1,8 +1,6 @@
 -- A worker and its line more.
 use Rattle.std.proofs.Common.{◌≡◌, ℕ, ◌+◌, ◌-◌, ◌*◌, ◌<◌, ◌≤◌, List, [], ◌∷◌, ◌++◌, length, take, sym, ap, ◌∙◌, subst, arith}
 use Rattle.std.specs.Prelude.{Some, All, slice_index_or}
-use Rattle.std.specs.List.{AllZip}
-use Rattle.pp_line.proofs.JoinedLines.{zip_push}
 use Rattle.std.proofs.lemmas.List.{take_more, length-append}
 use Rattle.std.proofs.lemmas.List.Elements.{All-pop, All-push, All-weaker}
 use Rattle.pp_word.specs.Subsequence.{IsSubsequence}
@@ -21,7 +19,7 @@ use Rattle.pp_machine.specs.Replay.{looks_and_events}
 use Rattle.pp_runner.proofs.LabourLemmas.{work_begun}
 use Rattle.pp_runner.proofs.LogLemmas.{stands_done}
 use Rattle.pp_runner.proofs.LineLemmas.{operated_least, same_line_still, same_line_twice}
-use Rattle.pp_runner.specs.Crew.{AreReady, IsEnded, HasEnded, HasOpened}
+use Rattle.pp_runner.specs.Crew.{AreReady, IsEnded, HasOpened}
 use Rattle.pp_runner.specs.Labour.{IsAtWork, HasSeen, IsSameLine, HasOperated}
 use Rattle.pp_runner.specs.End.{IsEnd, WornWithCause}
 use Rattle.pp_runner.specs.WorkerReport.{events_in, sights_in}
@@ -82,9 +80,9 @@ pub not_given_up : {A : Type 0} (patience : ℕ) (line : LineState) (finish : En
 not_given_up patience line finish ended other was = λ is. absurd (other (sym was ∙ is))
 
 -- the first processors, with the one that comes next
-processors_push : (m : MachineState) (n place : ℕ) → processor_index n ≡ place → place < length m.processors → take (place + 1) m.processors ≡ take place m.processors ++ processor_of n m ∷ []
-processors_push m n place at below =
-    take_more m.processors place no_processor below ∙ ap (λ k. take place m.processors ++ slice_index_or m.processors k no_processor ∷ []) (sym at)
+pub processors_push : (m : MachineState) (n left total : ℕ) (load : Processor) → processor_index n ≡ left → left < length m.processors → total ≡ left + 1 → load ≡ processor_of n m → take total m.processors ≡ take left m.processors ++ load ∷ []
+processors_push m n left total load at below sum is =
+    rw (sum, is) (take_more m.processors left no_processor below ∙ ap (λ k. take left m.processors ++ slice_index_or m.processors k no_processor ∷ []) (sym at))
 
 -- the last line, and those before it
 pub record IsTaken (m : MachineState) (size steps : ℕ) (family line : LineState) (others : List LineState) : Type 0 where
@@ -112,17 +110,6 @@ ready_before m size steps family line others taken = record {
   fresh = taken.fresh_others;
   central = taken.central;
 }
-
--- workers, and the one behind them
-pub ended_beside : {A : Type 0} (m : MachineState) (n size steps left total : ℕ) (family line : LineState) (others : List LineState) (crew after : List (Ended A × LineState)) (last : Ended A × LineState)
-    → IsTaken m size steps family line others → processor_index n ≡ left → left ≡ length others → total ≡ left + 1
-    → HasEnded size steps family (processor_of n m) last → AllZip (HasEnded size steps family) (take left m.processors) crew → after ≡ crew ++ last ∷ []
-    → AllZip (HasEnded size steps family) (take total m.processors) after
-ended_beside {A} m n size steps left total family line others crew after last taken at those sum one all after_is =
-    let loads : take (left + 1) m.processors ≡ take left m.processors ++ processor_of n m ∷ [] = processors_push m n left at (omega (arith, taken.count, those, taken.each)) in
-    let ended : AllZip (HasEnded size steps family) (take left m.processors ++ processor_of n m ∷ []) (crew ++ last ∷ []) =
-    zip_push (HasEnded size steps family) (take left m.processors) crew (processor_of n m) last all one in
-    rw (sum, loads, after_is) ended
 
 -- a line that gives a share to another has one less, and has opened what it had
 pub opened_split : (m : MachineState) (all some : ℕ) (first after : LineState) → after ≡ record first { view = parent_view first.view } → HasOpened m all some first → HasOpened m all (some - 1) after

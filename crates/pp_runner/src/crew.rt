@@ -1,9 +1,10 @@
 //! Runs the workers at once; those at rest need no thread.
 
-ghost use Rattle.std.specs.Prelude.{◌≡◌, ◌+◌, ◌*◌, take, length, vec_len, IfOk};
+ghost use Rattle.std.specs.Prelude.{◌≡◌, ◌+◌, ◌*◌, ◌++◌, ◌∷◌, [], List, take, length, vec_len, IfOk};
 ghost use Rattle.std.specs.List.{AllZip};
 ghost use denote.Param.Send.{IsSync, IsSend, Frees};
 ghost use Rattle.pp_line.specs.LineState.{IsSplitFrom};
+ghost use Rattle.pp_machine.specs.Processor.{Processor};
 ghost use Rattle.pp_runner.specs.Crew.{IsEnded, HasEnded, AreReady, HasBegun};
 ghost use Rattle.pp_runner.specs.Labour.{IsUnused};
 
@@ -84,7 +85,7 @@ fn begin<'s, 'e: 's, G: Gate + Sync, A: Allocator + Copy + Send + Sync>(
     Ok(Begun::Apart(child))
 }
 
-/// Runs a worker that is to run here, or waits for its thread.
+/// Runs a worker that is to run here, or waits for its thread, and puts it behind the others.
 #[inline(never)]
 fn finish<R: Threads, G: Gate, A: Allocator + Copy>(
     rt: &R,
@@ -94,15 +95,22 @@ fn finish<R: Threads, G: Gate, A: Allocator + Copy>(
     load: &Pp,
     family: &Line<A>,
     begun: Begun<A>,
-) -> (Ended<A>, Line<A>)
+    others: Result<Crew<A>, RunFault>,
+) -> Result<Crew<A>, RunFault>
     requires begun { HasBegun load.now site.now.size site.now.limits.steps family.now begun }
     requires central { length family.now.view.central ≡ site.now.size }
-    ensures { HasEnded site.now.size site.now.limits.steps family.now load.now result }
+    ensures { (loads : List Processor) → IfOk others (λ crew. AllZip
+        (HasEnded site.now.size site.now.limits.steps family.now) loads crew.items)
+        → IfOk result (λ crew. AllZip (HasEnded site.now.size site.now.limits.steps family.now)
+        (loads ++ load.now ∷ []) crew.items) }
 {
-    match begun {
+    let last = match begun {
         Begun::Here(line) => work(site, gate, number, load, line),
         Begun::Apart(child) => child.join(rt),
-    }
+    };
+    let mut crew = others?;
+    crew.push(last)?;
+    Ok(crew)
 }
 
 /// Begins the worker on the last line, runs those before it, and waits for it.
@@ -126,10 +134,7 @@ fn run_lines<'s, 'e: 's, R: Threads, G: Gate + Sync, A: Allocator + Copy + Send 
     let load = machine.pp(number);
     let begun = begin(scope, site, gate, number, load, family, line)?;
     let others = run_lines(rt, scope, site, gate, machine, family, lines);
-    let last = finish(rt, site, gate, number, load, family, begun);
-    let mut crew = others?;
-    crew.push(last)?;
-    Ok(crew)
+    finish(rt, site, gate, number, load, family, begun, others)
 }
 
 /// Runs the workers of the barrel's first processors at once, one on each line.

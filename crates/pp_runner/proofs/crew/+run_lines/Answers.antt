@@ -1,6 +1,8 @@
-use Rattle.std.proofs.Common.{◌∙◌, subst, vec_len, arith}
+use Rattle.std.proofs.Common.{◌≡◌, ◌+◌, ◌∙◌, List, take, subst, sym, vec_len, arith}
+use Rattle.std.specs.Prelude.{IfOk}
+use Rattle.std.specs.List.{AllZip}
 use Rattle.pp_machine.specs.Processor.{Processor}
-use Rattle.pp_runner.proofs.CrewLemmas.{taken_of, ready_before, ended_beside}
+use Rattle.pp_runner.proofs.CrewLemmas.{taken_of, ready_before, processors_push}
 use Rattle.pp_runner.specs.Crew.{HasEnded}
 use Rattle.pp_runner.proofs.crew.+run_lines.Goals as goal
 
@@ -15,8 +17,8 @@ run_lines-others-requires-after_bounds g t c κs within =
 
 pub returns : goal.returns
 returns g t c =
-    ended_beside c.args.machine.now c.at-number.result c.args.site.now.size c.args.site.now.limits.steps (vec_len c.pop.new.self) (vec_len c.args.lines)
-    c.args.family.now c.in-Some.line c.pop.new.self.items c.in_ok-crew.crew.items c.push.new.self.items c.finish-last.result
-    (taken_of c.args.machine.now c.args.site.now.size c.args.site.now.limits.steps c.args.family.now c.in-Some.line c.args.lines.items c.pop.new.self.items c.in-Some.ensures.items c.requires)
-    (c.at-number.ensures.place ∙ c.len.ensures) c.pop.new.self.ok.0 (omega (arith, c.in-Some.ensures.len))
-    (subst (λ (load : Processor). HasEnded c.args.site.now.size c.args.site.now.limits.steps c.args.family.now load c.finish-last.result) c.pp-load.ensures c.finish-last.ensures) c.in_ok-crew.ensures c.in_ok-push.ensures.items
+    let left = vec_len c.pop.new.self in
+    let processors = c.args.machine.now.processors in
+    let sum : vec_len c.args.lines ≡ left + 1 = omega (arith, c.in-Some.ensures.len) in
+    let loads = processors_push c.args.machine.now c.at-number.result left (vec_len c.args.lines) c.pp-load.result.now (c.at-number.ensures.place ∙ c.len.ensures) (omega (arith, sum, c.args.lines.ok.0, c.requires.count, c.requires.each)) sum c.pp-load.ensures in
+    subst (λ (ls : List Processor). IfOk c.finish.result (λ crew. AllZip (HasEnded c.args.site.now.size c.args.site.now.limits.steps c.args.family.now) ls crew.items)) (sym loads) (c.finish.ensures (take left processors) c.run_lines-others.ensures)
