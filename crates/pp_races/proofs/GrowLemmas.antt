@@ -37,19 +37,21 @@ forgotten w = record w { findings = [] }
 pub record IsBehind (some : List Finding) (now other : Watch) : Type 0 where
   pub missed : now.missed ≡ other.missed
   pub looks : now.looks ≡ other.looks
+  pub wrote : now.wrote ≡ other.wrote
+  pub used : now.used ≡ other.used
   pub findings : now.findings ≡ some ++ other.findings
 
 behind_asked : (n c : ℕ) (op : ChanOp) (o : Option Event) (m : MachineState) (w : Watch) → IsBehind w.findings (asked n c op o m w) (asked n c op o m (forgotten w))
-behind_asked n c op (Some event) m w = record { missed = refl; looks = refl; findings = append_assoc w.findings _ _ }
+behind_asked n c op (Some event) m w = record { missed = refl; looks = refl; wrote = refl; used = refl; findings = append_assoc w.findings _ _ }
 behind_asked n c op None m w = by_wait (waits_at op (processor_of n m) (flags_of (history_of c m)))
   where
     by_wait : (b : Bool) → IsBehind w.findings (if b then w else looked n c op m w) (if b then forgotten w else looked n c op m (forgotten w))
-    by_wait true = record { missed = refl; looks = refl; findings = sym (append-nil w.findings) }
-    by_wait false = record { missed = refl; looks = refl; findings = refl }
+    by_wait true = record { missed = refl; looks = refl; wrote = refl; used = refl; findings = sym (append-nil w.findings) }
+    by_wait false = record { missed = refl; looks = refl; wrote = refl; used = refl; findings = refl }
 
 pub behind : (x : Need) (n : ℕ) (m : MachineState) (w : Watch) → IsBehind w.findings (watched_need x n m w) (watched_need x n m (forgotten w))
 behind (Need.Channel c op) n m w = behind_asked n c op (event_of op (history_of c m)) m w
-behind other n m w = record { missed = refl; looks = refl; findings = sym (append-nil w.findings) }
+behind other n m w = record { missed = refl; looks = refl; wrote = refl; used = refl; findings = sym (append-nil w.findings) }
 
 -- the tables after a step, of which the findings are taken away
 pub forgets : (some : List Finding) (m : MachineState) (now other : Watch) (low : List Low) (looks : List Looks) (found : List Finding) → IsBehind some now other → AreWatched m other low looks found
@@ -60,12 +62,11 @@ forgets some m now other low looks found is are = record {
   found_are = refl;
 }
 
--- who used central words does not depend on what was found
-pub uses_forgotten : (w : Watch) (uses : List WordUse) → AreUses w uses → AreUses (forgotten w) uses
-uses_forgotten w uses are a low = record { wrote = (are a low).wrote; used = (are a low).used }
-
-pub uses_remembered : (w : Watch) (uses : List WordUse) → AreUses (forgotten w) uses → AreUses w uses
-uses_remembered w uses are a low = record { wrote = (are a low).wrote; used = (are a low).used }
+pub forgets_uses : (some : List Finding) (now other : Watch) (uses : List WordUse) → IsBehind some now other → AreUses other uses → AreUses (forgotten now) uses
+forgets_uses some now other uses is are a low = record {
+  wrote = λ q named. (are a low).wrote q named ∙ ap (λ (f : ℕ → ℕ → Bool). f a q) (sym is.wrote);
+  used = λ q named. (are a low).used q named ∙ ap (λ (f : ℕ → ℕ → Bool). f a q) (sym is.used);
+}
 
 -- ---- what is found of a run so far
 

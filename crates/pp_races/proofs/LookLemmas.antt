@@ -1,5 +1,5 @@
 -- What a look leaves in the tables.
-use Rattle.std.proofs.Common.{◌≡◌, ℕ, ◌<◌, ◌≤◌, Bool, true, IsTrue, List, [], ◌++◌, length, drop, slice_set, get_or, Option, Some, None, refl, sym, ap, ◌∙◌, subst, inl, inr, append-nil, arith}
+use Rattle.std.proofs.Common.{◌≡◌, ℕ, ◌<◌, ◌≤◌, Bool, true, IsTrue, List, [], ◌∷◌, ◌++◌, length, drop, slice_set, get_or, Option, Some, None, refl, sym, ap, ◌∙◌, subst, inl, inr, append-nil, arith}
 use Rattle.std.specs.Prelude.{◌⊎◌, if◌then◌else◌}
 use Rattle.std.specs.Option.{option_or}
 use Rattle.std.proofs.lemmas.List.{get_or_default, get_or-set_same}
@@ -16,12 +16,14 @@ use Rattle.pp_machine.specs.Processor.{Processor}
 use Rattle.pp_machine.specs.declared.need.Need.{Need}
 use Rattle.pp_machine.specs.declared.need.Need.TheVariants.{Channel}
 use Rattle.pp_machine.specs.declared.trace.Trace.{Trace}
+use Rattle.pp_run.proofs.Moments.{run_central}
 use Rattle.pp_run.proofs.StepFacts.{histories_by, histories_none, trace_by, trace_with}
 use Rattle.pp_races.specs.FlagSets.{has, look_at, no_looks}
 use Rattle.pp_races.specs.OtherFlags.{found_at, is_alike, is_race, waits_at}
 use Rattle.pp_races.specs.Spans.{IsIndex}
-use Rattle.pp_races.specs.Tables.{AreLow, AreLooks, AreWatched, IsLow, entry_count, entry_place, flags_through, looks_of, low_of, missed_at, no_low}
+use Rattle.pp_races.specs.Tables.{AreLow, AreLooks, AreUses, AreWatched, IsLow, entry_count, entry_place, flags_through, looks_of, low_of, missed_at, no_low}
 use Rattle.pp_races.specs.Watch.{Missed, Watch, asked, asking_step, first_race, from_alike, looked, race_before, watched_need}
+use Rattle.pp_races.specs.WatchTables.{AreTables}
 use Rattle.pp_races.specs.declared.asking_step.AskingStep.{AskingStep}
 use Rattle.pp_races.specs.declared.finding.Finding.{Finding}
 use Rattle.pp_races.specs.declared.flag_set.FlagSet.{FlagSet}
@@ -29,6 +31,7 @@ use Rattle.pp_races.specs.declared.looks.Looks.{Looks}
 use Rattle.pp_races.specs.declared.latest.Latest.{Latest}
 use Rattle.pp_races.specs.declared.low.Low.{Low}
 use Rattle.pp_races.specs.declared.span.Span.{Span}
+use Rattle.pp_races.specs.declared.watch_tables.WatchTables.{WatchTables}
 use Rattle.pp_races.proofs.EntryLemmas.{here_or_not, put_here, put_other, set_other}
 use Rattle.pp_races.proofs.LowLemmas.{first_race_same, from_alike_same}
 
@@ -200,3 +203,18 @@ pub off_watched : (x : Need) (m : MachineState) (w : Watch) (n : ℕ) (low : Lis
     → AreWatched m w low looks found → AreWatched (stepped n m) (watched_need x n m w) low looks found
 off_watched (Channel c op) m w n low looks found e off are = absurd (asks_one c op off)
 off_watched other m w n low looks found e off are = kept_watched m (stepped n m) w (watched_need other n m w) low looks found (trace_by n m other (sym e)) (λ c. ap (λ (hs : List (List Event)). get_or hs (channel_index c) []) (histories_by n m other (sym e))) refl refl refl are
+
+-- the tables after it, of which those of central words may have changed
+pub off_tables : {A : Type 0} (x : Need) (m : MachineState) (n : ℕ) (w : Watch) (old new : WatchTables A) → x ≡ need (processor_of n m) → AsksNone x
+    → new ≡ record old { uses = new.uses } → length new.uses.items ≡ length old.uses.items → AreUses (watched_need x n m w) new.uses.items
+    → AreTables old m w → AreTables new (stepped n m) (watched_need (need (processor_of n m)) n m w)
+off_tables {A = A} x m n w old new e off new_is long used are =
+    subst (λ (y : Need). AreTables new (stepped n m) (watched_need y n m w)) e
+    (subst (λ (v : WatchTables A). AreTables v (stepped n m) (watched_need x n m w)) (sym new_is) (record {
+      indexed = off_indexed x m n old.index.latest old.index.short.items old.index.long.items e off are.indexed;
+      low_all = are.low_all;
+      looks_all = are.looks_all;
+      words = long ∙ are.words ∙ sym (run_central (n ∷ []) m);
+      watched = off_watched x m w n old.low.items old.looks.items old.found.items e off are.watched;
+      used = used;
+    }))

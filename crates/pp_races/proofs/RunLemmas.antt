@@ -1,5 +1,5 @@
 -- A run that is watched to its end.
-use Rattle.std.proofs.Common.{◌≡◌, ℕ, zero, suc, ◌+◌, ◌<◌, Bool, true, false, IsTrue, List, [], ◌∷◌, ◌++◌, length, take, get_or, Option, Some, None, refl, sym, ap, ◌∙◌, subst, inl, inr, arith}
+use Rattle.std.proofs.Common.{◌≡◌, ℕ, zero, suc, ◌+◌, ◌<◌, Bool, true, false, IsTrue, List, [], ◌++◌, length, take, get_or, Option, Some, None, refl, sym, ap, ◌∙◌, subst, inl, inr, arith}
 use Rattle.std.specs.Prelude.{◌==◌, ◌&&◌, if◌then◌else◌}
 use Rattle.std.proofs.lemmas.Bool.{and_from, cases_lt, eq-eqb, or_left, or_right}
 use Rattle.pp_channel.specs.Answer.{event_of, flags_of}
@@ -17,19 +17,18 @@ use Rattle.pp_machine.specs.declared.need.Need.{Need}
 use Rattle.pp_numbers.specs.declared.profile.Profile.{Profile}
 use Rattle.pp_run.proofs.RunStepLemmas.{take_barrel, turn_of_barrel}
 use Rattle.pp_run.specs.Determinacy.{IsDeterminate, UsesAt, WritesAt, at_moment, need_at}
-use Rattle.pp_run.proofs.Moments.{moment_next, moment_each, mono, run_central, run_processors}
+use Rattle.pp_run.proofs.Moments.{moment_next, moment_each, mono, run_processors}
 use Rattle.pp_races.specs.Findings.{end_of, findings, findings_at_end, sharing_of}
 use Rattle.pp_races.specs.OtherFlags.{waits_at}
 use Rattle.pp_races.specs.OnePass.{Watched}
 use Rattle.pp_races.specs.Soundness.{AreLastOf, AsksLawfulChannel, IsSound, TurnTestIsExact, least_of, open_of}
 use Rattle.pp_races.specs.Watch.{Watch, asked, each_below, each_number, looked, unwatched, watched, watched_need}
-use Rattle.pp_races.specs.Spans.{IsIndex}
-use Rattle.pp_races.specs.Tables.{AreLow, AreUses, AreWatched}
+use Rattle.pp_races.specs.Tables.{AreLow, AreWatched}
 use Rattle.pp_races.specs.WatchTables.{AreTables}
 use Rattle.pp_races.specs.declared.finding.Finding.{Finding}
 use Rattle.pp_races.specs.declared.watch_tables.WatchTables.{WatchTables}
 use Rattle.pp_races.proofs.FinalLemmas.{determinate}
-use Rattle.pp_races.proofs.GrowLemmas.{behind, findings_are, forgets, forgotten, uses_forgotten, uses_remembered, watched_push}
+use Rattle.pp_races.proofs.GrowLemmas.{behind, findings_are, forgets, forgets_uses, forgotten, watched_push}
 use Rattle.pp_races.proofs.MissedLemmas.{none_missed}
 use Rattle.pp_races.proofs.UseLemmas.{same_asked}
 use Rattle.pp_races.proofs.SoundLemmas.{none_first, none_second, open_where, step_sound}
@@ -136,48 +135,41 @@ sound_on ns m now n asked t w each within named n_is now_is asked_is well found 
     (ap (λ (x : Watch). x.findings) same ∙ found))
 
 -- after one turn more: the tables, whose findings are taken away
-pub run_goes_on : {A : Type 0} (p : Profile) (turns t : ℕ) (m now next : MachineState) (n : ℕ) (asked : Need) (tables new : WatchTables A) (found : List Finding) → length m.histories ≡ channel_count
-    → t < turns → n ≡ processor_in_turn p t → IsTrue (names_processor n) → asked ≡ need (processor_of n now) → next ≡ stepped n now
-    → AsksLawfulChannel asked now → IsIndex (stepped n now).trace new.index.latest new.index.short.items new.index.long.items
-    → ((w : Watch) → AreWatched now w tables.low.items tables.looks.items tables.found.items → AreWatched (stepped n now) (watched_need asked n now w) new.low.items new.looks.items found)
-    → ((k : MachineState) (w : Watch) → AreUses w tables.uses.items → AreUses (watched_need asked n k w) new.uses.items)
-    → length new.low.items ≡ length tables.low.items → length new.looks.items ≡ length tables.looks.items → length new.uses.items ≡ length tables.uses.items → new.found.items ≡ []
-    → IsWatchedRun p turns t m now tables → IsWatchedRun p turns (t + 1) m next new × ((watched (barrel p (t + 1)) m unwatched).findings ≡ (watched (barrel p t) m unwatched).findings ++ found)
-run_goes_on p turns t m now next n asked tables new found each before n_is named asked_is next_is well index_is takes uses_take low_long looks_long uses_long taken_away r =
-    let w : Watch = watched (barrel p t) m unwatched in
+pub run_goes_on : {A : Type 0} (p : Profile) (turns t : ℕ) (m now next : MachineState) (n : ℕ) (tables taken new : WatchTables A) → length m.histories ≡ channel_count
+    → t < turns → n ≡ processor_in_turn p t → IsTrue (names_processor n) → next ≡ stepped n now → AsksLawfulChannel (need (processor_of n now)) now
+    → ((w : Watch) → AreTables tables now w → AreTables taken (stepped n now) (watched_need (need (processor_of n now)) n now w))
+    → new ≡ record taken { found = new.found } → new.found.items ≡ []
+    → IsWatchedRun p turns t m now tables → IsWatchedRun p turns (t + 1) m next new × ((watched (barrel p (t + 1)) m unwatched).findings ≡ (watched (barrel p t) m unwatched).findings ++ taken.found.items)
+run_goes_on {A = A} p turns t m now next n tables taken new each before n_is named next_is well takes new_is taken_away r =
     let one : t + 1 ≡ suc t = omega arith in
     let size : length (barrel p turns) ≡ turns = length-barrel p turns in
-    let watch_is : watched (barrel p (t + 1)) m unwatched ≡ watched_need asked n now (watched (barrel p t) m unwatched) =
+    let watch_is : watched (barrel p (t + 1)) m unwatched ≡ watched_need (need (processor_of n now)) n now (watched (barrel p t) m unwatched) =
     ap (λ k. watched (barrel p k) m unwatched) one ∙ watched_push (barrel p t) (processor_in_turn p t) m unwatched
     ∙ ap (λ k. watched_need (need (processor_of k (run (barrel p t) m))) k (run (barrel p t) m) (watched (barrel p t) m unwatched)) (sym n_is)
-    ∙ ap (λ (x : MachineState). watched_need (need (processor_of n x)) n x (watched (barrel p t) m unwatched)) (sym r.ran)
-    ∙ ap (λ (x : Need). watched_need x n now (watched (barrel p t) m unwatched)) (sym asked_is) in
-    let step = behind asked n now (watched (barrel p t) m unwatched) in
-    let watched_now = takes (forgotten (watched (barrel p t) m unwatched)) r.kept.watched in
-    let central : length next.central ≡ length now.central = ap (λ (x : MachineState). length x.central) next_is ∙ run_central (n ∷ []) now in (
+    ∙ ap (λ (x : MachineState). watched_need (need (processor_of n x)) n x (watched (barrel p t) m unwatched)) (sym r.ran) in
+    let step = behind (need (processor_of n now)) n now (watched (barrel p t) m unwatched) in
+    let kept = takes (forgotten (watched (barrel p t) m unwatched)) r.kept in (
       record {
         ran = next_is ∙ ap (λ x. stepped n x) r.ran ∙ ap (λ k. stepped k (run (barrel p t) m)) n_is ∙ sym (run-append (barrel p t) (processor_in_turn p t) m) ∙ ap (λ k. run (barrel p k) m) (sym one);
-        kept = record {
-          indexed = subst (λ (x : MachineState). IsIndex x.trace new.index.latest new.index.short.items new.index.long.items) (sym next_is) index_is;
-          low_all = low_long ∙ r.kept.low_all;
-          looks_all = looks_long ∙ r.kept.looks_all;
-          words = uses_long ∙ r.kept.words ∙ sym central;
-          watched = subst (λ (x : Watch). AreWatched next (forgotten x) new.low.items new.looks.items new.found.items) (sym watch_is)
-              (subst (λ (x : MachineState). AreWatched x (forgotten (watched_need asked n now (watched (barrel p t) m unwatched))) new.low.items new.looks.items new.found.items) (sym next_is)
-              (subst (λ (x : List Finding). AreWatched (stepped n now) (forgotten (watched_need asked n now (watched (barrel p t) m unwatched))) new.low.items new.looks.items x) (sym taken_away)
-              (forgets (watched (barrel p t) m unwatched).findings (stepped n now) _ _ new.low.items new.looks.items found step watched_now)));
-          used = subst (λ (x : Watch). AreUses (forgotten x) new.uses.items) (sym watch_is)
-              (uses_forgotten _ new.uses.items (uses_take now (watched (barrel p t) m unwatched) (uses_remembered (watched (barrel p t) m unwatched) tables.uses.items r.kept.used)));
-        };
+        kept = subst (λ (x : Watch). AreTables new next (forgotten x)) (sym watch_is) (subst (λ (x : MachineState). AreTables new x (forgotten (watched_need (need (processor_of n now)) n now (watched (barrel p t) m unwatched)))) (sym next_is)
+            (subst (λ (v : WatchTables A). AreTables v (stepped n now) (forgotten (watched_need (need (processor_of n now)) n now (watched (barrel p t) m unwatched)))) (sym new_is) (record {
+              indexed = kept.indexed;
+              low_all = kept.low_all;
+              looks_all = kept.looks_all;
+              words = kept.words;
+              watched = subst (λ (x : List Finding). AreWatched (stepped n now) (forgotten (watched_need (need (processor_of n now)) n now (watched (barrel p t) m unwatched))) taken.low.items taken.looks.items x) (sym taken_away)
+                  (forgets (watched (barrel p t) m unwatched).findings (stepped n now) _ _ taken.low.items taken.looks.items taken.found.items step kept.watched);
+              used = forgets_uses (watched (barrel p t) m unwatched).findings _ _ taken.uses.items step kept.used;
+            })));
         sound = λ none.
-            let found_none : (watched_need asked n now (watched (barrel p t) m unwatched)).findings ≡ [] = ap (λ (x : Watch). x.findings) (sym watch_is) ∙ none in
+            let found_none : (watched_need (need (processor_of n now)) n now (watched (barrel p t) m unwatched)).findings ≡ [] = ap (λ (x : Watch). x.findings) (sym watch_is) ∙ none in
             let now_is : at_moment (barrel p turns) m t ≡ now = ap (λ ks. run ks m) (take_barrel p turns t (omega arith)) ∙ sym r.ran in
             subst (λ (x : Watch). IsSound (barrel p turns) m (t + 1) x) (sym watch_is)
-            (subst (λ (k : ℕ). IsSound (barrel p turns) m k (watched_need asked n now (watched (barrel p t) m unwatched))) (sym one)
-            (sound_on (barrel p turns) m now n asked t (watched (barrel p t) m unwatched) each (omega arith) named (turn_of_barrel p turns t before ∙ sym n_is) now_is (sym asked_is) well found_none
-            (r.sound (found_before asked n now (watched (barrel p t) m unwatched) found_none))));
+            (subst (λ (k : ℕ). IsSound (barrel p turns) m k (watched_need (need (processor_of n now)) n now (watched (barrel p t) m unwatched))) (sym one)
+            (sound_on (barrel p turns) m now n (need (processor_of n now)) t (watched (barrel p t) m unwatched) each (omega arith) named (turn_of_barrel p turns t before ∙ sym n_is) now_is refl well found_none
+            (r.sound (found_before (need (processor_of n now)) n now (watched (barrel p t) m unwatched) found_none))));
       },
-      ap (λ (x : Watch). x.findings) watch_is ∙ step.findings ∙ ap (λ x. (watched (barrel p t) m unwatched).findings ++ x) (sym watched_now.found_are),
+      ap (λ (x : Watch). x.findings) watch_is ∙ step.findings ∙ ap (λ x. (watched (barrel p t) m unwatched).findings ++ x) (sym kept.watched.found_are),
     )
 
 -- ---- the end

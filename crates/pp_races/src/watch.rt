@@ -13,6 +13,7 @@ ghost use Rattle.pp_races.specs.OtherFlags.{waits_at};
 ghost use Rattle.pp_races.specs.Soundness.{AsksLawfulChannel};
 ghost use Rattle.pp_races.specs.Spans.{Indexes};
 ghost use Rattle.pp_races.specs.Tables.{entry_count, entry_place, closing_findings, looks_after_event, looks_of, AreClosed, AreUses, AreWatched};
+ghost use Rattle.pp_races.specs.WatchTables.{AreTables};
 ghost use Rattle.pp_races.specs.Watch.{Watch, asked, each_number, looked, made, race_after, race_before, watched_need};
 
 use crate::asking_step::AskingStep;
@@ -22,6 +23,7 @@ use crate::looks::Looks;
 use crate::low::Low;
 use crate::position::waits_at;
 use crate::trace_index::TraceIndex;
+use crate::watch_tables::WatchTables;
 use crate::word_use::WordUse;
 use pp_channel::{CHANNELS, ChanOp, ChannelNo, Event, Flags, Memory, flags_after};
 use pp_machine::{Machine, Need, PROCESSORS, PpNo, Trace};
@@ -219,33 +221,6 @@ fn take_asked<A: Allocator>(
     take_look(machine, n, c, op, index, low, looks, findings)
 }
 
-/// Takes in the next step of a processor, as far as it asks a channel.
-pub(crate) fn take_step<A: Allocator>(
-    machine: &Machine<A>,
-    n: PpNo,
-    asked: &Need,
-    index: &mut TraceIndex<A>,
-    low: &mut [Low],
-    looks: &mut [Looks],
-    findings: &mut Vec<Finding, A>,
-) -> Result<(), Memory>
-    requires needs { asked.now ≡ need (processor_of n machine.now) }
-    requires index { Indexes index.old machine.now.trace }
-    requires low { length low.old ≡ entry_count }
-    requires looks { length looks.old ≡ entry_count }
-    ensures sound { AsksLawfulChannel asked.now machine.now }
-    ensures index { OnOk result (Indexes index.new (stepped n machine.now).trace) }
-    ensures watched { OnOk result ((w : Watch)
-        → AreWatched machine.now w low.old looks.old findings.old.items
-        → AreWatched (stepped n machine.now) (watched_need asked.now n machine.now w)
-        low.new looks.new findings.new.items) }
-{
-    match asked {
-        Need::Channel(c, op) => take_asked(machine, n, *c, op, index, low, looks, findings),
-        Need::Nothing | Need::Local | Need::Read(_) | Need::Write(_, _) => Ok(()),
-    }
-}
-
 /// Takes in that a processor reads the central word of an address.
 fn take_read(uses: &mut [WordUse], n: PpNo, a: Word18)
     ensures { (m : MachineState) (w : Watch) → AreUses w uses.old
@@ -271,16 +246,32 @@ fn take_write(uses: &mut [WordUse], n: PpNo, a: Word18, word: Word60)
     }
 }
 
-/// Takes in the next step of a processor, as far as it uses a central word.
-pub(crate) fn take_use(uses: &mut [WordUse], n: PpNo, asked: &Need)
-    ensures { (m : MachineState) (w : Watch) → AreUses w uses.old
-        → AreUses (watched_need asked.now n m w) uses.new }
+/// Takes in the next step of a processor.
+pub(crate) fn take_step<A: Allocator>(
+    machine: &Machine<A>,
+    n: PpNo,
+    tables: &mut WatchTables<A>,
+) -> Result<(), Memory>
+    requires { (w : Watch) × AreTables tables.old machine.now w }
+    ensures sound { AsksLawfulChannel (need (processor_of n machine.now)) machine.now }
+    ensures watched { OnOk result ((w : Watch) → AreTables tables.old machine.now w
+        → AreTables tables.new (stepped n machine.now)
+        (watched_need (need (processor_of n machine.now)) n machine.now w)) }
 {
-    match asked {
-        Need::Read(a) => take_read(uses, n, *a),
-        Need::Write(a, word) => take_write(uses, n, *a, *word),
-        Need::Nothing => {}
-        Need::Local => {}
-        Need::Channel(_, _) => {}
+    match machine.pp(n).wants() {
+        Need::Channel(c, op) => take_asked(
+            machine,
+            n,
+            c,
+            &op,
+            &mut tables.index,
+            &mut tables.low,
+            &mut tables.looks,
+            &mut tables.found,
+        )?,
+        Need::Read(a) => take_read(&mut tables.uses, n, a),
+        Need::Write(a, word) => take_write(&mut tables.uses, n, a, word),
+        Need::Nothing | Need::Local => {}
     }
+    Ok(())
 }

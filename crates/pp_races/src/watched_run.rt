@@ -12,7 +12,7 @@ ghost use Rattle.pp_races.specs.declared.verdict.Verdict.TheVariants.{Same};
 use crate::printing::{print_findings, print_shared};
 use crate::settled::find_unsettled;
 use crate::verdict::Verdict;
-use crate::watch::{take_step, take_use};
+use crate::watch::take_step;
 use crate::watch_tables::WatchTables;
 use pp_machine::Machine;
 use pp_run::in_turn;
@@ -45,19 +45,9 @@ pub(crate) fn print_run<A: Allocator, W: Write>(
     let mut verdict = Verdict::Same;
     for turn in 0..turns {
         let n = in_turn(profile, u64::from(turn));
-        let need = machine.pp(n).wants();
-        let Ok(()) = take_step(
-            machine,
-            n,
-            &need,
-            &mut tables.index,
-            &mut tables.low,
-            &mut tables.looks,
-            &mut tables.found,
-        ) else {
+        let Ok(()) = take_step(machine, n, tables) else {
             return Err(verdict);
         };
-        take_use(&mut tables.uses, n, &need);
         let Ok(_outcome) = machine.step(n) else {
             return Err(verdict);
         };
