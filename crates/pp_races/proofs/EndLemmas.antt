@@ -39,17 +39,17 @@ each_more of first found next place found_is next_is =
 
 -- ---- a processor that asks a channel
 
-pub held_found : (m : MachineState) (w : Watch) (n c : ℕ) (op : ChanOp) (low : List Low) (found : List Finding) (entry : ℕ) (goes_on : FlagSet) (race : Option Trace) (step : AskingStep) (trace : List Trace) (pp : Processor) (flags : Flags) (h : List Event) (waits : Bool)
+pub held_found : (m : MachineState) (n c : ℕ) (op : ChanOp) (low : List Low) (found next : List Finding) (entry : ℕ) (goes_on : FlagSet) (race : Option Trace) (step : AskingStep) (trace : List Trace) (pp : Processor) (flags : Flags) (h : List Event) (waits : Bool)
     → IsTrue (names_processor n) → IsTrue (names_channel c) → entry ≡ entry_place n c → trace ≡ m.trace → pp ≡ processor_of n m → flags ≡ flags_of h → h ≡ history_of c m
     → waits ≡ waits_at op pp flags → waits ≡ true
     → step ≡ asking_step n c m
     → race ≡ first_race (λ f. has goes_on f) (missed_at c (get_or low entry no_low) trace)
     → ((f : Flags) → has goes_on f ≡ not (waits_at op pp f))
-    → AreLow m w low → found ++ held_before step race ≡ found ++ end_by_need (Channel c op) n m w
-held_found m w n c op low found entry goes_on race step trace pp flags h waits n_named c_named entry_is trace_is pp_is flags_is h_is waits_is yes_waits step_is race_is goes_are are =
+    → next ≡ found ++ held_before step race → (w : Watch) → AreLow m w low → next ≡ found ++ end_by_need (Channel c op) n m w
+held_found m n c op low found next entry goes_on race step trace pp flags h waits n_named c_named entry_is trace_is pp_is flags_is h_is waits_is yes_waits step_is race_is goes_are next_is w are =
     let there : waits_at op (processor_of n m) (flags_of (history_of c m)) ≡ true =
     ap (λ x. waits_at op (processor_of n m) (flags_of x)) (sym h_is) ∙ ap (λ f. waits_at op (processor_of n m) f) (sym flags_is) ∙ ap (λ p. waits_at op p flags) (sym pp_is) ∙ sym waits_is ∙ yes_waits in
-    ap (λ (s : AskingStep). found ++ held_before s race) step_is
+    next_is ∙ ap (λ (s : AskingStep). found ++ held_before s race) step_is
     ∙ ap (λ (r : Option Trace). found ++ held_before (asking_step n c m) r)
     (race_is ∙ ap (λ k. first_race (λ f. has goes_on f) (missed_at c (get_or low k no_low) trace)) entry_is ∙ ap (λ t. first_race (λ f. has goes_on f) (missed_at c (low_of low n c) t)) trace_is
     ∙ ap (λ (x : List Missed). first_race (λ f. has goes_on f) x) (are n c n_named c_named).missed_are
@@ -63,8 +63,7 @@ pub none_held_found : (m : MachineState) (w : Watch) (n c : ℕ) (op : ChanOp) (
     → ((f : Flags) → has goes_on f ≡ not (waits_at op pp f))
     → AreLow m w low → found ≡ found ++ end_by_need (Channel c op) n m w
 none_held_found m w n c op low found entry goes_on trace pp flags h waits n_named c_named entry_is trace_is pp_is flags_is h_is waits_is yes_waits race_is goes_are are =
-    sym (append-nil found)
-    ∙ held_found m w n c op low found entry goes_on None (asking_step n c m) trace pp flags h waits n_named c_named entry_is trace_is pp_is flags_is h_is waits_is yes_waits refl race_is goes_are are
+    held_found m n c op low found found entry goes_on None (asking_step n c m) trace pp flags h waits n_named c_named entry_is trace_is pp_is flags_is h_is waits_is yes_waits refl race_is goes_are (sym (append-nil found)) w are
 
 -- ---- central words
 

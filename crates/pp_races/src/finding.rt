@@ -1,7 +1,11 @@
 //! What is found of a run.
 
+ghost use Rattle.std.specs.Prelude.{◌≡◌, ◌++◌, ◌∷◌, [], OnOk};
+
 use crate::asking_step::AskingStep;
+use pp_channel::Memory;
 use pp_machine::{PROCESSORS, PpNo, Trace};
+use std::alloc::Allocator;
 
 /// One finding: a step that races with another, or what leaves it open how a run ends.
 #[derive(Clone, Copy)]
@@ -18,4 +22,17 @@ pub enum Finding {
     /// The central word of this address was written by one processor and used by another. The flags
     /// are those of all processors that wrote and used it, in the order of the barrel.
     Shared(u32, [bool; PROCESSORS], [bool; PROCESSORS]),
+}
+
+/// Keeps one more finding.
+pub(crate) fn keep<A: Allocator>(
+    findings: &mut Vec<Finding, A>,
+    finding: Finding,
+) -> Result<(), Memory>
+    ensures { OnOk result (findings.new.items ≡ findings.old.items ++ finding ∷ []) }
+{
+    match findings.push(finding) {
+        Ok(()) => Ok(()),
+        Err(_) => Err(Memory),
+    }
 }

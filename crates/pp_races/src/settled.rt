@@ -14,7 +14,7 @@ ghost use Rattle.pp_races.specs.Tables.{entry_count, AreLow};
 ghost use Rattle.pp_races.specs.Watch.{Watch, each_number};
 
 use crate::asking_step::AskingStep;
-use crate::finding::Finding;
+use crate::finding::{Finding, keep};
 use crate::found::goes_on_at;
 use crate::low::Low;
 use crate::position::{Position, waits_at};
@@ -94,12 +94,12 @@ fn find_asking<A: Allocator>(
 {
     let pp = machine.pp(n);
     if !waits_at(pp, c, op, machine.channel(c).flags()) {
-        findings.push(Finding::GoingOn(n))?;
-        return Ok(());
+        return keep(findings, Finding::GoingOn(n));
     }
     let goes_on = goes_on_at(pp, c, op);
     if let Some(entry) = low[entry_place(n, c)].first_race(machine.events(), index, c, &goes_on) {
-        findings.push(Finding::HeldBefore(AskingStep::of(machine, n, c), entry))?;
+        let step = AskingStep::of(machine, n, c);
+        return keep(findings, Finding::HeldBefore(step, entry));
     }
     Ok(())
 }
@@ -122,10 +122,7 @@ fn find_end<A: Allocator>(
     match pp.wants() {
         Need::Nothing => Ok(()),
         Need::Local if turns_in_place(pp) => Ok(()),
-        Need::Local | Need::Read(_) | Need::Write(_, _) => {
-            findings.push(Finding::GoingOn(n))?;
-            Ok(())
-        }
+        Need::Local | Need::Read(_) | Need::Write(_, _) => keep(findings, Finding::GoingOn(n)),
         Need::Channel(c, op) => find_asking(machine, n, c, &op, index, low, findings),
     }
 }

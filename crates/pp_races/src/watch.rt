@@ -17,7 +17,7 @@ ghost use Rattle.pp_races.specs.WatchTables.{AreTables};
 ghost use Rattle.pp_races.specs.Watch.{Watch, asked, each_number, looked, made, race_after, race_before, watched_need};
 
 use crate::asking_step::AskingStep;
-use crate::finding::Finding;
+use crate::finding::{Finding, keep};
 use crate::found::{goes_on_at, look_sets};
 use crate::looks::Looks;
 use crate::low::Low;
@@ -51,10 +51,10 @@ fn push_before<A: Allocator>(
     ensures { OnOk result (findings.new.items
         ≡ findings.old.items ++ race_before step.now entry.now) }
 {
-    if let Some(entry) = entry {
-        findings.push(Finding::Before(*step, *entry))?;
+    match entry {
+        Some(entry) => keep(findings, Finding::Before(*step, *entry)),
+        None => Ok(()),
     }
-    Ok(())
 }
 
 /// Takes in a look of a processor, which moves it.
@@ -113,11 +113,13 @@ fn close_looks<A: Allocator>(
         looks[entry] = Looks::none();
         return Ok(());
     }
-    if let Some(look) = kept.at(after) {
-        findings.push(Finding::After(look, *made))?;
-        looks[entry] = Looks::none();
+    match kept.at(after) {
+        Some(look) => {
+            looks[entry] = Looks::none();
+            keep(findings, Finding::After(look, *made))
+        }
+        None => Ok(()),
     }
-    Ok(())
 }
 
 /// Closes those of all processors.
