@@ -1,6 +1,6 @@
 -- What has changed in a memory, looked for at some places alone.
 use Rattle.std.proofs.Common.{get_or-set_other, ◌≡◌, ◌≢◌, ℕ, zero, suc, ◌+◌, ◌-◌, ◌<◌, ◌≤◌, true, false, eqb, List, [], ◌++◌, length, slice_index, slice_set, get_or, refl, sym, ap, ◌∙◌, subst, arith}
-use Rattle.std.specs.Prelude.{Some, None, codes}
+use Rattle.std.specs.Prelude.{codes}
 use Rattle.std.specs.List.{flat_map, range_with_len}
 use Rattle.std.proofs.lemmas.Bool.{eq-eqb, ne_eqb}
 use Rattle.std.proofs.lemmas.List.{append-nil, length-set, set_past}
@@ -15,7 +15,7 @@ use Rattle.pp_machine.specs.declared.need.Need.{Need}
 use Rattle.pp_machine.specs.declared.need.Need.TheVariants.{Write}
 use Rattle.pp_word.specs.Numeral.{octal}
 use Rattle.pp_text.specs.Differences.{places}
-use Rattle.pp_steps.specs.StepLine.{central_text, centrals_text, place_text, places_text, written_address}
+use Rattle.pp_steps.specs.StepLine.{central_text, centrals_text, place_text, places_text}
 use Rattle.pp_steps.specs.Stores.{IsApart}
 
 -- a stretch of numbers of which nothing is said
@@ -111,14 +111,13 @@ central_one central a w = dite (dec_lt a (length central)) inside outside
         ∙ sym (ap (λ (words : List ℕ). central_text central words a) same ∙ same_central central central a refl)
 
 -- a step that writes no central word leaves them all
-pub centrals_stay : (x : Need) (m : MachineState) (before after : List ℕ) → None ≡ written_address x → before ≡ m.central → after ≡ central_after x m → centrals_text before after ≡ []
-centrals_stay (Write a w) m before after none old new = absurd (cc)
-centrals_stay other m before after none old new = rw (new, old) (centrals_same m.central)
+pub centrals_stay : (x : Need) (m : MachineState) (before after : List ℕ) → ((a w : ℕ) → x ≡ Write a w → ⊥) → before ≡ m.central → after ≡ central_after x m → centrals_text before after ≡ []
+centrals_stay (Write a w) m before after other old new = absurd (other a w refl)
+centrals_stay rest m before after other old new = rw (new, old) (centrals_same m.central)
 
 -- and one that writes changes one at most
-pub centrals_go : (x : Need) (m : MachineState) (before after : List ℕ) (a : ℕ) → Some a ≡ written_address x → before ≡ m.central → after ≡ central_after x m → centrals_text before after ≡ central_text before after a
-centrals_go (Write b w) m before after a some old new = let is : a ≡ b = cc in rw (new, old, is) (central_one m.central b w)
-centrals_go other m before after a some old new = absurd (cc)
+pub centrals_go : (x : Need) (m : MachineState) (before after : List ℕ) (a w : ℕ) → x ≡ Write a w → before ≡ m.central → after ≡ central_after x m → centrals_text before after ≡ central_text before after a
+centrals_go x m before after a w is old new = rw (new, old, is) (central_one m.central a w)
 
 -- a central word that differs
 pub central_changed : (before after : List ℕ) (a word old : ℕ) → word ≡ slice_index after a → old ≡ slice_index before a → word ≢ old → codes " CM " ++ octal 6 a ++ codes "=" ++ octal 20 word ≡ central_text before after a

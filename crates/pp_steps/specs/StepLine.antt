@@ -10,7 +10,7 @@ use Rattle.pp_machine.specs.NeedAndEffect.{need}
 use Rattle.pp_machine.specs.Processor.{Processor, word_at}
 use Rattle.pp_machine.specs.declared.block.Block.{Block}
 use Rattle.pp_machine.specs.declared.need.Need.{Need}
-use Rattle.pp_machine.specs.declared.need.Need.TheVariants.{Channel, Write}
+use Rattle.pp_machine.specs.declared.need.Need.TheVariants.{Channel}
 use Rattle.pp_machine.specs.declared.outcome.Outcome.TheVariants.{Held}
 use Rattle.pp_machine.specs.declared.pp_state.PpState.{PpState}
 use Rattle.pp_machine.specs.declared.pp_state.PpState.TheVariants.{Running}
@@ -44,11 +44,6 @@ place_text before after place =
 -- these texts, in order of place
 abbrev pub places_text : List ℕ → List ℕ → List ℕ
 places_text before after = flat_map (place_text before after) places
-
--- the address that a step with this need writes to
-abbrev pub written_address : Need → Option ℕ
-written_address (Write a w) = Some a
-written_address need = None
 
 -- ` CM 000100=00060007001000110012`, where the central word at an address differs
 abbrev pub central_text : List ℕ → List ℕ → ℕ → List ℕ

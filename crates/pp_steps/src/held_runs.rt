@@ -1,9 +1,9 @@
 //! How long processors are held each time.
 
 ghost use Rattle.std.specs.Prelude.{◌≡◌, ◌+◌, ◌<◌, ◌^◌, ◌++◌, [], slice_index_or, OnOk};
-ghost use Rattle.pp_steps.specs.HeldRuns.{current_spell, goes_on, is_held_with, no_spells, with_step};
+ghost use Rattle.pp_steps.specs.HeldRuns.{current_spell, goes_on, no_spells, with_step};
 
-use pp_channel::{Flags, Memory};
+use pp_channel::Memory;
 use pp_run::Progress;
 use std::alloc::Allocator;
 use std::marker::Model;
@@ -80,18 +80,10 @@ impl<A: Allocator> HeldRuns<A> {
 pub(crate) fn goes_on(last: &Progress, step: &Progress) -> bool
     ensures { result ≡ goes_on last.now step.now }
 {
-    match step {
-        Progress::Held(flags) => is_held_with(flags, last),
-        Progress::AtRest | Progress::Moved => false,
-    }
-}
-
-/// Whether a step is held with these flags.
-fn is_held_with(flags: &Flags, step: &Progress) -> bool
-    ensures { result ≡ is_held_with flags.now step.now }
-{
-    match step {
-        Progress::Held(others) => flags.active == others.active && flags.full == others.full,
-        Progress::AtRest | Progress::Moved => false,
+    match (last, step) {
+        (Progress::Held(others), Progress::Held(flags)) => {
+            flags.active == others.active && flags.full == others.full
+        }
+        _ => false,
     }
 }

@@ -7,14 +7,13 @@ ghost use Rattle.pp_machine.specs.MachineState.{MachineState};
 ghost use Rattle.pp_machine.specs.MachineStep.{central_after, stepped};
 ghost use Rattle.pp_machine.specs.NeedAndEffect.{processor_after};
 ghost use Rattle.pp_machine.specs.declared.answer.Answer.{Answer};
-ghost use Rattle.pp_machine.specs.declared.need.Need.{Need};
 ghost use Rattle.pp_machine.specs.declared.outcome.Outcome.TheVariants.{Held};
 ghost use Rattle.pp_word.specs.Numeral.{digits, octal};
 ghost use Rattle.pp_text.specs.PrintedText.{event_text};
 ghost use Rattle.pp_text.specs.Standing.{held_text};
 ghost use Rattle.pp_text.specs.TextWriter.{Prints};
 ghost use Rattle.pp_run.specs.BareMachine.{StandsFor};
-ghost use Rattle.pp_steps.specs.StepLine.{central_text, centrals_text, channel_text, end_text, event_or_flags, heading, held_line, place_text, places_text, step_line, written_address};
+ghost use Rattle.pp_steps.specs.StepLine.{central_text, centrals_text, channel_text, end_text, event_or_flags, heading, held_line, place_text, places_text, step_line};
 ghost use Rattle.pp_steps.specs.Stores.{KeepsOthers};
 
 use crate::stores::Stores;
@@ -49,12 +48,7 @@ pub(crate) fn print_step_line<A: Allocator, W: Write>(
     let need = old.wants();
     print_heading(text, before.turns(), n, old, new.a());
     print_places(text, old, new, Stores::of(old));
-    print_central(
-        text,
-        written_address(&need),
-        before.central(),
-        after.central(),
-    );
+    print_central(text, &need, before.central(), after.central());
     print_channel(text, &need, before);
     print_end(text, new.state());
     text.print(b"\n");
@@ -155,30 +149,18 @@ fn print_place<W: Write>(text: &mut TextWriter<W>, old: &Pp, new: &Pp, place: Wo
     text.print(&[b' ', b'(', p0, p1, p2, p3, b')', b'=', w0, w1, w2, w3]);
 }
 
-/// The address that a step writes to, if it does.
-fn written_address(need: &Need) -> Option<Word18>
-    ensures { result ≡ written_address need.now }
-{
-    match need {
-        Need::Write(address, _) => Some(*address),
-        Need::Nothing | Need::Local | Need::Channel(_, _) | Need::Read(_) => None,
-    }
-}
-
 /// Prints ` CM 000100=00060007001000110012`, where the step wrote a central word that differs.
 fn print_central<A: Allocator, W: Write>(
     text: &mut TextWriter<W>,
-    address: Option<Word18>,
+    need: &Need,
     before: &Central<A>,
     after: &Central<A>,
 )
-    ensures { (need : Need) (m : MachineState) → address ≡ written_address need
-        → before.now ≡ m.central → after.now ≡ central_after need m
+    ensures { (m : MachineState) → before.now ≡ m.central → after.now ≡ central_after need.now m
         → Prints W.contents text.old text.new (centrals_text before.now after.now) }
 {
-    match address {
-        Some(address) => print_central_word(text, address, before, after),
-        None => {}
+    if let Need::Write(address, _) = need {
+        print_central_word(text, *address, before, after);
     }
 }
 

@@ -28,7 +28,7 @@ returns g c = λ m stands further.
     later ∙ stepped_central n m ∙ ap (λ (y : Need). central_after y m) (sym needs) in
     (rw (c.turns.ensures m stands, c.a.ensures, new, old) at c.print_heading.ensures)
     ▹ (rw (new, old) at (c.print_places.ensures (answer_to x m) c.of.ensures.others is))
-    ▹ (rw (central, later) at (c.print_central.ensures c.wants-need.result m c.written_address.ensures central written))
+    ▹ (rw (central, later) at (c.print_central.ensures m central written))
     ▹ (rw needs at (c.print_channel.ensures m stands))
     ▹ (rw (c.state.ensures.value, new) at c.print_end.ensures)
     ▹ c.print.ensures
