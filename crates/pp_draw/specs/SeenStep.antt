@@ -1,5 +1,5 @@
 -- How the steps of a run find their processors.
-use Rattle.std.specs.Prelude.{ℕ, ◌-◌, Bool, nat_le, List, map, Option, None, Some}
+use Rattle.std.specs.Prelude.{◌-◌, Bool, nat_le, List, map, Option, None, Some}
 use Rattle.std.specs.List.{filter}
 use Rattle.pp_numbers.specs.PpNo.{processor_count}
 use Rattle.pp_numbers.specs.declared.window.Window.{Window}

@@ -1,0 +1,4 @@
+use Rattle.pp_draw.proofs.seen_step.run_seeing_steps.Goals as goal
+
+pub returns-clause-seen : goal.returns-clause-seen
+returns-clause-seen g c = c.in_ok-run_observed.ensures.seen.1
