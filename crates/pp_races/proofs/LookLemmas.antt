@@ -182,39 +182,19 @@ waits_watched m w n c op low looks found e none waits are =
     (subst (λ (t : Bool). AreWatched (stepped n m) (if t then w else looked n c op m w) low looks found) (sym waits)
     (kept_watched m (stepped n m) w w low looks found (trace_kept n c op m e none) (λ k. history_kept n c k op m e none) refl refl refl are))
 
--- a step that asks no channel
-abbrev pub AsksNone : Need → Type 0
-AsksNone x = (x ≡ Need.Nothing) ⊎ ((x ≡ Need.Local) ⊎ (((a : ℕ) × (x ≡ Need.Read a)) ⊎ ((a word : ℕ) × (x ≡ Need.Write a word))))
-
-asks_one : (c : ℕ) (op : ChanOp) → AsksNone (Channel c op) → ⊥
-asks_one c op (inl e) = cc
-asks_one c op (inr (inl e)) = cc
-asks_one c op (inr (inr (inl (a, e)))) = cc
-asks_one c op (inr (inr (inr (a, word, e)))) = cc
-
-trace_off : (x : Need) (m : MachineState) (n : ℕ) → x ≡ need (processor_of n m) → AsksNone x → (stepped n m).trace ≡ m.trace
-trace_off (Channel c op) m n e off = absurd (asks_one c op off)
-trace_off other m n e off = trace_by n m other (sym e)
-
-pub off_indexed : (x : Need) (m : MachineState) (n : ℕ) (latest : List Latest) (short long : List (List Span)) → x ≡ need (processor_of n m) → AsksNone x → IsIndex m.trace latest short long → IsIndex (stepped n m).trace latest short long
-off_indexed x m n latest short long e off is = subst (λ (t : List Trace). IsIndex t latest short long) (sym (trace_off x m n e off)) is
-
-pub off_watched : (x : Need) (m : MachineState) (w : Watch) (n : ℕ) (low : List Low) (looks : List Looks) (found : List Finding) → x ≡ need (processor_of n m) → AsksNone x
-    → AreWatched m w low looks found → AreWatched (stepped n m) (watched_need x n m w) low looks found
-off_watched (Channel c op) m w n low looks found e off are = absurd (asks_one c op off)
-off_watched other m w n low looks found e off are = kept_watched m (stepped n m) w (watched_need other n m w) low looks found (trace_by n m other (sym e)) (λ c. ap (λ (hs : List (List Event)). get_or hs (channel_index c) []) (histories_by n m other (sym e))) refl refl refl are
-
--- the tables after it, of which those of central words may have changed
-pub off_tables : {A : Type 0} (x : Need) (m : MachineState) (n : ℕ) (w : Watch) (old new : WatchTables A) → x ≡ need (processor_of n m) → AsksNone x
+-- the tables after a step that asks no channel, of which those of central words may have changed
+pub off_tables : {A : Type 0} (x : Need) (m : MachineState) (n : ℕ) (w : Watch) (old new : WatchTables A) → x ≡ need (processor_of n m) → ((c : ℕ) (op : ChanOp) → x ≡ Channel c op → ⊥)
     → new ≡ record old { uses = new.uses } → length new.uses.items ≡ length old.uses.items → AreUses (watched_need x n m w) new.uses.items
     → AreTables old m w → AreTables new (stepped n m) (watched_need (need (processor_of n m)) n m w)
-off_tables {A = A} x m n w old new e off new_is long used are =
+off_tables (Channel c op) m n w old new e off new_is long used are = absurd (off c op refl)
+off_tables {A = A} other m n w old new e off new_is long used are =
     subst (λ (y : Need). AreTables new (stepped n m) (watched_need y n m w)) e
-    (subst (λ (v : WatchTables A). AreTables v (stepped n m) (watched_need x n m w)) (sym new_is) (record {
-      indexed = off_indexed x m n old.index.latest old.index.short.items old.index.long.items e off are.indexed;
+    (subst (λ (v : WatchTables A). AreTables v (stepped n m) (watched_need other n m w)) (sym new_is) (record {
+      indexed = subst (λ (t : List Trace). IsIndex t old.index.latest old.index.short.items old.index.long.items) (sym (trace_by n m other (sym e))) are.indexed;
       low_all = are.low_all;
       looks_all = are.looks_all;
       words = long ∙ are.words ∙ sym (run_central (n ∷ []) m);
-      watched = off_watched x m w n old.low.items old.looks.items old.found.items e off are.watched;
+      watched = kept_watched m (stepped n m) w (watched_need other n m w) old.low.items old.looks.items old.found.items (trace_by n m other (sym e))
+          (λ c. ap (λ (hs : List (List Event)). get_or hs (channel_index c) []) (histories_by n m other (sym e))) refl refl refl are.watched;
       used = used;
     }))

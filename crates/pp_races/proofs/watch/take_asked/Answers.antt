@@ -44,3 +44,6 @@ returns-then-waits_at-clause-sound g c = sound g (goal.at.returns-then-waits_at-
 
 pub returns-clause-sound : goal.returns-clause-sound
 returns-clause-sound g c = sound g (goal.at.returns-clause-sound g c).After-next_event
+
+pub returns-in-Some-clause-watched : goal.returns-in-Some-clause-watched
+returns-in-Some-clause-watched g c = rw (event g (goal.at.returns-in-Some-clause-watched g c).After-next_event ∙ c.in-Some.is) c.take_event.ensures.watched

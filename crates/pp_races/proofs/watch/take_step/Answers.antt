@@ -43,7 +43,7 @@ pub returns-in-Read-clause-watched : goal.returns-in-Read-clause-watched
 returns-in-Read-clause-watched g c = λ w are.
     let uses = c.args.tables.now.uses in
     let new = with_items_is uses c.take_read.new.uses (c.take_read.auto.uses ∙ c.deref_mut-in-Read.ensures.len) in
-    off_tables (Need.Read c.in-Read.a) c.args.machine.now c.args.n w _ _ (sym c.in-Read.is ∙ c.wants.ensures.need ∙ ap need c.pp.ensures) (inr (inr (inl (_, refl)))) refl
+    off_tables (Need.Read c.in-Read.a) c.args.machine.now c.args.n w _ _ (sym c.in-Read.is ∙ c.wants.ensures.need ∙ ap need c.pp.ensures) (λ k op is. cc) refl
     (rw new (c.take_read.auto.uses ∙ ap length c.deref_mut-in-Read.ensures.value))
     (rw new (c.take_read.ensures c.args.machine.now w (subst (λ (x : List WordUse). AreUses w x) (sym c.deref_mut-in-Read.ensures.value) are.used))) are
 
@@ -51,12 +51,12 @@ pub returns-in-Write-clause-watched : goal.returns-in-Write-clause-watched
 returns-in-Write-clause-watched g c = λ w are.
     let uses = c.args.tables.now.uses in
     let new = with_items_is uses c.take_write.new.uses (c.take_write.auto.uses ∙ c.deref_mut-in-Write.ensures.len) in
-    off_tables (Need.Write c.in-Write.a c.in-Write.word) c.args.machine.now c.args.n w _ _ (sym c.in-Write.is ∙ c.wants.ensures.need ∙ ap need c.pp.ensures) (inr (inr (inr (_, _, refl)))) refl
+    off_tables (Need.Write c.in-Write.a c.in-Write.word) c.args.machine.now c.args.n w _ _ (sym c.in-Write.is ∙ c.wants.ensures.need ∙ ap need c.pp.ensures) (λ k op is. cc) refl
     (rw new (c.take_write.auto.uses ∙ ap length c.deref_mut-in-Write.ensures.value))
     (rw new (c.take_write.ensures c.args.machine.now w (subst (λ (x : List WordUse). AreUses w x) (sym c.deref_mut-in-Write.ensures.value) are.used))) are
 
 pub returns-in-Nothing-clause-watched : goal.returns-in-Nothing-clause-watched
 returns-in-Nothing-clause-watched g c = λ w are. elim c.in-Nothing.is [
-  | inl is ↦ off_tables Need.Nothing c.args.machine.now c.args.n w _ _ (sym is ∙ c.wants.ensures.need ∙ ap need c.pp.ensures) (inl refl) refl refl are.used are
-  | inr is ↦ off_tables Need.Local c.args.machine.now c.args.n w _ _ (sym is ∙ c.wants.ensures.need ∙ ap need c.pp.ensures) (inr (inl refl)) refl refl are.used are
+  | inl is ↦ off_tables Need.Nothing c.args.machine.now c.args.n w _ _ (sym is ∙ c.wants.ensures.need ∙ ap need c.pp.ensures) (λ k op other. cc) refl refl are.used are
+  | inr is ↦ off_tables Need.Local c.args.machine.now c.args.n w _ _ (sym is ∙ c.wants.ensures.need ∙ ap need c.pp.ensures) (λ k op other. cc) refl refl are.used are
 ]
