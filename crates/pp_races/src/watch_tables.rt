@@ -17,11 +17,11 @@ use std::alloc::Allocator;
 /// What is kept of a run as it goes, and what was found of its last step, not yet printed.
 #[derive(Drop)]
 pub(crate) struct WatchTables<A: Allocator> {
-    pub(crate) index: TraceIndex<A>,
     pub(crate) low: Vec<Low, A>,
     pub(crate) looks: Vec<Looks, A>,
     pub(crate) uses: Vec<WordUse, A>,
     pub(crate) found: Vec<Finding, A>,
+    pub(crate) index: TraceIndex<A>,
 }
 
 impl<A: Allocator> WatchTables<A> {
@@ -32,12 +32,12 @@ impl<A: Allocator> WatchTables<A> {
         ensures { IfOk result (λ tables. AreTables tables machine.now unwatched) }
     {
         Ok(WatchTables {
-            index: TraceIndex::of(alloc, machine.events(), events)?,
             low: first_low(alloc, machine)?,
             looks: first_looks(alloc)?,
             uses: first_uses(alloc, machine)?,
             // No more is found of a step, or of the end, than there are processors.
             found: Vec::with_capacity(alloc, PROCESSORS)?,
+            index: TraceIndex::of(alloc, machine.events(), events)?,
         })
     }
 }
