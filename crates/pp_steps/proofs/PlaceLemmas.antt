@@ -48,10 +48,10 @@ ends : (f : ℕ → List ℕ) (a b c : ℕ) → ((k : ℕ) → k < b → f (a + 
 ends f a b c between = let gap : flat_map f (range_with_len a b) ≡ [] = nothing f a b between in three_stretches f a b c ∙ rw gap refl
 
 -- nothing is said of a word that stays
-same_place : (before after : List ℕ) (place : ℕ) → slice_index after place ≡ slice_index before place → place_text before after place ≡ []
+pub same_place : (before after : List ℕ) (place : ℕ) → slice_index after place ≡ slice_index before place → place_text before after place ≡ []
 same_place before after place same = let is : eqb (get_or before place 0) (get_or after place 0) ≡ true = eq-eqb _ _ (sym same) in rw is refl
 
-same_central : (before after : List ℕ) (a : ℕ) → slice_index after a ≡ slice_index before a → central_text before after a ≡ []
+pub same_central : (before after : List ℕ) (a : ℕ) → slice_index after a ≡ slice_index before a → central_text before after a ≡ []
 same_central before after a same = let is : eqb (get_or before a 0) (get_or after a 0) ≡ true = eq-eqb _ _ (sym same) in rw is refl
 
 -- all words stay but those at places one behind another
