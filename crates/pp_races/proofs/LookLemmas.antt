@@ -1,6 +1,6 @@
 -- What a look leaves in the tables.
 use Rattle.std.proofs.Common.{◌≡◌, ℕ, ◌<◌, ◌≤◌, Bool, true, IsTrue, List, [], ◌∷◌, ◌++◌, length, drop, slice_set, get_or, Option, Some, None, refl, sym, ap, ◌∙◌, subst, inl, inr, append-nil, arith}
-use Rattle.std.specs.Prelude.{◌⊎◌, if◌then◌else◌}
+use Rattle.std.specs.Prelude.{if◌then◌else◌}
 use Rattle.std.specs.Option.{option_or}
 use Rattle.std.proofs.lemmas.List.{get_or_default, get_or-set_same}
 use Rattle.pp_channel.specs.Answer.{event_of, flags_of}

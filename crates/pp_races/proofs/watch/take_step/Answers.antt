@@ -1,4 +1,4 @@
-use Rattle.std.proofs.Common.{◌≡◌, List, [], ◌∷◌, refl, sym, subst, ap, ◌∙◌, length, inl, inr}
+use Rattle.std.proofs.Common.{List, [], ◌∷◌, refl, sym, subst, ap, ◌∙◌, length, inl, inr}
 use Rattle.std.specs.Vec.{with_items}
 use Rattle.std.proofs.lemmas.List.{with_items_is}
 use Rattle.pp_channel.specs.Answer.{event_of}
@@ -22,35 +22,29 @@ returns-in_ok-take_asked-in-Channel-clause-watched g c = λ w are.
     let m = c.args.machine.now in
     let n = c.args.n in
     let tables = c.args.tables.now in
-    let low_is : c.deref_mut.result.now ≡ tables.low.items = c.deref_mut.ensures.value in
-    let looks_is : c.deref_mut-in-Channel.result.now ≡ tables.looks.items = c.deref_mut-in-Channel.ensures.value in
-    let low_all : length c.take_asked.new.low ≡ length c.deref_mut.result.now = c.take_asked.auto.low in
-    let looks_all : length c.take_asked.new.looks ≡ length c.deref_mut-in-Channel.result.now = c.take_asked.auto.looks in
-    let low_new = with_items_is tables.low c.take_asked.new.low (low_all ∙ c.deref_mut.ensures.len) in
-    let looks_new = with_items_is tables.looks c.take_asked.new.looks (looks_all ∙ c.deref_mut-in-Channel.ensures.len) in
+    let low_new = with_items_is tables.low c.take_asked.new.low (c.take_asked.auto.low ∙ c.deref_mut.ensures.len) in
+    let looks_new = with_items_is tables.looks c.take_asked.new.looks (c.take_asked.auto.looks ∙ c.deref_mut-in-Channel.ensures.len) in
     subst (λ (x : Need). AreTables (record tables { index = c.take_asked.new.index; low = with_items tables.low c.take_asked.new.low; looks = with_items tables.looks c.take_asked.new.looks; found = c.take_asked.new.findings }) (stepped n m) (watched_need x n m w)) (sym c.in-Channel.is ∙ c.wants.ensures.need ∙ ap need c.pp.ensures) (record {
       indexed = c.in_ok-take_asked-in-Channel.ensures.index;
-      low_all = rw low_new (low_all ∙ ap length low_is ∙ are.low_all);
-      looks_all = rw looks_new (looks_all ∙ ap length looks_is ∙ are.looks_all);
+      low_all = rw low_new (c.take_asked.auto.low ∙ ap length c.deref_mut.ensures.value ∙ are.low_all);
+      looks_all = rw looks_new (c.take_asked.auto.looks ∙ ap length c.deref_mut-in-Channel.ensures.value ∙ are.looks_all);
       words = are.words ∙ sym (run_central (n ∷ []) m);
       watched = rw (low_new, looks_new) (c.in_ok-take_asked-in-Channel.ensures.watched w
-          (subst (λ (low : List Low). AreWatched m w low c.deref_mut-in-Channel.result.now tables.found.items) (sym low_is)
-          (subst (λ (looks : List Looks). AreWatched m w tables.low.items looks tables.found.items) (sym looks_is) are.watched)));
+          (subst (λ (low : List Low). AreWatched m w low c.deref_mut-in-Channel.result.now tables.found.items) (sym c.deref_mut.ensures.value)
+          (subst (λ (looks : List Looks). AreWatched m w tables.low.items looks tables.found.items) (sym c.deref_mut-in-Channel.ensures.value) are.watched)));
       used = uses_asked n c.in-Channel.c c.in-Channel.op (event_of c.in-Channel.op (history_of c.in-Channel.c m)) m w tables.uses.items are.used;
     })
 
 pub returns-in-Read-clause-watched : goal.returns-in-Read-clause-watched
 returns-in-Read-clause-watched g c = λ w are.
-    let uses = c.args.tables.now.uses in
-    let new = with_items_is uses c.take_read.new.uses (c.take_read.auto.uses ∙ c.deref_mut-in-Read.ensures.len) in
+    let new = with_items_is c.args.tables.now.uses c.take_read.new.uses (c.take_read.auto.uses ∙ c.deref_mut-in-Read.ensures.len) in
     off_tables (Need.Read c.in-Read.a) c.args.machine.now c.args.n w _ _ (sym c.in-Read.is ∙ c.wants.ensures.need ∙ ap need c.pp.ensures) (λ k op is. cc) refl
     (rw new (c.take_read.auto.uses ∙ ap length c.deref_mut-in-Read.ensures.value))
     (rw new (c.take_read.ensures c.args.machine.now w (subst (λ (x : List WordUse). AreUses w x) (sym c.deref_mut-in-Read.ensures.value) are.used))) are
 
 pub returns-in-Write-clause-watched : goal.returns-in-Write-clause-watched
 returns-in-Write-clause-watched g c = λ w are.
-    let uses = c.args.tables.now.uses in
-    let new = with_items_is uses c.take_write.new.uses (c.take_write.auto.uses ∙ c.deref_mut-in-Write.ensures.len) in
+    let new = with_items_is c.args.tables.now.uses c.take_write.new.uses (c.take_write.auto.uses ∙ c.deref_mut-in-Write.ensures.len) in
     off_tables (Need.Write c.in-Write.a c.in-Write.word) c.args.machine.now c.args.n w _ _ (sym c.in-Write.is ∙ c.wants.ensures.need ∙ ap need c.pp.ensures) (λ k op is. cc) refl
     (rw new (c.take_write.auto.uses ∙ ap length c.deref_mut-in-Write.ensures.value))
     (rw new (c.take_write.ensures c.args.machine.now w (subst (λ (x : List WordUse). AreUses w x) (sym c.deref_mut-in-Write.ensures.value) are.used))) are
