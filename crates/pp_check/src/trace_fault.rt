@@ -1,6 +1,6 @@
 //! Why a trace is not lawful.
 
-use crate::unlawful::Unlawful;
+use crate::unlawful::write_unlawful;
 use pp_channel::{ChannelNo, ChannelState, Event};
 use thiserror::Error;
 
@@ -18,7 +18,7 @@ pub enum TraceFlaw {
     #[error("number {} where {} is next", .1, .2)]
     WrongNumber(ChannelNo, u64, u64),
     /// The event may not come: the channel, the event, and the channel's state before it.
-    #[error("{}", Unlawful(*.0, *.1, *.2))]
+    #[error(fmt = write_unlawful)]
     UnlawfulEvent(ChannelNo, Event, ChannelState),
     /// The channel's state is different: the channel, its state in the line, and the one that its
     /// events leave.

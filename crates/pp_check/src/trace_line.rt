@@ -82,15 +82,18 @@ fn event_in(fields: &mut Fields) -> Option<Event>
 {
     let name = fields.next_field()?;
     if name == b"ACN".as_slice() {
-        are_over(fields).then_some(Event::Activate)
-    } else if name == b"DCN".as_slice() {
-        are_over(fields).then_some(Event::Disconnect)
-    } else if name == b"PUT".as_slice() {
-        Some(Event::Put(last_word(fields)?))
+        return are_over(fields).then_some(Event::Activate);
+    }
+    if name == b"DCN".as_slice() {
+        return are_over(fields).then_some(Event::Disconnect);
+    }
+    let word = last_word(fields)?;
+    if name == b"PUT".as_slice() {
+        Some(Event::Put(word))
     } else if name == b"TAK".as_slice() {
-        Some(Event::Take(last_word(fields)?))
+        Some(Event::Take(word))
     } else if name == b"FNC".as_slice() {
-        Some(Event::Function(last_word(fields)?))
+        Some(Event::Function(word))
     } else {
         None
     }

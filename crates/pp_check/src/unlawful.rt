@@ -1,59 +1,49 @@
 //! Events that may not come, as they are reported.
 
 use pp_channel::{ChannelNo, ChannelState, Event};
-use std::fmt::{self, Display, Formatter, Write};
+use pp_word::Word12;
+use std::fmt::{self, Formatter, Write};
 
-/// A channel, an event that may not come on it, and the channel's state.
-#[derive(Clone, Copy)]
-pub(crate) struct Unlawful(
-    pub(crate) ChannelNo,
-    pub(crate) Event,
-    pub(crate) ChannelState,
-);
-
-impl Display for Unlawful {
-    fn fmt<W: Write>(&self, f: &mut Formatter<W>) -> fmt::Result {
-        let Unlawful(channel, event, state) = self;
-        write_event(f, event)?;
-        write!(f, " on CH{:02o}, ", channel.get())?;
-        match (event, state.register) {
-            (Event::Take(_), Some(word)) => write!(f, "expected TAK {:04o}", word.get()),
-            _ => write!(f, "which is {}", standing(event, state)),
-        }
+/// `PUT 0002 on CH05, which is full`: a channel, an event that may not come on it, and the
+/// channel's state.
+pub(crate) fn write_unlawful<W: Write>(
+    channel: &ChannelNo,
+    event: &Event,
+    state: &ChannelState,
+    f: &mut Formatter<W>,
+) -> fmt::Result {
+    write_event(f, event)?;
+    write!(f, " on CH{:02o}, ", channel.get())?;
+    match (event, state.register) {
+        (Event::Take(_), Some(word)) => write_word(f, "expected TAK", word),
+        _ => f.write_str(obstacle(event, state)),
     }
 }
 
 /// `PUT 0007`.
 fn write_event<W: Write>(f: &mut Formatter<W>, event: &Event) -> fmt::Result {
-    f.write_str(mnemonic(event))?;
     match event {
-        Event::Put(word) | Event::Take(word) | Event::Function(word) => {
-            write!(f, " {:04o}", word.get())
-        }
-        Event::Activate | Event::Disconnect => Ok(()),
+        Event::Activate => f.write_str("ACN"),
+        Event::Disconnect => f.write_str("DCN"),
+        Event::Put(word) => write_word(f, "PUT", *word),
+        Event::Take(word) => write_word(f, "TAK", *word),
+        Event::Function(word) => write_word(f, "FNC", *word),
     }
 }
 
-/// Its three letters in a trace.
-fn mnemonic(event: &Event) -> &'static str {
-    match event {
-        Event::Activate => "ACN",
-        Event::Disconnect => "DCN",
-        Event::Put(_) => "PUT",
-        Event::Take(_) => "TAK",
-        Event::Function(_) => "FNC",
-    }
+fn write_word<W: Write>(f: &mut Formatter<W>, name: &str, word: Word12) -> fmt::Result {
+    write!(f, "{name} {:04o}", word.get())
 }
 
 /// What prevents an event: words pass on an active channel, to an empty register and out of a full
 /// one.
-fn standing(event: &Event, state: &ChannelState) -> &'static str {
+fn obstacle(event: &Event, state: &ChannelState) -> &'static str {
     if !state.flags.active {
-        return "inactive";
+        return "which is inactive";
     }
     match event {
-        Event::Put(_) | Event::Take(_) if state.flags.full => "full",
-        Event::Put(_) | Event::Take(_) => "empty",
-        _ => "active",
+        Event::Put(_) | Event::Take(_) if state.flags.full => "which is full",
+        Event::Put(_) | Event::Take(_) => "which is empty",
+        _ => "which is active",
     }
 }
