@@ -1,16 +1,19 @@
 //! What the fields of a line set.
 
-ghost use Rattle.std.specs.Prelude.{ℕ, ◌≡◌, ◌≢◌, ◌≤◌, ◌^◌, [], length, IfOk, IfErr, OnOk};
+ghost use Rattle.std.specs.Prelude.{ℕ, ◌≡◌, ◌≢◌, ◌<◌, ◌≤◌, ◌^◌, ◌∷◌, [], length, Ok, Err, Result, IfOk, IfErr, OnOk};
 ghost use Rattle.pp_word.specs.Address.{place_count};
 ghost use Rattle.pp_machine.specs.Central.{IsCentralSize};
-ghost use Rattle.pp_deck.specs.DeckLine.{words_in, start, start_from, central_size, central_line};
+ghost use Rattle.pp_deck.specs.DeckLine.{Line, number_then, words_in, start, start_from, central_size, central_line};
+ghost use Rattle.pp_deck.specs.DeckText.{Field, Fields};
+ghost use Rattle.pp_deck.specs.OctalNumber.{number};
+ghost use Rattle.pp_deck.specs.declared.flaw.Flaw.{Flaw};
 ghost use Rattle.pp_deck.specs.Reading.{loaded_from, with_central_words, on_read, Leaves};
 
 use crate::fields::Fields;
 use crate::flaw::Flaw;
-use crate::octal_number::{number, word12, word18, word60};
+use crate::octal_number::{number, word12};
 use pp_machine::{Machine, Pp};
-use pp_word::{Word12, Word18};
+use pp_word::{Word12, Word18, Word60};
 use std::alloc::Allocator;
 
 /// Central memory has at most 400000 words (octal).
@@ -45,7 +48,7 @@ pub(crate) fn set_central_words<A: Allocator>(
 {
     let mut address = first.get();
     while let Some(field) = fields.next_field() {
-        let word = word60(field)?;
+        let word = Word60::truncated(number(field, 20)?);
         let Some(at) = Word18::new(address) else {
             return Err(Flaw::CentralRange);
         };
@@ -55,6 +58,18 @@ pub(crate) fn set_central_words<A: Allocator>(
         address += 1;
     }
     Ok(())
+}
+
+/// The number in the next field, which must be there.
+pub(crate) fn next_number(fields: &mut Fields, most: usize) -> Result<u64, Flaw>
+    requires { most ≤ 20 }
+    ensures ok { IfOk result (λ n. (field : Field)
+        × ((fields.old ≡ field ∷ fields.new) × (number most field ≡ Ok n))) }
+    ensures flaw { IfErr result (λ flaw. (next : ℕ → Fields → Result Line Flaw)
+        → number_then most fields.old next ≡ Err flaw) }
+    ensures small { IfOk result (λ n. n < 8 ^ most) }
+{
+    number(fields.next_field().ok_or(Flaw::UnknownLine)?, most)
 }
 
 /// Checks that the line ends here.
@@ -75,7 +90,7 @@ pub(crate) fn start_a(fields: &mut Fields) -> Result<Word18, Flaw>
     let Some(field) = fields.next_field() else {
         return Ok(Word18::ZERO);
     };
-    let a = word18(field)?;
+    let a = Word18::truncated(number(field, 6)? as u32);
     end_line(fields)?;
     Ok(a)
 }
@@ -86,8 +101,7 @@ pub(crate) fn central_size_in(fields: &mut Fields) -> Result<u32, Flaw>
     ensures line { central_line fields.old ≡ on_read central_size result }
     ensures range { IfOk result IsCentralSize }
 {
-    let field = fields.next_field().ok_or(Flaw::UnknownLine)?;
-    let size = number(field, 6)? as u32;
+    let size = next_number(fields, 6)? as u32;
     if size < 1 || size > LARGEST_SIZE {
         return Err(Flaw::CentralRange);
     }

@@ -4,7 +4,7 @@ ghost use Rattle.std.specs.Prelude.{◌≡◌, ◌<◌, ◌≤◌, ◌^◌, IfOk
 ghost use Rattle.pp_deck.specs.OctalNumber.{number};
 
 use crate::flaw::Flaw;
-use pp_word::{Word12, Word18, Word60, numeral};
+use pp_word::{Word12, numeral};
 
 /// The number in a field of at most `most` octal digits.
 #[tactic(auto, unfolding(crate::specs::OctalNumber::number))]
@@ -21,18 +21,4 @@ pub(crate) fn word12(field: &[u8]) -> Result<Word12, Flaw>
     ensures { result ≡ number 4 field.now }
 {
     Ok(Word12::truncated(number(field, 4)? as u32))
-}
-
-/// The word of 18 bits in a field of at most six digits.
-pub(crate) fn word18(field: &[u8]) -> Result<Word18, Flaw>
-    ensures { result ≡ number 6 field.now }
-{
-    Ok(Word18::truncated(number(field, 6)? as u32))
-}
-
-/// The word of 60 bits in a field of at most twenty digits.
-pub(crate) fn word60(field: &[u8]) -> Result<Word60, Flaw>
-    ensures { result ≡ number 20 field.now }
-{
-    Ok(Word60::truncated(number(field, 20)?))
 }

@@ -8,13 +8,16 @@ ghost use Rattle.pp_deck.specs.DeckMeaning.{unnamed_in, with_dead_start};
 ghost use Rattle.pp_deck.specs.Reading.{before_lines, after_line, deck_so_far, on_read, Leaves};
 
 use crate::deck::Deck;
-use crate::deck_line::{central_size_in, end_line, set_central_words, set_words, start_a};
+use crate::deck_line::{
+    central_size_in, end_line, next_number, set_central_words, set_words, start_a,
+};
 use crate::fields::Fields;
 use crate::flaw::Flaw;
 use crate::keyword::Keyword;
-use crate::octal_number::{number, word12, word18};
+use crate::octal_number::word12;
 use pp_channel::Memory;
 use pp_machine::{CentralFault, Machine, PROCESSORS, PpNo, Profile};
+use pp_word::{Word12, Word18};
 use std::alloc::Allocator;
 use std::marker::Model;
 
@@ -82,7 +85,7 @@ impl<A: Allocator> Reading<A> {
     /// Reads a line with this first field and these after it. `is_after_fields` says whether a
     /// line with fields stands before it.
     #[tactic(auto, unfolding(crate::specs::DeckLine::line_after, // the line after it
-    crate::specs::Reading::after_line))]
+    crate::specs::DeckLine::central_words_line, crate::specs::Reading::after_line))]
     pub(crate) fn read_line(
         &mut self,
         is_after_fields: bool,
@@ -103,7 +106,10 @@ impl<A: Allocator> Reading<A> {
                 central_size_in(fields)?;
                 Ok(())
             }
-            Keyword::CentralWords => self.read_central_words(fields),
+            Keyword::CentralWords => {
+                let address = Word18::truncated(next_number(fields, 6)? as u32);
+                set_central_words(&mut self.machine, address, fields)
+            }
             Keyword::Processor => self.read_section(fields),
             Keyword::Start => self.read_start(fields),
             Keyword::DeadStart => {
@@ -116,18 +122,6 @@ impl<A: Allocator> Reading<A> {
         }
     }
 
-    /// `CM a w w ..`, after its keyword.
-    #[tactic(auto, unfolding(crate::specs::DeckLine::central_words_line, // a line of central words
-    crate::specs::Reading::after_line))]
-    fn read_central_words(&mut self, fields: &mut Fields) -> Result<(), Flaw>
-        requires { length self.old.machine.central ≤ 2 ^ 17 }
-        ensures { Leaves self.new result (on_read (after_line self.old)
-            (central_words_line (length self.old.machine.central) fields.old)) }
-    {
-        let address = word18(fields.next_field().ok_or(Flaw::UnknownLine)?)?;
-        set_central_words(&mut self.machine, address, fields)
-    }
-
     /// `PP n`, after its keyword.
     #[tactic(auto, unfolding(crate::specs::DeckLine::section_line, // a section
     crate::specs::Reading::after_line))]
@@ -136,7 +130,7 @@ impl<A: Allocator> Reading<A> {
             (section_line self.old.machine.profile fields.old)) }
     {
         let profile = self.machine.profile();
-        let n = number(fields.next_field().ok_or(Flaw::UnknownLine)?, 2)?;
+        let n = next_number(fields, 2)?;
         let processor = profile.processor(n as u8).ok_or(Flaw::BadProcessor)?;
         end_line(fields)?;
         self.named[processor.index()] = true;
@@ -152,7 +146,7 @@ impl<A: Allocator> Reading<A> {
             (if is_some self.old.current then start_line fields.old else Err Flaw.NoProcessor)) }
     {
         let processor = self.current.ok_or(Flaw::NoProcessor)?;
-        let p = word12(fields.next_field().ok_or(Flaw::UnknownLine)?)?;
+        let p = Word12::truncated(next_number(fields, 4)? as u32);
         let a = start_a(fields)?;
         self.machine.pp_mut(processor).start(p, a);
         Ok(())
