@@ -1,6 +1,6 @@
 //! What a line of a trace says.
 
-ghost use Rattle.std.specs.Prelude.{◌≡◌, ◌<◌, Some, None, MatchOption, is_some, length, if◌then◌else◌};
+ghost use Rattle.std.specs.Prelude.{◌≡◌, ◌<◌, bytes_eq, Some, None, MatchOption, is_some, length, if◌then◌else◌};
 ghost use Rattle.pp_check.specs.TraceLine.{active_said, are_over, after_channel, after_processor, channel_in, channel_line, parsed_event, is_processor, last_word, parsed_line, number_after, numbered_line, parsed_state, turn_line};
 
 use pp_channel::{ChannelNo, ChannelState, Event, Flags};
@@ -81,18 +81,18 @@ fn event_in(fields: &mut Fields) -> Option<Event>
     ensures { result ≡ parsed_event fields.old }
 {
     let name = fields.next_field()?;
-    if name == b"ACN".as_slice() {
+    if is_word(name, b"ACN") {
         return are_over(fields).then_some(Event::Activate);
     }
-    if name == b"DCN".as_slice() {
+    if is_word(name, b"DCN") {
         return are_over(fields).then_some(Event::Disconnect);
     }
     let word = last_word(fields)?;
-    if name == b"PUT".as_slice() {
+    if is_word(name, b"PUT") {
         Some(Event::Put(word))
-    } else if name == b"TAK".as_slice() {
+    } else if is_word(name, b"TAK") {
         Some(Event::Take(word))
-    } else if name == b"FNC".as_slice() {
+    } else if is_word(name, b"FNC") {
         Some(Event::Function(word))
     } else {
         None
@@ -104,9 +104,9 @@ fn event_in(fields: &mut Fields) -> Option<Event>
 fn state_in(field: &[u8], fields: &mut Fields) -> Option<ChannelState>
     ensures { result ≡ parsed_state field.now fields.old }
 {
-    if field == b"INACTIVE".as_slice() {
+    if is_word(field, b"INACTIVE") {
         are_over(fields).then_some(ChannelState::INACTIVE)
-    } else if field == b"ACTIVE".as_slice() {
+    } else if is_word(field, b"ACTIVE") {
         active_in(fields)
     } else {
         None
@@ -118,9 +118,9 @@ fn active_in(fields: &mut Fields) -> Option<ChannelState>
     ensures { result ≡ active_said fields.old }
 {
     let field = fields.next_field()?;
-    if field == b"EMPTY".as_slice() {
+    if is_word(field, b"EMPTY") {
         are_over(fields).then_some(ChannelState::EMPTY)
-    } else if field == b"FULL".as_slice() {
+    } else if is_word(field, b"FULL") {
         let word = last_word(fields)?;
         Some(ChannelState {
             flags: Flags {
@@ -132,6 +132,13 @@ fn active_in(fields: &mut Fields) -> Option<ChannelState>
     } else {
         None
     }
+}
+
+/// Whether a field is this word.
+fn is_word(field: &[u8], word: &[u8]) -> bool
+    ensures { result ≡ bytes_eq field.now word.now }
+{
+    field == word
 }
 
 /// Whether no field is left.
@@ -159,8 +166,7 @@ fn after_processor(fields: &mut Fields) -> Option<()>
     ensures { MatchOption result (after_processor fields.old ≡ None)
         (λ _. after_processor fields.old ≡ Some fields.new) }
 {
-    let field = fields.next_field()?;
-    if is_processor(field) { Some(()) } else { None }
+    is_processor(fields.next_field()?).then_some(())
 }
 
 /// The next field, a channel.
@@ -168,8 +174,7 @@ fn after_channel(fields: &mut Fields) -> Option<ChannelNo>
     ensures { MatchOption result (after_channel fields.old ≡ None)
         (λ c. after_channel fields.old ≡ Some (c, fields.new)) }
 {
-    let field = fields.next_field()?;
-    channel_in(field)
+    channel_in(fields.next_field()?)
 }
 
 /// Whether a field is `PP00` or another processor's.
@@ -177,7 +182,7 @@ fn after_channel(fields: &mut Fields) -> Option<ChannelNo>
 fn is_processor(field: &[u8]) -> bool
     ensures { result ≡ is_processor field.now }
 {
-    match number_after(b"PP".as_slice(), field) {
+    match number_after(b"PP", field) {
         Some(number) => PpNo::new(number).is_some(),
         None => false,
     }
@@ -188,7 +193,7 @@ fn is_processor(field: &[u8]) -> bool
 fn channel_in(field: &[u8]) -> Option<ChannelNo>
     ensures { result ≡ channel_in field.now }
 {
-    ChannelNo::new(number_after(b"CH".as_slice(), field)?)
+    ChannelNo::new(number_after(b"CH", field)?)
 }
 
 /// The number after two letters, in at most two octal digits.
@@ -198,6 +203,5 @@ fn number_after(letters: &[u8], field: &[u8]) -> Option<u8>
     ensures { result ≡ number_after letters.now field.now }
 {
     let digits = field.strip_prefix(letters)?;
-    let number = numeral(8, 2, digits)?;
-    Some(number as u8)
+    Some(numeral(8, 2, digits)? as u8)
 }

@@ -1,6 +1,6 @@
 //! The first field of a line, which says what the line is.
 
-ghost use Rattle.std.specs.Prelude.{◌≡◌, slice_index};
+ghost use Rattle.std.specs.Prelude.{◌≡◌, bytes_eq, slice_index};
 ghost use Rattle.std.specs.Char.{is_ascii_digit};
 
 /// What the first field of a line announces.
@@ -30,15 +30,15 @@ impl Keyword {
     pub(crate) fn of(field: &[u8]) -> Keyword
         ensures { result ≡ keyword_of field.now }
     {
-        if field == b"CENTRAL".as_slice() {
+        if is_word(field, b"CENTRAL") {
             Keyword::Central
-        } else if field == b"CM".as_slice() {
+        } else if is_word(field, b"CM") {
             Keyword::CentralWords
-        } else if field == b"PP".as_slice() {
+        } else if is_word(field, b"PP") {
             Keyword::Processor
-        } else if field == b"START".as_slice() {
+        } else if is_word(field, b"START") {
             Keyword::Start
-        } else if field == b"DEAD".as_slice() {
+        } else if is_word(field, b"DEAD") {
             Keyword::DeadStart
         } else if begins_with_digit(field) {
             Keyword::Words
@@ -48,12 +48,16 @@ impl Keyword {
     }
 }
 
+/// Whether a field is this word.
+fn is_word(field: &[u8], word: &[u8]) -> bool
+    ensures { result ≡ bytes_eq field.now word.now }
+{
+    field == word
+}
+
 /// Whether its first character is one of 0 to 9.
 fn begins_with_digit(field: &[u8]) -> bool
     ensures { result ≡ is_ascii_digit (slice_index field.now 0) }
 {
-    match field {
-        [first, ..] => b'0' <= *first && *first <= b'9',
-        [] => false,
-    }
+    matches!(field, [b'0'..=b'9', ..])
 }
