@@ -154,7 +154,8 @@ fn with_commands<'a>(
     words: &[&str],
 ) -> Result<Command<'a>, AllocError>
     ensures { IfOk result (λ c. app_of c ≡ with_commands (app_of app.entry)
-        (map (λ help. app_by (map (λ s. s.now) words.now) (command_of_form help.form.now)) helps.now)) }
+        (map (λ help. app_by (map (λ s. s.now) words.now) (command_of_form help.form.now))
+        helps.now)) }
 {
     for help in helps {
         app = app.subcommand(command_of(alloc, help, words)?)?;

@@ -125,8 +125,8 @@ const PROCESSORS_OPTION: OptionForm = option!(required: false, "processors", Tex
         "How many processors the machine has, 10 or 20 (decimal); 10 if not given"));
 
 /// The first place or address to print.
-const FIRST_OPTION: OptionForm =
-    option!(required: false, "first", Text("N", "The first address to print (octal; 0 if not given)"));
+const FIRST_OPTION: OptionForm = option!(required: false, "first", Text("N",
+        "The first address to print (octal; 0 if not given)"));
 
 /// `--turns N [--processors N]`
 const RUN_OPTIONS: &[OptionForm] = &[TURNS_OPTION, PROCESSORS_OPTION];
