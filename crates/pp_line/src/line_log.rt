@@ -55,12 +55,7 @@ impl<A: Allocator> LineLog<A> {
     pub fn into_entries(self) -> Vec<Entry, A>
         ensures { result.items ≡ self.entries }
     {
-        let LineLog {
-            entries,
-            room: _,
-            kept: _,
-        } = self;
-        entries
+        self.entries
     }
 
     /// How many more entries it has room for.

@@ -83,7 +83,7 @@ fn unknown_authors<A: Allocator + Copy>(
 {
     let mut authors = Vec::with_capacity(alloc, CHANNELS)?;
     for channel in channels {
-        authors.push_reserved(ChannelAuthors::unknown(alloc, channel.history().len())?);
+        authors.push(ChannelAuthors::unknown(alloc, channel.history().len())?)?;
     }
     Ok(authors)
 }

@@ -9,7 +9,7 @@ ghost use Rattle.pp_runner.specs.declared.worker.Worker.{Worker};
 ghost use Rattle.pp_report.specs.Authors.{AreAuthors, AreAuthorsOn};
 ghost use Rattle.pp_text.specs.TextWriter.{Prints};
 ghost use Rattle.pp_text.specs.PrintedText.{used_channel_line};
-ghost use Rattle.pp_report.specs.PrintedReport.{channel_events, line_by, named_worker_line, numbered_event_line, printed_report, worker_line};
+ghost use Rattle.pp_report.specs.PrintedReport.{channel_events, line_by, named_worker_line, numbered_event_line, printed_report};
 ghost use Rattle.pp_report.specs.ReportLaw.{FitsItsEnd, FitsItsLine, FitsItsReport, shown_end, printed_by, told_events};
 ghost use Rattle.pp_text.specs.TextLaw.{HistoryFits};
 ghost use Rattle.pp_text.specs.Written.{IsReportWritten, IsWritten};
@@ -137,6 +137,7 @@ fn print_workers<A: Allocator, W: Write>(
     }
 }
 
+/// Prints the line of a processor, if it is named and has a worker.
 fn print_named_worker<A: Allocator, W: Write>(
     text: &mut TextWriter<W>,
     workers: &[Worker<A>],
@@ -149,19 +150,9 @@ fn print_named_worker<A: Allocator, W: Write>(
         → IfSome (option_map shown_end (slice_get workers.now (processor_index n))) FitsItsEnd }
 {
     if named[n.index()] {
-        print_worker(text, workers, n);
-    }
-}
-
-/// Prints the line of a processor, if it has a worker.
-fn print_worker<A: Allocator, W: Write>(text: &mut TextWriter<W>, workers: &[Worker<A>], n: PpNo)
-    ensures text { Prints W.contents text.old text.new
-        (worker_line n (slice_get workers.now (processor_index n))) }
-    ensures fits { IfSome (option_map shown_end (slice_get workers.now (processor_index n)))
-        FitsItsEnd }
-{
-    if let Some(worker) = workers.get(n.index()) {
-        print_worker_line(text, n, worker);
+        if let Some(worker) = workers.get(n.index()) {
+            print_worker_line(text, n, worker);
+        }
     }
 }
 

@@ -138,7 +138,7 @@ fn run_lines<'s, 'e: 's, R: Threads, G: Gate + Sync, A: Allocator + Copy + Send 
 }
 
 /// Runs the workers of the barrel's first processors at once, one on each line.
-pub fn run_crew<R: Threads + Wait + Sync, G: Gate + Sync, A: Allocator + Copy + Send + Sync>(
+pub fn run_crew<R: Threads + Wait, G: Gate + Sync, A: Allocator + Copy + Send + Sync>(
     rt: &R,
     site: &Site<A>,
     gate: &G,

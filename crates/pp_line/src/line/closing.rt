@@ -75,16 +75,8 @@ fn absorb<A: Allocator + Copy>(
     ensures log { result.items ≡ other.log.entries }
     ensures log_of { IsLogOf other.view other.log.entries }
 {
-    let Line {
-        alloc: _,
-        words: others,
-        log,
-        seen: seen_by_other,
-        shares: _,
-        whole: _,
-    } = other;
-    words.join(others);
+    words.join(other.words);
     words.check_shares(ChannelNo::at(0));
-    *seen = greater_of_each(seen, &seen_by_other);
-    log.into_entries()
+    *seen = greater_of_each(seen, &other.seen);
+    other.log.into_entries()
 }
