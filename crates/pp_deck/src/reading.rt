@@ -99,10 +99,8 @@ impl<A: Allocator> Reading<A> {
             (first.now ∷ fields.old))) }
     {
         match Keyword::of(first) {
+            Keyword::Central if is_after_fields => Err(Flaw::UnknownLine),
             Keyword::Central => {
-                if is_after_fields {
-                    return Err(Flaw::UnknownLine);
-                }
                 central_size_in(fields)?;
                 Ok(())
             }
