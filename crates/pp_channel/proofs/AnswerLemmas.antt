@@ -6,16 +6,12 @@ use Rattle.std.specs.Option.{option_to_list}
 use Rattle.std.proofs.lemmas.List.{append-nil}
 use Rattle.std.proofs.lemmas.List.Elements.{All-push}
 use Rattle.std.proofs.lemmas.Bool.{eqb-true}
-use Rattle.pp_channel.specs.declared.event.Event.{Event}
-use Rattle.pp_channel.specs.declared.chan_op.ChanOp.{ChanOp}
-use Rattle.pp_channel.specs.declared.reply.Reply.{Reply}
-use Rattle.pp_channel.specs.declared.flags.Flags.{Flags}
+use Rattle.pp_channel.specs.declared.{event.Event.Event, chan_op.ChanOp.ChanOp, reply.Reply.Reply, flags.Flags.Flags, channel_state.ChannelState.ChannelState}
 use Rattle.pp_channel.specs.History.{IsLawful, HasTwelveBitWord, HasTwelveBitWords, full, waiting}
 use Rattle.pp_channel.specs.Answer.{operation_of, IsReady, IsAnswer, channel_state, event_by, event_of, flags_of, flags_after, reply_by, reply_shown, reply_to, history_after, event_answered, flags_shown, only_looks}
 use Rattle.pp_channel.specs.Session.{word_put}
 use Rattle.pp_channel.proofs.HistoryWalk.{State, Inactive, Empty, Holding, step, step_take, walk, walk-append}
 use Rattle.pp_channel.proofs.HistoryLemmas.{is_active, held_word, Fits, active_at, full_at, waiting_at, state_at, lawful_next}
-use Rattle.pp_channel.specs.declared.channel_state.ChannelState.{ChannelState}
 
 -- the table at a state
 abbrev flags_at : State → Flags

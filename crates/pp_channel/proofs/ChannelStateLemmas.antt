@@ -5,8 +5,7 @@ use Rattle.std.specs.Option.{option_to_list}
 use Rattle.pp_channel.specs.Answer.{channel_state, event_of, flags_after, history_after}
 use Rattle.pp_channel.specs.Session.{word_put}
 use Rattle.pp_channel.specs.History.{IsLawful}
-use Rattle.pp_channel.specs.declared.chan_op.ChanOp.{ChanOp}
-use Rattle.pp_channel.specs.declared.event.Event.{Event}
+use Rattle.pp_channel.specs.declared.{chan_op.ChanOp.ChanOp, event.Event.Event}
 use Rattle.pp_channel.proofs.AnswerLemmas.{flags_by_table, lawful_with_event, word_by_table}
 
 -- the state after an event

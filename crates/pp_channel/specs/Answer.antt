@@ -4,13 +4,7 @@
 -- 77 wait until its flags let them go on.)
 use Rattle.std.specs.Prelude.{◌≡◌, ℕ, Bool, true, false, not, ◌&&◌, List, [], ◌∷◌, ◌++◌, Option, Some, None, ◌⊎◌, if◌then◌else◌, option_map, option_to_list, length}
 use Rattle.std.specs.Option.{option_or}
-use Rattle.pp_channel.specs.declared.event.Event.{Event}
-use Rattle.pp_channel.specs.declared.chan_op.ChanOp.{ChanOp}
-use Rattle.pp_channel.specs.declared.channel_state.ChannelState.{ChannelState}
-use Rattle.pp_channel.specs.declared.seen.Seen.{Seen}
-use Rattle.pp_channel.specs.declared.reply.Reply.{Reply}
-use Rattle.pp_channel.specs.declared.flags.Flags.{Flags}
-use Rattle.pp_channel.specs.declared.numbered.Numbered.{Numbered}
+use Rattle.pp_channel.specs.declared.{event.Event.Event, chan_op.ChanOp.ChanOp, channel_state.ChannelState.ChannelState, seen.Seen.Seen, reply.Reply.Reply, flags.Flags.Flags, numbered.Numbered.Numbered}
 use Rattle.pp_channel.specs.History.{IsLawful, active, full, waiting, HasTwelveBitWords}
 
 -- the flags of a channel with the history h

@@ -2,9 +2,7 @@
 //! history.
 
 ghost use Rattle.std.specs.Prelude.{◌≡◌, ◌↔◌, List, [], ◌∷◌, ◌++◌, Some, IfSome};
-ghost use Rattle.pp_channel.specs.declared.chan_op.ChanOp.{ChanOp};
-ghost use Rattle.pp_channel.specs.declared.event.Event.{Event};
-ghost use Rattle.pp_channel.specs.declared.reply.Reply.{Reply};
+ghost use Rattle.pp_channel.specs.declared.{chan_op.ChanOp.ChanOp, event.Event.Event, reply.Reply.Reply};
 ghost use Rattle.pp_channel.specs.History.{IsLawful, HasTwelveBitWord};
 ghost use Rattle.pp_channel.specs.Answer.{IsReady, IsAnswer, event_by, event_of, reply_made, reply_shown, reply_to, history_after, flags_of, flags_after};
 ghost use Rattle.pp_channel.specs.Session.{word_put};

@@ -13,10 +13,8 @@ use Rattle.pp_word.proofs.GrowingLists.{filter_map_more}
 use Rattle.pp_check.specs.LawfulTrace.{AreLawful, Fits, IsLawfulTrace, history, last_turn, parsed_lines, turn_of, event_on, turns}
 use Rattle.pp_check.specs.TraceFault.{IsFault, IsFlaw, IsFlawOf}
 use Rattle.pp_check.specs.TraceLine.{parsed_line}
-use Rattle.pp_check.specs.declared.trace_fault.TraceFault.{TraceFault}
-use Rattle.pp_check.specs.declared.trace_fault.TraceFlaw.{TraceFlaw}
+use Rattle.pp_check.specs.declared.{trace_fault.TraceFault.TraceFault, trace_fault.TraceFlaw.TraceFlaw, trace_line.TraceLine.TraceLine, judge.Judge.Judge}
 use Rattle.pp_check.specs.declared.trace_fault.TraceFlaw.TheVariants.{Malformed, TurnNotRising, WrongNumber, UnlawfulEvent, WrongState}
-use Rattle.pp_check.specs.declared.trace_line.TraceLine.{TraceLine}
 use Rattle.pp_check.specs.declared.trace_line.TraceLine.TheVariants.{AtTurn, Numbered, Standing, Other}
 use Rattle.pp_check.proofs.TraceLemmas.{history_more, last_fits, lawful_prefix, turns_more, turns_same}
 use Rattle.std.specs.List.Sorted.{IsStrictlyIncreasing}
@@ -28,7 +26,6 @@ use Rattle.std.specs.Borrow.{Bor}
 use Rattle.pp_deck.proofs.FieldLemmas.{NextLine, next_line}
 use Rattle.pp_deck.specs.DeckText.{fields_of, lines_of}
 use Rattle.pp_check.specs.Judge.{IsRead, Keeps}
-use Rattle.pp_check.specs.declared.judge.Judge.{Judge}
 
 -- the fields of each line
 abbrev pub Text : Type 0

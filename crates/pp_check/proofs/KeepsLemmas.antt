@@ -8,16 +8,12 @@ use Rattle.std.proofs.lemmas.List.Sums.{sum_by-cons, sum_by_push}
 use Rattle.pp_numbers.specs.ChannelNo.{channel_places, channel_count, channel_index, names_channel}
 use Rattle.pp_channel.specs.Answer.{channel_state}
 use Rattle.pp_channel.specs.History.{IsLawful}
-use Rattle.pp_channel.specs.declared.channel_state.ChannelState.{ChannelState}
-use Rattle.pp_channel.specs.declared.event.Event.{Event}
+use Rattle.pp_channel.specs.declared.{channel_state.ChannelState.ChannelState, event.Event.Event}
 use Rattle.pp_channel.specs.declared.event.Event.TheVariants.{Activate}
 use Rattle.pp_check.specs.Judge.{Happens, IsJudged, Keeps, KeepsEvents, new_standing, next_number, standing, standing_of}
 use Rattle.pp_check.specs.LawfulTrace.{Fits, IsLawfulTrace, event_on, events_on, history, is_opened, last_turn, turn_of}
 use Rattle.pp_check.specs.Verdict.{begins_session, is_activate, tells_event}
-use Rattle.pp_check.specs.declared.judge.Judge.{Judge}
-use Rattle.pp_check.specs.declared.standing.Standing.{Standing}
-use Rattle.pp_check.specs.declared.trace_fault.TraceFlaw.{TraceFlaw}
-use Rattle.pp_check.specs.declared.trace_line.TraceLine.{TraceLine}
+use Rattle.pp_check.specs.declared.{judge.Judge.Judge, standing.Standing.Standing, trace_fault.TraceFlaw.TraceFlaw, trace_line.TraceLine.TraceLine}
 use Rattle.pp_check.specs.declared.trace_line.TraceLine.TheVariants as says
 use Rattle.pp_check.proofs.TraceLemmas.{events_more, events_same, history_more, history_same, last_turn_same, lawful_push}
 

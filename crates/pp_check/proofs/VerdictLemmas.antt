@@ -10,8 +10,7 @@ use Rattle.pp_word.specs.Tables.{tabulate}
 use Rattle.pp_check.specs.Judge.{KeepsEvents, new_standing, standing}
 use Rattle.pp_check.specs.LawfulTrace.{is_opened}
 use Rattle.pp_check.specs.Verdict.{is_used, opened_count, used_count}
-use Rattle.pp_check.specs.declared.standing.Standing.{Standing}
-use Rattle.pp_check.specs.declared.trace_line.TraceLine.{TraceLine}
+use Rattle.pp_check.specs.declared.{standing.Standing.Standing, trace_line.TraceLine.TraceLine}
 
 -- whether events were told of a channel, and whether it was opened besides
 abbrev pub is_told : Standing → Bool

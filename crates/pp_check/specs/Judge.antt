@@ -6,10 +6,7 @@ use Rattle.pp_check.specs.LawfulTrace.{IsLawfulTrace, events_on, history, is_ope
 use Rattle.pp_check.specs.TraceFault.{IsFlaw, IsFlawOf}
 use Rattle.pp_check.specs.TraceLine.{inactive}
 use Rattle.pp_check.specs.Verdict.{begins_session, tells_event}
-use Rattle.pp_check.specs.declared.judge.Judge.{Judge}
-use Rattle.pp_check.specs.declared.standing.Standing.{Standing}
-use Rattle.pp_check.specs.declared.trace_fault.TraceFlaw.{TraceFlaw}
-use Rattle.pp_check.specs.declared.trace_line.TraceLine.{TraceLine}
+use Rattle.pp_check.specs.declared.{judge.Judge.Judge, standing.Standing.Standing, trace_fault.TraceFlaw.TraceFlaw, trace_line.TraceLine.TraceLine}
 
 -- what is kept of channel c
 unfoldable pub standing : List Bool → List TraceLine → ℕ → Standing

@@ -6,10 +6,8 @@ use Rattle.pp_channel.specs.declared.event.Event.{Event}
 use Rattle.pp_deck.specs.DeckText.{Fields}
 use Rattle.pp_check.specs.LawfulTrace.{AreLawful, Fits, event_on, history, last_turn, parsed_lines, turn_of}
 use Rattle.pp_check.specs.TraceLine.{parsed_line}
-use Rattle.pp_check.specs.declared.trace_fault.TraceFault.{TraceFault}
-use Rattle.pp_check.specs.declared.trace_fault.TraceFlaw.{TraceFlaw}
+use Rattle.pp_check.specs.declared.{trace_fault.TraceFault.TraceFault, trace_fault.TraceFlaw.TraceFlaw, trace_line.TraceLine.TraceLine}
 use Rattle.pp_check.specs.declared.trace_fault.TraceFlaw.TheVariants.{Malformed, TurnNotRising, WrongNumber, UnlawfulEvent, WrongState}
-use Rattle.pp_check.specs.declared.trace_line.TraceLine.{TraceLine}
 use Rattle.pp_check.specs.declared.trace_line.TraceLine.TheVariants.{Numbered, Standing}
 
 -- why a line may not come after lawful lines: its turn is not greater than the last; its number is

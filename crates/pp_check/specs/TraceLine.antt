@@ -5,8 +5,7 @@ use Rattle.std.specs.Prelude.{ℕ, Bool, true, false, List, [], ◌∷◌, take,
 use Rattle.std.specs.Option.{option_map}
 use Rattle.std.specs.Str.{bytes_eq}
 use Rattle.pp_numbers.specs.ChannelNo.{names_channel}
-use Rattle.pp_channel.specs.declared.channel_state.ChannelState.{ChannelState}
-use Rattle.pp_channel.specs.declared.event.Event.{Event}
+use Rattle.pp_channel.specs.declared.{channel_state.ChannelState.ChannelState, event.Event.Event}
 use Rattle.pp_channel.specs.declared.event.Event.TheVariants.{Activate, Disconnect, Put, Take, Function}
 use Rattle.pp_deck.specs.DeckText.{Field, Fields}
 use Rattle.pp_numbers.specs.PpNo.{names_processor}

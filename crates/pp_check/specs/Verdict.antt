@@ -6,9 +6,8 @@ use Rattle.pp_channel.specs.declared.event.Event.TheVariants.{Activate}
 use Rattle.pp_word.specs.Numeral.{short_decimal}
 use Rattle.pp_text.specs.PrintedText.{line_end}
 use Rattle.pp_check.specs.LawfulTrace.{events_on, is_opened}
-use Rattle.pp_check.specs.declared.trace_line.TraceLine.{TraceLine}
+use Rattle.pp_check.specs.declared.{trace_line.TraceLine.TraceLine, verdict.Verdict.Verdict}
 use Rattle.pp_check.specs.declared.trace_line.TraceLine.TheVariants.{AtTurn, Numbered}
-use Rattle.pp_check.specs.declared.verdict.Verdict.{Verdict}
 
 abbrev pub tells_event : TraceLine → Bool
 tells_event (AtTurn turn c e) = true

@@ -7,8 +7,7 @@ ghost use Rattle.pp_channel.specs.Law.{KeepsLaw};
 ghost use Rattle.pp_deck.specs.DeckText.{Fields};
 ghost use Rattle.pp_check.specs.LawfulTrace.{AreLawful, IsLawfulTrace, history, turns};
 ghost use Rattle.pp_check.specs.TraceFault.{IsFault};
-ghost use Rattle.pp_check.specs.declared.trace_fault.TraceFault.{TraceFault};
-ghost use Rattle.pp_check.specs.declared.trace_line.TraceLine.{TraceLine};
+ghost use Rattle.pp_check.specs.declared.{trace_fault.TraceFault.TraceFault, trace_line.TraceLine.TraceLine};
 
 use pp_channel::session_law;
 

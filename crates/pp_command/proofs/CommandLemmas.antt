@@ -3,19 +3,13 @@ use Rattle.std.proofs.Common.{◌≡◌, ◌∙◌, ℕ, ◌+◌, ◌-◌, ◌<�
 use Rattle.std.specs.Prelude.{Box, ◌≢◌, is_some}
 use Rattle.std.specs.Box.{box_value}
 use Rattle.clap.specs.Words.{App, HasKind, IsAmong, Kinds, Text, Row, HasMatchesOf, fault_of, is_simple_and_free, found_of, kind_of, rows_of, subcommand_of, subcommand_rows, subcommand_rows_of, subcommand_name_of}
-use Rattle.clap.specs.declared.error.Error.{Error}
+use Rattle.clap.specs.declared.{error.Error.Error, parser.matches.Found.Found, parser.matches.SubCommand.SubCommand, parser.matches.ArgMatches.ArgMatches, parser.matches.ArgMatches.TheViews.out-ArgMatches, parser.matches.ArgMatches.TheViews.out-SubCommand}
 use Rattle.clap.specs.declared.error.kind.ErrorKind.TheVariants.{OutOfMemory}
-use Rattle.clap.specs.declared.parser.matches.Found.{Found}
-use Rattle.clap.specs.declared.parser.matches.SubCommand.{SubCommand}
-use Rattle.clap.specs.declared.parser.matches.ArgMatches.{ArgMatches}
-use Rattle.clap.specs.declared.parser.matches.ArgMatches.TheViews.{out-ArgMatches, out-SubCommand}
-use Rattle.pp_numbers.specs.declared.window.Window.{Window}
+use Rattle.pp_numbers.specs.declared.{window.Window.Window, profile.Profile.Profile}
 use Rattle.pp_numbers.specs.Profile.{processors_in}
-use Rattle.pp_numbers.specs.declared.profile.Profile.{Profile}
 use Rattle.pp_command.specs.CommandLine.{IsFaultBy, IsRefused, ReadsAlike, AsksForMore, AsksForText, ReadsEnd, ReadsNumber, ReadsProfile, ReadsTurn, ReadsTurns, ReadsWindow, ppsim, refusals}
-use Rattle.pp_command.specs.declared.line_fault.LineFault.{LineFault}
+use Rattle.pp_command.specs.declared.{line_fault.LineFault.LineFault, text_of.TextOf.TextOf}
 use Rattle.pp_command.specs.declared.line_fault.LineFault.TheVariants.{Memory, Refused, Number, Picture}
-use Rattle.pp_command.specs.declared.text_of.TextOf.{TextOf}
 
 -- a parse that succeeds has no refusal
 pub taken_words : (words : List Text) (app : App) → ReadsAlike words app → (is_simple_and_free app ≡ true → fault_of app words ≡ []) → refusals words ≡ []

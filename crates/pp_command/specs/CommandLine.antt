@@ -4,23 +4,15 @@ use Rattle.std.specs.List.{list_any}
 use Rattle.std.specs.Str.Parse.{ParsesUnsigned}
 use Rattle.clap.specs.Words.{App, IsAmong, Kinds, Row, Rule, Text, fault_of, first_of, found_of, is_simple, is_simple_and_free, kind_of, new_app, new_rule, rows_of, subcommand_of, with_rule, with_subcommand}
 use Rattle.clap.specs.declared.builder.action.ArgAction.TheVariants.{Set, SetTrue}
-use Rattle.clap.specs.declared.error.Error.{Error}
+use Rattle.clap.specs.declared.{error.Error.Error, parser.matches.ArgMatches.ArgMatches}
 use Rattle.clap.specs.declared.error.kind.ErrorKind.TheVariants.{OutOfMemory}
-use Rattle.clap.specs.declared.parser.matches.ArgMatches.{ArgMatches}
 use Rattle.pp_numbers.specs.ChannelNo.{channel_count}
 use Rattle.pp_command.specs.ChannelList.{AreListed}
 use Rattle.pp_command.specs.ProcessorList.{AreProcessorsListed}
-use Rattle.pp_numbers.specs.declared.window.Window.{Window}
+use Rattle.pp_numbers.specs.declared.{window.Window.Window, bounds.Bounds.Bounds, profile.Profile.Profile}
 use Rattle.pp_numbers.specs.Profile.{has_processor, processors_in}
-use Rattle.pp_numbers.specs.declared.bounds.Bounds.{Bounds}
-use Rattle.pp_numbers.specs.declared.profile.Profile.{Profile}
 use Rattle.pp_numbers.specs.Limits.{AreLimits}
-use Rattle.pp_command.specs.declared.command.CommandForm.{CommandForm}
-use Rattle.pp_command.specs.declared.command.OptionForm.{OptionForm}
-use Rattle.pp_command.specs.declared.command.ValueForm.{ValueForm}
-use Rattle.pp_command.specs.declared.line_fault.LineFault.{LineFault}
-use Rattle.pp_command.specs.declared.text_of.TextOf.{TextOf}
-use Rattle.pp_command.specs.declared.work.Work.{Work}
+use Rattle.pp_command.specs.declared.{command.CommandForm.CommandForm, command.OptionForm.OptionForm, command.ValueForm.ValueForm, line_fault.LineFault.LineFault, text_of.TextOf.TextOf, work.Work.Work}
 
 -- THE COMMAND LINE, as clap sees it: `ppsim`, one of the commands of `ppsim` below, its options, of
 -- which some may be left out, and a file, which may be left out; or `ppsim --version`

@@ -15,8 +15,7 @@ use Rattle.pp_deck.specs.OctalNumber.{number}
 use Rattle.pp_deck.specs.DeckLine.{Line, central_size, central_words, section, start, words, dead_start, keyword_of, line_by, number_then, ends_with, start_from, words_in, central_line, central_words_line, section_line, start_line, words_line, ◌>>=◌, line_after}
 use Rattle.pp_deck.specs.DeckMeaning.{begins_section, has_fields, is_processor_keyword, stated_size, size_by, size_in, size_of}
 use Rattle.pp_deck.specs.DeckText.{Fields}
-use Rattle.pp_deck.specs.declared.flaw.Flaw.{Flaw}
-use Rattle.pp_deck.specs.declared.keyword.Keyword.{Keyword}
+use Rattle.pp_deck.specs.declared.{flaw.Flaw.Flaw, keyword.Keyword.Keyword}
 use Rattle.pp_deck.specs.declared.keyword.Keyword.TheVariants as keywords
 use Rattle.pp_deck.proofs.SectionLemmas.{current_after}
 

@@ -16,8 +16,7 @@ use Rattle.pp_deck.specs.DeckLine.{Line, nothing, line_after}
 use Rattle.std.specs.Result.{result_ok}
 use Rattle.pp_deck.specs.DeckMeaning.{with_dead_start, has_fields, begins_section, line_at, size_of, fault_in, faults_in, parsed_deck, loaded, unless_faulty, meaning_of_lines}
 use Rattle.pp_deck.specs.Reading.{Progress, before_lines, after_line, after_lines, progress_of, deck_so_far, on_read}
-use Rattle.pp_deck.specs.declared.deck_fault.DeckFault.{DeckFault}
-use Rattle.pp_deck.specs.declared.flaw.Flaw.{Flaw}
+use Rattle.pp_deck.specs.declared.{deck_fault.DeckFault.DeckFault, flaw.Flaw.Flaw}
 use Rattle.pp_deck.proofs.RangeLemmas.{section_after}
 use Rattle.pp_deck.proofs.SectionLemmas.{after_line_parts}
 use Rattle.pp_word.proofs.GrowingLists.{range_more, range_append, filter_map_more}

@@ -6,8 +6,7 @@ use Rattle.pp_numbers.specs.Profile.{has_processor}
 use Rattle.pp_numbers.specs.declared.profile.Profile.{Profile}
 use Rattle.pp_deck.specs.DeckText.{Field, Fields}
 use Rattle.pp_deck.specs.OctalNumber.{number}
-use Rattle.pp_deck.specs.declared.flaw.Flaw.{Flaw}
-use Rattle.pp_deck.specs.declared.keyword.Keyword.{Keyword}
+use Rattle.pp_deck.specs.declared.{flaw.Flaw.Flaw, keyword.Keyword.Keyword}
 
 -- what a line may say: nothing; `CENTRAL n`: central memory has n words; `CM a w w ..`: central
 -- words from a on; `PP n`: what follows is for processor n; `START p a`: it starts at P = p with A

@@ -12,9 +12,7 @@ use Rattle.pp_deck.specs.DeckLoad.{machine_loaded, is_named, asks_dead_start}
 use Rattle.pp_deck.specs.DeckText.{Fields, is_line_feed, lines_of}
 use Rattle.pp_deck.specs.Flaw.{code_of}
 use Rattle.pp_deck.specs.declared.deck_fault.DeckCode.TheVariants.{TooLong, NotAscii}
-use Rattle.pp_deck.specs.declared.deck_fault.DeckFault.{DeckFault}
-use Rattle.pp_deck.specs.declared.flaw.Flaw.{Flaw}
-use Rattle.pp_deck.specs.declared.keyword.Keyword.{Keyword}
+use Rattle.pp_deck.specs.declared.{deck_fault.DeckFault.DeckFault, flaw.Flaw.Flaw, keyword.Keyword.Keyword}
 
 -- the machine that a deck loads, and whether it names each processor, in the order of the barrel
 pub record LoadedDeck : Type 0 where

@@ -1,6 +1,5 @@
 -- The codes under which the flaws of lines are reported.
-use Rattle.pp_deck.specs.declared.deck_fault.DeckCode.{DeckCode}
-use Rattle.pp_deck.specs.declared.flaw.Flaw.{Flaw}
+use Rattle.pp_deck.specs.declared.{deck_fault.DeckCode.DeckCode, flaw.Flaw.Flaw}
 
 abbrev pub code_of : Flaw → DeckCode
 code_of Flaw.UnknownLine = DeckCode.UnknownLine

@@ -3,8 +3,7 @@ use Rattle.std.proofs.Common.{◌≡◌, ◌≢◌, ℕ, ◌-◌, ◌==◌, ◌&
 use Rattle.std.specs.Prelude.{Option, Some, None, if◌then◌else◌, nat_lt}
 use Rattle.pp_channel.specs.Answer.{channel_state, event_of, event_with, flags_of, ready_at, reply_by, reply_made, reply_to}
 use Rattle.pp_channel.specs.History.{waiting}
-use Rattle.pp_channel.specs.declared.chan_op.ChanOp.{ChanOp}
-use Rattle.pp_channel.specs.declared.event.Event.{Event}
+use Rattle.pp_channel.specs.declared.{chan_op.ChanOp.ChanOp, event.Event.Event}
 use Rattle.pp_channel.specs.declared.reply.Reply.TheVariants as replies
 use Rattle.pp_machine.specs.Block.{block_word}
 use Rattle.pp_machine.specs.Effect.{faults}
@@ -16,14 +15,10 @@ use Rattle.pp_machine.specs.Operand.{lower_six, operation}
 use Rattle.pp_machine.specs.Processor.{Processor}
 use Rattle.pp_numbers.specs.Profile.{has_channel}
 use Rattle.pp_machine.specs.Step.{Step, local, probes, takes, does, reads, writes, need_of}
-use Rattle.pp_machine.specs.declared.answer.Answer.{Answer}
+use Rattle.pp_machine.specs.declared.{answer.Answer.Answer, block.Block.Block, block.BlockKind.BlockKind, need.Need.Need, pp_state.PpState.PpState}
 use Rattle.pp_machine.specs.declared.answer.Answer.TheVariants as answers
-use Rattle.pp_machine.specs.declared.block.Block.{Block}
-use Rattle.pp_machine.specs.declared.block.BlockKind.{BlockKind}
 use Rattle.pp_machine.specs.declared.block.BlockKind.TheVariants.{CentralIn, CentralOut, Input, Output}
-use Rattle.pp_machine.specs.declared.need.Need.{Need}
 use Rattle.pp_machine.specs.declared.need.Need.TheVariants.{Nothing, Local, Channel, Read, Write}
-use Rattle.pp_machine.specs.declared.pp_state.PpState.{PpState}
 use Rattle.pp_machine.specs.declared.pp_state.PpState.TheVariants.{Running, Fault}
 use Rattle.pp_word.specs.Address.{next_place, place_after}
 use Rattle.pp_word.specs.OnesComplement.{difference}

@@ -11,9 +11,8 @@ use Rattle.pp_numbers.specs.Profile.{processor_in_turn}
 use Rattle.pp_numbers.specs.PpNo.{processor_index}
 use Rattle.pp_machine.specs.Run.{run}
 use Rattle.pp_machine.proofs.RunLemmas.{barrel_more}
-use Rattle.pp_machine.specs.declared.need.Need.{Need}
+use Rattle.pp_machine.specs.declared.{need.Need.Need, trace.Trace.Trace}
 use Rattle.pp_machine.specs.declared.need.Need.TheVariants.{Nothing, Channel}
-use Rattle.pp_machine.specs.declared.trace.Trace.{Trace}
 use Rattle.pp_run.specs.Determinacy.{IsQuiet, Waits}
 use Rattle.pp_run.proofs.StepFacts.{central_by, event_by, event_by_need, histories_by, histories_none, own_step, processors_by, trace_by, trace_with}
 use Rattle.pp_ends.specs.Endings.{AreSameButTurns, EndsQuietFrom, IsStillFrom, MovesAt, WaitsAt, after_turns}

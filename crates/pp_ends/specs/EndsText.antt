@@ -10,9 +10,8 @@ use Rattle.pp_text.specs.PrintedText.{line_end, processor_line, used_channel_lin
 use Rattle.pp_text.specs.Standing.{standing}
 use Rattle.pp_ends.specs.Endings.{after_turns}
 use Rattle.pp_ends.specs.Loops.{loop_of}
-use Rattle.pp_ends.specs.declared.ending.Ending.{Ending}
+use Rattle.pp_ends.specs.declared.{ending.Ending.Ending, loops.Loop.Loop}
 use Rattle.pp_ends.specs.declared.ending.Ending.TheVariants.{AtRest, GoingOn, Repeats, Stuck}
-use Rattle.pp_ends.specs.declared.loops.Loop.{Loop}
 
 -- the turn that the text names, of a run of this many turns
 abbrev pub ends_turn : Ending → ℕ → ℕ

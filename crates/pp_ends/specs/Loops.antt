@@ -4,9 +4,8 @@ use Rattle.pp_machine.specs.MachineState.{MachineState, processor_of}
 use Rattle.pp_numbers.specs.PpNo.{names_processor, processor_index}
 use Rattle.pp_numbers.specs.Profile.{processor_in_turn}
 use Rattle.pp_ends.specs.Endings.{MovesAt, after_turns}
-use Rattle.pp_ends.specs.declared.ending.Ending.{Ending}
+use Rattle.pp_ends.specs.declared.{ending.Ending.Ending, loops.Loop.Loop}
 use Rattle.pp_ends.specs.declared.ending.Ending.TheVariants as endings
-use Rattle.pp_ends.specs.declared.loops.Loop.{Loop}
 
 -- a turn lies from turn `from` on and before turn `to`, and in it processor n moves
 pub record MovesIn (n from to turn : ℕ) (m : MachineState) : Type 0 where

@@ -12,8 +12,7 @@ use Rattle.pp_word.proofs.LastElements.{last_or-push}
 use Rattle.pp_channel.specs.Answer.{channel_state}
 use Rattle.pp_numbers.specs.ChannelNo.{names_channel}
 use Rattle.pp_channel.specs.History.{IsLawful, active, full, waiting, history_on}
-use Rattle.pp_channel.specs.declared.channel_state.ChannelState.{ChannelState}
-use Rattle.pp_channel.specs.declared.event.Event.{Event}
+use Rattle.pp_channel.specs.declared.{channel_state.ChannelState.ChannelState, event.Event.Event}
 use Rattle.pp_channel.specs.declared.event.Event.TheVariants.{Activate}
 use Rattle.pp_machine.specs.Headline as headline
 use Rattle.pp_machine.specs.MachineState.{MachineState, history_of}

@@ -8,17 +8,15 @@ use Rattle.std.proofs.lemmas.List.Folds.{list_all-append}
 use Rattle.pp_numbers.proofs.ChannelNoLemmas.{channel_fits}
 use Rattle.pp_numbers.specs.ChannelNo.{names_channel}
 use Rattle.pp_channel.specs.History.{HasTwelveBitWord, active, waiting}
-use Rattle.pp_channel.specs.declared.channel_state.ChannelState.{ChannelState}
-use Rattle.pp_channel.specs.declared.event.Event.{Event}
+use Rattle.pp_channel.specs.declared.{channel_state.ChannelState.ChannelState, event.Event.Event}
 use Rattle.pp_channel.specs.declared.event.Event.TheVariants.{Activate, Disconnect, Put, Take, Function}
 use Rattle.pp_deck.proofs.FieldTextLemmas.{IsField, IsTail, fields_of_plain, is_ink, is_plain, tail_blank, tail_field, tail_last, decimal_is_field, octal_ink, octal_is_field}
 use Rattle.pp_deck.specs.DeckText.{fields_of}
 use Rattle.pp_numbers.proofs.PpNoLemmas.{processor_fits}
 use Rattle.pp_numbers.specs.PpNo.{names_processor}
 use Rattle.pp_machine.specs.Processor.{Processor}
-use Rattle.pp_machine.specs.declared.pp_state.PpState.{PpState}
+use Rattle.pp_machine.specs.declared.{pp_state.PpState.PpState, trace.Trace.Trace}
 use Rattle.pp_machine.specs.declared.pp_state.PpState.TheVariants.{Fault}
-use Rattle.pp_machine.specs.declared.trace.Trace.{Trace}
 use Rattle.pp_word.specs.Numeral.{decimal, is_digit, numeral, octal}
 use Rattle.pp_word.proofs.NumeralLemmas.{decimal_are, decimal_read, octal_read}
 use Rattle.pp_text.specs.PrintedText.{channel_line as printed_channel_line, channel_text, event_line, event_text, line_end, processor_line, state_text}

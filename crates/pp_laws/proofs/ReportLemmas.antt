@@ -15,8 +15,7 @@ use Rattle.pp_runner.specs.Report.{IsReportOf}
 use Rattle.pp_numbers.specs.Limits.{RunLimits}
 use Rattle.pp_runner.specs.End.{HasEndNumber}
 use Rattle.pp_runner.specs.WorkerReport.{IsWorker}
-use Rattle.pp_runner.specs.declared.report.Report.{Report}
-use Rattle.pp_runner.specs.declared.worker.Worker.{Worker}
+use Rattle.pp_runner.specs.declared.{report.Report.Report, worker.Worker.Worker}
 use Rattle.pp_report.specs.ReportLaw.{ShownEnd, end_of, shown_end, shown_of}
 use Rattle.pp_text.specs.TextLaw.{NameAlike}
 

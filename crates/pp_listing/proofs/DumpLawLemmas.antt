@@ -9,8 +9,7 @@ use Rattle.pp_machine.specs.MachineState.{MachineState, processor_of, is_opened}
 use Rattle.pp_machine.specs.Processor.{Processor, IsProcessor, new_processor, no_processor, word_at}
 use Rattle.pp_numbers.specs.PpNo.{all_processors, names_processor, processor_count, processor_index, processor_number, is_named, processor_places}
 use Rattle.pp_machine.specs.Run.{run}
-use Rattle.pp_machine.specs.declared.block.Block.{Block}
-use Rattle.pp_machine.specs.declared.pp_state.PpState.{PpState}
+use Rattle.pp_machine.specs.declared.{block.Block.Block, pp_state.PpState.PpState}
 use Rattle.pp_machine.specs.declared.pp_state.PpState.TheVariants.{Running, Stopped, Fault}
 use Rattle.pp_numbers.specs.declared.profile.Profile.{Profile}
 use Rattle.pp_deck.specs.DeckLoad.{processor_with}

@@ -13,13 +13,9 @@ use Rattle.pp_channel.specs.Answer.{channel_state, event_of, event_with, flags_o
 use Rattle.pp_channel.proofs.AnswerLemmas.{shows_flags}
 use Rattle.pp_numbers.specs.ChannelNo.{channel_count, channel_index, channel_number}
 use Rattle.pp_channel.specs.History.{HasTwelveBitWord, HasTwelveBitWords, waiting}
-use Rattle.pp_channel.specs.declared.chan_op.ChanOp.{ChanOp}
+use Rattle.pp_channel.specs.declared.{chan_op.ChanOp.ChanOp, channel_state.ChannelState.ChannelState, event.Event.Event, flags.Flags.Flags, reply.Reply.Reply}
 use Rattle.pp_channel.specs.declared.chan_op.ChanOp.TheVariants as operations
-use Rattle.pp_channel.specs.declared.channel_state.ChannelState.{ChannelState}
-use Rattle.pp_channel.specs.declared.event.Event.{Event}
 use Rattle.pp_channel.specs.declared.event.Event.TheVariants as events
-use Rattle.pp_channel.specs.declared.flags.Flags.{Flags}
-use Rattle.pp_channel.specs.declared.reply.Reply.{Reply}
 use Rattle.pp_channel.specs.declared.reply.Reply.TheVariants as replies
 use Rattle.pp_channel.proofs.EachHistory.{bits_on}
 use Rattle.pp_channel.proofs.HistoryLemmas.{waiting_small}
@@ -34,9 +30,8 @@ use Rattle.pp_machine.specs.Processor.{Processor, IsAtRest, new_processor, no_pr
 use Rattle.pp_numbers.proofs.PpNoLemmas.{channel_of_processor}
 use Rattle.pp_numbers.specs.Profile.{has_processor}
 use Rattle.pp_machine.specs.Step.{Step, need_of, does, writes}
-use Rattle.pp_machine.specs.declared.need.Need.{Need}
+use Rattle.pp_machine.specs.declared.{need.Need.Need, pp_state.PpState.PpState}
 use Rattle.pp_machine.specs.declared.need.Need.TheVariants.{Nothing, Channel, Write}
-use Rattle.pp_machine.specs.declared.pp_state.PpState.{PpState}
 use Rattle.pp_machine.specs.declared.pp_state.PpState.TheVariants.{Running}
 use Rattle.pp_numbers.specs.declared.profile.Profile.{Profile}
 use Rattle.pp_numbers.specs.declared.profile.Profile.TheVariants.{Ten}

@@ -7,16 +7,14 @@ use Rattle.pp_machine.specs.MachineState.{MachineState, new_machine, processor_o
 use Rattle.pp_machine.specs.Processor.{Processor, new_processor}
 use Rattle.pp_numbers.specs.PpNo.{all_processors}
 use Rattle.pp_machine.specs.Run.{run}
-use Rattle.pp_machine.specs.declared.block.Block.{Block}
-use Rattle.pp_machine.specs.declared.pp_state.PpState.{PpState}
+use Rattle.pp_machine.specs.declared.{block.Block.Block, pp_state.PpState.PpState}
 use Rattle.pp_machine.specs.declared.pp_state.PpState.TheVariants.{Running, Fault}
 use Rattle.pp_deck.specs.DeckMeaning.{LoadedDeck, deck_meaning}
 use Rattle.pp_deck.specs.InUse.{in_use}
 use Rattle.pp_text.specs.Written.{AppendsFront}
 use Rattle.pp_listing.specs.Listing.{listing}
-use Rattle.pp_listing.specs.declared.dumped_deck.DumpFault.{DumpFault}
+use Rattle.pp_listing.specs.declared.{dumped_deck.DumpFault.DumpFault, going_on.Busy.Busy}
 use Rattle.pp_listing.specs.declared.dumped_deck.DumpFault.TheVariants.{NotBetweenPrograms, Write}
-use Rattle.pp_listing.specs.declared.going_on.Busy.{Busy}
 use Rattle.pp_listing.specs.declared.going_on.Busy.TheVariants.{WithinBlock, AtFault, Active}
 
 -- ---- why a machine is not between programs

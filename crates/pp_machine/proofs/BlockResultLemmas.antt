@@ -17,9 +17,8 @@ use Rattle.pp_machine.specs.Processor.{Processor, IsProcessor, word_at}
 use Rattle.pp_numbers.specs.Profile.{has_channel}
 use Rattle.pp_machine.specs.Replay.{fits, replayed}
 use Rattle.pp_machine.specs.Step.{local}
-use Rattle.pp_machine.specs.declared.answer.Answer.{Answer}
+use Rattle.pp_machine.specs.declared.{answer.Answer.Answer, block.BlockKind.BlockKind}
 use Rattle.pp_machine.specs.declared.answer.Answer.TheVariants.{Local, Channel, Read, Wrote}
-use Rattle.pp_machine.specs.declared.block.BlockKind.{BlockKind}
 use Rattle.pp_machine.specs.declared.block.BlockKind.TheVariants.{CentralIn, CentralOut, Input, Output}
 use Rattle.pp_machine.specs.declared.need.Need.TheVariants as needs
 use Rattle.pp_machine.specs.declared.pp_state.PpState.TheVariants.{Running}

@@ -5,13 +5,9 @@ use Rattle.std.specs.Option.{option_to_list}
 use Rattle.std.proofs.lemmas.List.{set-get_or, get_or-set_same}
 use Rattle.pp_channel.specs.Answer.{channel_state, event_of, reply_by, reply_to, flags_of}
 use Rattle.pp_numbers.specs.ChannelNo.{channel_index}
-use Rattle.pp_channel.specs.declared.chan_op.ChanOp.{ChanOp}
-use Rattle.pp_channel.specs.declared.channel_state.ChannelState.{ChannelState}
+use Rattle.pp_channel.specs.declared.{chan_op.ChanOp.ChanOp, channel_state.ChannelState.ChannelState, event.Event.Event, flags.Flags.Flags, reply.Reply.Reply}
 use Rattle.pp_channel.specs.declared.chan_op.ChanOp.TheVariants.{Probe}
-use Rattle.pp_channel.specs.declared.event.Event.{Event}
 use Rattle.pp_channel.specs.declared.event.Event.TheVariants as events
-use Rattle.pp_channel.specs.declared.flags.Flags.{Flags}
-use Rattle.pp_channel.specs.declared.reply.Reply.{Reply}
 use Rattle.pp_channel.specs.declared.reply.Reply.TheVariants as replies
 use Rattle.pp_machine.specs.MachineState.{MachineState, processor_of, history_of}
 use Rattle.pp_machine.specs.MachineStep.{answer_to, counted, event_for, served, taken, stepped, step_event, step_outcome}
@@ -20,12 +16,9 @@ use Rattle.pp_machine.specs.Processor.{Processor, no_processor, IsAtRest, IsAtFa
 use Rattle.pp_machine.specs.Step.{need_of}
 use Rattle.pp_numbers.specs.PpNo.{processor_index}
 use Rattle.pp_machine.specs.declared.answer.Answer.TheVariants as answers
-use Rattle.pp_machine.specs.declared.need.Need.{Need}
+use Rattle.pp_machine.specs.declared.{need.Need.Need, outcome.Outcome.Outcome, trace.Trace.Trace, pp_state.PpState.PpState}
 use Rattle.pp_machine.specs.declared.need.Need.TheVariants.{Nothing, Local, Channel, Read, Write}
-use Rattle.pp_machine.specs.declared.outcome.Outcome.{Outcome}
 use Rattle.pp_machine.specs.declared.outcome.Outcome.TheVariants.{AtRest, Held, Moved}
-use Rattle.pp_machine.specs.declared.trace.Trace.{Trace}
-use Rattle.pp_machine.specs.declared.pp_state.PpState.{PpState}
 use Rattle.pp_machine.specs.declared.pp_state.PpState.TheVariants.{Running, Stopped, Fault}
 use Rattle.pp_machine.proofs.StepLemmas.{at_rest, rest_changes_nothing, held_changes_nothing, held_by_answer, fault_keeps}
 

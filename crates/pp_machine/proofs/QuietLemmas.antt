@@ -6,13 +6,10 @@ use Rattle.std.proofs.lemmas.Bool.Decides.{eqb_tells, leb_tells}
 use Rattle.std.proofs.lemmas.List.{set-get_or, length-set, ext_get_or}
 use Rattle.pp_channel.specs.Answer.{event_of, reply_to, flags_of}
 use Rattle.pp_numbers.specs.ChannelNo.{channel_index}
-use Rattle.pp_channel.specs.declared.chan_op.ChanOp.{ChanOp}
+use Rattle.pp_channel.specs.declared.{chan_op.ChanOp.ChanOp, event.Event.Event, flags.Flags.Flags, reply.Reply.Reply}
 use Rattle.pp_channel.specs.declared.chan_op.ChanOp.TheVariants.{Probe}
-use Rattle.pp_channel.specs.declared.event.Event.{Event}
-use Rattle.pp_channel.specs.declared.flags.Flags.{Flags}
-use Rattle.pp_channel.specs.declared.reply.Reply.{Reply}
 use Rattle.pp_channel.specs.declared.reply.Reply.TheVariants as replies
-use Rattle.pp_machine.specs.declared.trace.Trace.{Trace}
+use Rattle.pp_machine.specs.declared.{trace.Trace.Trace, need.Need.Need}
 use Rattle.std.specs.Option.{option_to_list}
 use Rattle.pp_machine.specs.MachineState.{MachineState, processor_of, history_of}
 use Rattle.pp_machine.specs.MachineStep.{answer_to, counted, served, taken, stepped}
@@ -23,7 +20,6 @@ use Rattle.pp_numbers.specs.Profile.{processors_in, processor_in_turn}
 use Rattle.pp_machine.specs.Quiet.{is_none, is_quiet, step_beside, steps_beside, IsAhead, AreAhead}
 use Rattle.pp_machine.specs.Rounds.{whole_rounds}
 use Rattle.pp_machine.specs.Run.{run, barrel}
-use Rattle.pp_machine.specs.declared.need.Need.{Need}
 use Rattle.pp_machine.specs.declared.need.Need.TheVariants.{Nothing, Local, Channel, Read, Write}
 use Rattle.pp_machine.specs.declared.answer.Answer.TheVariants as answers
 use Rattle.pp_numbers.specs.declared.profile.Profile.{Profile}

@@ -2,13 +2,8 @@
 use Rattle.std.proofs.Common.{◌≡◌, ℕ, Bool, true, false, Option, None, Some, refl, suc, ◌+◌, List, [], ◌∷◌, ◌++◌, length, if◌then◌else◌, ap, ◌∙◌, sym, arith, append_assoc, append-nil, ◌<◌, ◌≤◌, drop, get_or}
 use Rattle.std.specs.Prelude.{if◌then◌else◌}
 use Rattle.pp_channel.specs.Answer.{event_with, only_looks, operation_of, ready_at, reply_by, reply_made, reply_shown, seen_answered, state_reply}
-use Rattle.pp_channel.specs.declared.chan_op.ChanOp.{ChanOp}
-use Rattle.pp_channel.specs.declared.channel_state.ChannelState.{ChannelState}
-use Rattle.pp_channel.specs.declared.seen.Seen.{Seen}
+use Rattle.pp_channel.specs.declared.{chan_op.ChanOp.ChanOp, channel_state.ChannelState.ChannelState, seen.Seen.Seen, event.Event.Event, flags.Flags.Flags, reply.Reply.Reply}
 use Rattle.pp_channel.specs.declared.seen.Seen.TheVariants.{Did, Saw}
-use Rattle.pp_channel.specs.declared.event.Event.{Event}
-use Rattle.pp_channel.specs.declared.flags.Flags.{Flags}
-use Rattle.pp_channel.specs.declared.reply.Reply.{Reply}
 use Rattle.pp_machine.specs.Replay.{reply_fits, fits, replayed, given_count, collected_along, contribution}
 use Rattle.pp_machine.specs.NeedAndEffect.{need, processor_after}
 use Rattle.pp_machine.specs.Processor.{Processor}

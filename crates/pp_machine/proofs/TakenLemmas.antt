@@ -10,10 +10,8 @@ use Rattle.pp_machine.specs.MachineStep.{answer_to, counted, served, taken, step
 use Rattle.pp_machine.specs.NeedAndEffect.{need, processor_after, outcome, is_held, if_running}
 use Rattle.pp_machine.specs.Processor.{Processor, no_processor}
 use Rattle.pp_numbers.specs.PpNo.{processor_index}
-use Rattle.pp_machine.specs.declared.answer.Answer.{Answer}
+use Rattle.pp_machine.specs.declared.{answer.Answer.Answer, block.Block.Block, need.Need.Need}
 use Rattle.pp_machine.specs.declared.answer.Answer.TheVariants.{Local}
-use Rattle.pp_machine.specs.declared.block.Block.{Block}
-use Rattle.pp_machine.specs.declared.need.Need.{Need}
 use Rattle.pp_machine.specs.declared.outcome.Outcome.TheVariants.{Held, Moved, AtRest}
 use Rattle.pp_machine.specs.declared.pp_state.PpState.TheVariants.{Running}
 

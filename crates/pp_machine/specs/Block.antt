@@ -9,9 +9,8 @@ use Rattle.pp_channel.specs.declared.flags.Flags.{Flags}
 use Rattle.pp_machine.specs.Operand.{second_word}
 use Rattle.pp_machine.specs.Processor.{Processor, word_at}
 use Rattle.pp_machine.specs.Step.{Step, takes, does, reads, writes}
-use Rattle.pp_machine.specs.declared.block.BlockKind.{BlockKind}
+use Rattle.pp_machine.specs.declared.{block.BlockKind.BlockKind, block.Block.Block}
 use Rattle.pp_machine.specs.declared.block.BlockKind.TheVariants.{CentralIn, CentralOut, Input, Output}
-use Rattle.pp_machine.specs.declared.block.Block.{Block}
 
 -- a memory after words were stored from a place on
 abbrev pub stored_from : List ℕ → ℕ → List ℕ → List ℕ

@@ -14,8 +14,7 @@ use Rattle.pp_machine.specs.Operand.{operation, lower_six, second_word}
 use Rattle.pp_numbers.specs.Profile.{has_channel}
 use Rattle.pp_machine.specs.Processor.{Processor, word_at}
 use Rattle.pp_machine.specs.Replay.{replayed, given_count}
-use Rattle.pp_machine.specs.declared.answer.Answer.{Answer}
-use Rattle.pp_machine.specs.declared.need.Need.{Need}
+use Rattle.pp_machine.specs.declared.{answer.Answer.Answer, need.Need.Need}
 use Rattle.pp_machine.specs.declared.pp_state.PpState.TheVariants.{Running}
 
 -- the memory with the place of the second word in place 0000

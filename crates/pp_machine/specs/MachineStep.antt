@@ -4,15 +4,11 @@
 use Rattle.std.specs.Prelude.{◌≡◌, ℕ, ◌+◌, ◌-◌, ◌^◌, min, List, ◌++◌, length, map, nat_lt, Option, None, IsNone, Result, IfOk, IsOk, OnErr, OnOk, slice_get, slice_set, option_to_list}
 use Rattle.pp_channel.specs.Answer.{event_of, reply_to, history_after}
 use Rattle.pp_numbers.specs.ChannelNo.{channel_index}
-use Rattle.pp_channel.specs.declared.event.Event.{Event}
-use Rattle.pp_channel.specs.declared.memory.Memory.{Memory}
+use Rattle.pp_channel.specs.declared.{event.Event.Event, memory.Memory.Memory}
 use Rattle.pp_machine.specs.MachineState.{MachineState, processor_of, history_of}
 use Rattle.pp_machine.specs.NeedAndEffect.{need, processor_after, outcome}
 use Rattle.pp_numbers.specs.PpNo.{processor_index}
-use Rattle.pp_machine.specs.declared.answer.Answer.{Answer}
-use Rattle.pp_machine.specs.declared.need.Need.{Need}
-use Rattle.pp_machine.specs.declared.outcome.Outcome.{Outcome}
-use Rattle.pp_machine.specs.declared.trace.Trace.{Trace}
+use Rattle.pp_machine.specs.declared.{answer.Answer.Answer, need.Need.Need, outcome.Outcome.Outcome, trace.Trace.Trace}
 
 -- what the channels and central memory answer to a need
 abbrev pub answer_to : Need → MachineState → Answer

@@ -1,19 +1,14 @@
 -- What a processor's next step needs from outside, what its answer leaves, and the outcome.
 use Rattle.std.specs.Prelude.{◌≡◌, Bool, true, false, Option, None, Some, if◌then◌else◌}
-use Rattle.pp_channel.specs.declared.flags.Flags.{Flags}
-use Rattle.pp_channel.specs.declared.reply.Reply.{Reply}
+use Rattle.pp_channel.specs.declared.{flags.Flags.Flags, reply.Reply.Reply}
 use Rattle.pp_machine.specs.Block.{block_word, held}
 use Rattle.pp_machine.specs.Effect.{faults}
 use Rattle.pp_machine.specs.InstructionTable.{instruction}
 use Rattle.pp_machine.specs.Operand.{operation, lower_six}
 use Rattle.pp_machine.specs.Processor.{Processor, past_central_memory}
 use Rattle.pp_machine.specs.Step.{Step, need_of, local, probes, takes, does, reads, writes}
-use Rattle.pp_machine.specs.declared.answer.Answer.{Answer}
+use Rattle.pp_machine.specs.declared.{answer.Answer.Answer, block.Block.Block, need.Need.Need, outcome.Outcome.Outcome, pp_state.PpState.PpState}
 use Rattle.pp_machine.specs.declared.answer.Answer.TheVariants.{Local, Channel, Read, Wrote}
-use Rattle.pp_machine.specs.declared.block.Block.{Block}
-use Rattle.pp_machine.specs.declared.need.Need.{Need}
-use Rattle.pp_machine.specs.declared.outcome.Outcome.{Outcome}
-use Rattle.pp_machine.specs.declared.pp_state.PpState.{PpState}
 use Rattle.pp_machine.specs.declared.pp_state.PpState.TheVariants.{Running}
 
 -- the next step of a running processor: the next word of its block, else the instruction at P

@@ -2,9 +2,7 @@
 -- (Manual 60100000, peripheral processors: memory, the accumulator A, the program address P.)
 use Rattle.std.specs.Prelude.{◌≡◌, ℕ, Bool, true, false, ◌<◌, ◌≤◌, ◌^◌, List, Option, None, Some, slice_index, ◌≢◌}
 use Rattle.pp_machine.specs.PpMemory.{IsMemory, empty_memory}
-use Rattle.pp_machine.specs.declared.block.Block.{Block}
-use Rattle.pp_machine.specs.declared.block.BlockKind.{BlockKind}
-use Rattle.pp_machine.specs.declared.pp_state.PpState.{PpState}
+use Rattle.pp_machine.specs.declared.{block.Block.Block, block.BlockKind.BlockKind, pp_state.PpState.PpState}
 use Rattle.pp_machine.specs.declared.pp_state.PpState.TheVariants.{Running, Stopped, Fault}
 use Rattle.pp_numbers.specs.declared.profile.Profile.{Profile}
 

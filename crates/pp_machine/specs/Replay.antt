@@ -1,14 +1,10 @@
 -- A replay: a processor is given answers in order, up to the first that does not fit its need.
 use Rattle.std.specs.Prelude.{ℕ, ◌+◌, Bool, true, false, List, [], ◌∷◌, ◌++◌, map, if◌then◌else◌, option_to_list, not, Option, None, is_some}
 use Rattle.pp_channel.specs.Answer.{event_answered, seen_answered, only_looks, event_with}
-use Rattle.pp_channel.specs.declared.chan_op.ChanOp.{ChanOp}
-use Rattle.pp_channel.specs.declared.seen.Seen.{Seen}
-use Rattle.pp_channel.specs.declared.event.Event.{Event}
-use Rattle.pp_channel.specs.declared.reply.Reply.{Reply}
+use Rattle.pp_channel.specs.declared.{chan_op.ChanOp.ChanOp, seen.Seen.Seen, event.Event.Event, reply.Reply.Reply}
 use Rattle.pp_machine.specs.NeedAndEffect.{need, processor_after}
 use Rattle.pp_machine.specs.Processor.{Processor}
-use Rattle.pp_machine.specs.declared.answer.Answer.{Answer}
-use Rattle.pp_machine.specs.declared.need.Need.{Need}
+use Rattle.pp_machine.specs.declared.{answer.Answer.Answer, need.Need.Need}
 
 -- whether a reply fits an operation: flags go with one that only looks, a word with Take, Done with
 -- one whose event needs no word from the channel; and each that acts may be held

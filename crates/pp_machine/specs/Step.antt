@@ -1,7 +1,6 @@
 -- One step of a processor: what it needs from outside, and the processor that the answer leaves.
 use Rattle.std.specs.Prelude.{ℕ}
-use Rattle.pp_channel.specs.declared.chan_op.ChanOp.{ChanOp}
-use Rattle.pp_channel.specs.declared.flags.Flags.{Flags}
+use Rattle.pp_channel.specs.declared.{chan_op.ChanOp.ChanOp, flags.Flags.Flags}
 use Rattle.pp_machine.specs.Processor.{Processor}
 use Rattle.pp_machine.specs.declared.need.Need.{Need}
 

@@ -9,8 +9,7 @@ use Rattle.pp_numbers.specs.PpNo.{processor_index, processor_places}
 use Rattle.pp_races.specs.FlagSets.{look_at, no_looks}
 use Rattle.pp_races.specs.Tables.{AreLooks, AreLow, IsLow, entry_count, entry_place, looks_of, no_low}
 use Rattle.pp_races.specs.Watch.{unwatched}
-use Rattle.pp_races.specs.declared.looks.Looks.{Looks}
-use Rattle.pp_races.specs.declared.low.Low.{Low}
+use Rattle.pp_races.specs.declared.{looks.Looks.Looks, low.Low.Low}
 use Rattle.pp_races.proofs.EntryLemmas.{entry_within}
 use Rattle.pp_races.proofs.FlagSetLemmas.{each_flags}
 use Rattle.pp_races.proofs.LowLemmas.{missed_past, through_past}

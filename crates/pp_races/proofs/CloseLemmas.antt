@@ -10,8 +10,7 @@ use Rattle.pp_machine.specs.declared.trace.Trace.{Trace}
 use Rattle.pp_races.specs.FlagSets.{look_at, no_looks}
 use Rattle.pp_races.specs.Tables.{closing_findings, entry_count, entry_place, looks_after_event, looks_of}
 use Rattle.pp_races.specs.Watch.{each_below, race_after}
-use Rattle.pp_races.specs.declared.finding.Finding.{Finding}
-use Rattle.pp_races.specs.declared.looks.Looks.{Looks}
+use Rattle.pp_races.specs.declared.{finding.Finding.Finding, looks.Looks.Looks}
 use Rattle.pp_races.proofs.EntryLemmas.{entry_within, set_other}
 use Rattle.pp_races.proofs.EndLemmas.{each_more}
 

@@ -5,9 +5,7 @@ use Rattle.pp_word.specs.Tables.{tabulate}
 use Rattle.pp_word.proofs.TableLemmas.{tabulate_same}
 use Rattle.pp_channel.specs.Answer.{flags_of}
 use Rattle.pp_numbers.specs.ChannelNo.{names_channel}
-use Rattle.pp_channel.specs.declared.chan_op.ChanOp.{ChanOp}
-use Rattle.pp_channel.specs.declared.event.Event.{Event}
-use Rattle.pp_channel.specs.declared.flags.Flags.{Flags}
+use Rattle.pp_channel.specs.declared.{chan_op.ChanOp.ChanOp, event.Event.Event, flags.Flags.Flags}
 use Rattle.pp_machine.specs.MachineState.{MachineState, processor_of, history_of}
 use Rattle.pp_numbers.specs.PpNo.{each_processor, names_processor, processor_count, processor_number, processor_places}
 use Rattle.pp_machine.specs.Processor.{Processor}
@@ -19,12 +17,8 @@ use Rattle.pp_races.specs.Findings.{end_by_need, held_before, is_shared, sharing
 use Rattle.pp_races.specs.OtherFlags.{waits_at}
 use Rattle.pp_races.specs.Tables.{AreLow, IsUseOf, entry_place, has_bit, low_of, missed_at, no_low}
 use Rattle.pp_races.specs.Watch.{Missed, Watch, asking_step, each_below, first_race}
-use Rattle.pp_races.specs.declared.asking_step.AskingStep.{AskingStep}
-use Rattle.pp_races.specs.declared.finding.Finding.{Finding}
+use Rattle.pp_races.specs.declared.{asking_step.AskingStep.AskingStep, finding.Finding.Finding, flag_set.FlagSet.FlagSet, low.Low.Low, word_use.WordUse.WordUse}
 use Rattle.pp_races.specs.declared.finding.Finding.TheVariants.{GoingOn, Shared}
-use Rattle.pp_races.specs.declared.flag_set.FlagSet.{FlagSet}
-use Rattle.pp_races.specs.declared.low.Low.{Low}
-use Rattle.pp_races.specs.declared.word_use.WordUse.{WordUse}
 use Rattle.pp_races.proofs.LowLemmas.{first_race_same}
 
 -- ---- lists that grow place by place

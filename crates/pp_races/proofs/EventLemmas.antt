@@ -7,9 +7,7 @@ use Rattle.std.proofs.lemmas.List.{drop-append-le, length_push, get_or-set_same}
 use Rattle.pp_channel.specs.Answer.{event_of, flags_of, flags_after}
 use Rattle.pp_numbers.specs.ChannelNo.{channel_count, names_channel}
 use Rattle.pp_channel.specs.History.{IsLawful}
-use Rattle.pp_channel.specs.declared.chan_op.ChanOp.{ChanOp}
-use Rattle.pp_channel.specs.declared.event.Event.{Event}
-use Rattle.pp_channel.specs.declared.flags.Flags.{Flags}
+use Rattle.pp_channel.specs.declared.{chan_op.ChanOp.ChanOp, event.Event.Event, flags.Flags.Flags}
 use Rattle.pp_channel.proofs.AnswerLemmas.{flags_by_table, lawful_with_event}
 use Rattle.pp_machine.specs.MachineState.{MachineState, processor_of, history_of}
 use Rattle.pp_machine.specs.MachineStep.{stepped}
@@ -24,13 +22,7 @@ use Rattle.pp_races.specs.OtherFlags.{waits_at}
 use Rattle.pp_races.specs.Spans.{IsIndex}
 use Rattle.pp_races.specs.Tables.{AreClosed, AreLow, AreLooks, AreWatched, IsLow, closing_findings, entry_count, entry_place, flags_through, looks_of, low_of, missed_at, missed_from, no_low}
 use Rattle.pp_races.specs.Watch.{Missed, Watch, asking_step, each_below, each_number, entry_of, first_race, made, missed_event, race_after, race_before}
-use Rattle.pp_races.specs.declared.asking_step.AskingStep.{AskingStep}
-use Rattle.pp_races.specs.declared.finding.Finding.{Finding}
-use Rattle.pp_races.specs.declared.flag_set.FlagSet.{FlagSet}
-use Rattle.pp_races.specs.declared.looks.Looks.{Looks}
-use Rattle.pp_races.specs.declared.latest.Latest.{Latest}
-use Rattle.pp_races.specs.declared.low.Low.{Low}
-use Rattle.pp_races.specs.declared.span.Span.{Span}
+use Rattle.pp_races.specs.declared.{asking_step.AskingStep.AskingStep, finding.Finding.Finding, flag_set.FlagSet.FlagSet, looks.Looks.Looks, latest.Latest.Latest, low.Low.Low, span.Span.Span}
 use Rattle.pp_races.proofs.FlagSetLemmas.{each_flags}
 use Rattle.pp_races.proofs.EntryLemmas.{set_other}
 use Rattle.pp_races.proofs.LowLemmas.{first_race_same, missed_past, missed_push, missed_push_other, through_past, through_push, through_push_other}

@@ -7,16 +7,14 @@ use Rattle.std.proofs.lemmas.List.Sums.{sum_by-cons}
 use Rattle.pp_word.proofs.TableLemmas.{get_or-tabulate}
 use Rattle.pp_channel.specs.Answer.{flags_of}
 use Rattle.pp_numbers.specs.ChannelNo.{channel_count}
-use Rattle.pp_channel.specs.declared.chan_op.ChanOp.{ChanOp}
-use Rattle.pp_channel.specs.declared.event.Event.{Event}
+use Rattle.pp_channel.specs.declared.{chan_op.ChanOp.ChanOp, event.Event.Event}
 use Rattle.pp_machine.specs.MachineState.{MachineState, processor_of, history_of}
 use Rattle.pp_machine.specs.NeedAndEffect.{need}
 use Rattle.pp_numbers.specs.PpNo.{each_processor, names_processor, processor_count, processor_index, processor_number, processor_places}
 use Rattle.pp_machine.specs.Processor.{no_processor}
 use Rattle.pp_machine.specs.Run.{run}
-use Rattle.pp_machine.specs.declared.need.Need.{Need}
+use Rattle.pp_machine.specs.declared.{need.Need.Need, trace.Trace.Trace}
 use Rattle.pp_machine.specs.declared.need.Need.TheVariants.{Channel}
-use Rattle.pp_machine.specs.declared.trace.Trace.{Trace}
 use Rattle.pp_machine.proofs.StepLemmas.{nothing_at_rest}
 use Rattle.pp_run.specs.Determinacy.{IsDeterminate, IsSettled, UsesAt, at_moment, history_at, need_at}
 use Rattle.pp_run.proofs.Moments.{moment_past, run_central}
@@ -25,8 +23,7 @@ use Rattle.pp_races.specs.OtherFlags.{waits_at}
 use Rattle.pp_races.specs.OnePass.{WaitsAt}
 use Rattle.pp_races.specs.Soundness.{AreLastOf, IsSound, TurnTestIsExact, least_of, open_of}
 use Rattle.pp_races.specs.Watch.{Missed, Watch, asking_step, each_below, each_number, entry_of, first_race, missed_event}
-use Rattle.pp_races.specs.declared.asking_step.AskingStep.{AskingStep}
-use Rattle.pp_races.specs.declared.finding.Finding.{Finding}
+use Rattle.pp_races.specs.declared.{asking_step.AskingStep.AskingStep, finding.Finding.Finding}
 use Rattle.pp_races.specs.declared.finding.Finding.TheVariants.{GoingOn, Shared}
 use Rattle.pp_races.proofs.MissedLemmas.{none_races}
 use Rattle.pp_races.proofs.SoundLemmas.{none_below, none_numbered, waits_there}

@@ -5,9 +5,7 @@ use Rattle.std.specs.Prelude.{◌||◌, ◌&&◌, not, if◌then◌else◌}
 use Rattle.std.specs.Option.{option_or}
 use Rattle.pp_channel.specs.declared.flags.Flags.{Flags}
 use Rattle.pp_races.specs.FlagSets.{has, look_at}
-use Rattle.pp_races.specs.declared.asking_step.AskingStep.{AskingStep}
-use Rattle.pp_races.specs.declared.flag_set.FlagSet.{FlagSet}
-use Rattle.pp_races.specs.declared.looks.Looks.{Looks}
+use Rattle.pp_races.specs.declared.{asking_step.AskingStep.AskingStep, flag_set.FlagSet.FlagSet, looks.Looks.Looks}
 
 -- what holds at each of the four holds at all
 pub each_flags : (P : Flags → Type 0) → P (record { active = false; full = false }) → P (record { active = false; full = true }) → P (record { active = true; full = false }) → P (record { active = true; full = true }) → (f : Flags) → P f

@@ -2,8 +2,7 @@
 use Rattle.std.proofs.Common.{◌≡◌, ℕ, zero, suc, ◌+◌, ◌-◌, ◌≤◌, Bool, true, false, List, [], ◌∷◌, ◌++◌, length, Option, Some, None, refl, sym, ap, ◌∙◌, subst, append-nil, append_assoc, arith}
 use Rattle.std.specs.Prelude.{if◌then◌else◌}
 use Rattle.pp_channel.specs.Answer.{event_of, flags_of}
-use Rattle.pp_channel.specs.declared.chan_op.ChanOp.{ChanOp}
-use Rattle.pp_channel.specs.declared.event.Event.{Event}
+use Rattle.pp_channel.specs.declared.{chan_op.ChanOp.ChanOp, event.Event.Event}
 use Rattle.pp_machine.specs.MachineState.{MachineState, processor_of, history_of}
 use Rattle.pp_machine.specs.MachineStep.{stepped}
 use Rattle.pp_machine.specs.NeedAndEffect.{need}
@@ -15,10 +14,7 @@ use Rattle.pp_races.specs.Findings.{end_of, findings, findings_at_end, sharing_o
 use Rattle.pp_races.specs.OtherFlags.{waits_at}
 use Rattle.pp_races.specs.Tables.{AreLow, AreLooks, AreUses, AreWatched}
 use Rattle.pp_races.specs.Watch.{Watch, asked, each_below, each_number, looked, unwatched, watched, watched_need, watched_step}
-use Rattle.pp_races.specs.declared.finding.Finding.{Finding}
-use Rattle.pp_races.specs.declared.looks.Looks.{Looks}
-use Rattle.pp_races.specs.declared.low.Low.{Low}
-use Rattle.pp_races.specs.declared.word_use.WordUse.{WordUse}
+use Rattle.pp_races.specs.declared.{finding.Finding.Finding, looks.Looks.Looks, low.Low.Low, word_use.WordUse.WordUse}
 
 -- ---- one step more
 

@@ -11,9 +11,7 @@ use Rattle.pp_races.specs.FlagSets.{has}
 use Rattle.pp_races.specs.Spans.{IsLatest, found_past, no_latest}
 use Rattle.pp_races.specs.Tables.{flags_through, missed_at, missed_from}
 use Rattle.pp_races.specs.Watch.{from_alike, missed_event}
-use Rattle.pp_races.specs.declared.flag_set.FlagSet.{FlagSet}
-use Rattle.pp_races.specs.declared.latest.Latest.{Latest}
-use Rattle.pp_races.specs.declared.low.Low.{Low}
+use Rattle.pp_races.specs.declared.{flag_set.FlagSet.FlagSet, latest.Latest.Latest, low.Low.Low}
 use Rattle.pp_races.proofs.LowLemmas.{alike_passed, missed_push, missed_push_other, through_push, through_push_other}
 use Rattle.pp_races.proofs.FlagSetLemmas.{each_flags}
 use Rattle.pp_races.proofs.SpanLemmas.{alike_append}

@@ -5,17 +5,14 @@ use Rattle.std.specs.Option.{option_or}
 use Rattle.std.proofs.lemmas.List.{get_or_default, get_or-set_same}
 use Rattle.pp_channel.specs.Answer.{event_of, flags_of}
 use Rattle.pp_numbers.specs.ChannelNo.{channel_index, names_channel}
-use Rattle.pp_channel.specs.declared.chan_op.ChanOp.{ChanOp}
-use Rattle.pp_channel.specs.declared.event.Event.{Event}
-use Rattle.pp_channel.specs.declared.flags.Flags.{Flags}
+use Rattle.pp_channel.specs.declared.{chan_op.ChanOp.ChanOp, event.Event.Event, flags.Flags.Flags}
 use Rattle.pp_machine.specs.MachineState.{MachineState, processor_of, history_of}
 use Rattle.pp_machine.specs.MachineStep.{stepped}
 use Rattle.pp_machine.specs.NeedAndEffect.{need}
 use Rattle.pp_numbers.specs.PpNo.{names_processor}
 use Rattle.pp_machine.specs.Processor.{Processor}
-use Rattle.pp_machine.specs.declared.need.Need.{Need}
+use Rattle.pp_machine.specs.declared.{need.Need.Need, trace.Trace.Trace}
 use Rattle.pp_machine.specs.declared.need.Need.TheVariants.{Channel}
-use Rattle.pp_machine.specs.declared.trace.Trace.{Trace}
 use Rattle.pp_run.proofs.Moments.{run_central}
 use Rattle.pp_run.proofs.StepFacts.{histories_by, histories_none, trace_by, trace_with}
 use Rattle.pp_races.specs.FlagSets.{has, look_at, no_looks}
@@ -24,14 +21,7 @@ use Rattle.pp_races.specs.Spans.{IsIndex}
 use Rattle.pp_races.specs.Tables.{AreLow, AreLooks, AreUses, AreWatched, IsLow, entry_count, entry_place, flags_through, looks_of, low_of, missed_at, no_low}
 use Rattle.pp_races.specs.Watch.{Missed, Watch, asked, asking_step, first_race, from_alike, looked, race_before, watched_need}
 use Rattle.pp_races.specs.WatchTables.{AreTables}
-use Rattle.pp_races.specs.declared.asking_step.AskingStep.{AskingStep}
-use Rattle.pp_races.specs.declared.finding.Finding.{Finding}
-use Rattle.pp_races.specs.declared.flag_set.FlagSet.{FlagSet}
-use Rattle.pp_races.specs.declared.looks.Looks.{Looks}
-use Rattle.pp_races.specs.declared.latest.Latest.{Latest}
-use Rattle.pp_races.specs.declared.low.Low.{Low}
-use Rattle.pp_races.specs.declared.span.Span.{Span}
-use Rattle.pp_races.specs.declared.watch_tables.WatchTables.{WatchTables}
+use Rattle.pp_races.specs.declared.{asking_step.AskingStep.AskingStep, finding.Finding.Finding, flag_set.FlagSet.FlagSet, looks.Looks.Looks, latest.Latest.Latest, low.Low.Low, span.Span.Span, watch_tables.WatchTables.WatchTables}
 use Rattle.pp_races.proofs.EntryLemmas.{here_or_not, put_here, put_other, set_other}
 use Rattle.pp_races.proofs.LowLemmas.{first_race_same, from_alike_same}
 

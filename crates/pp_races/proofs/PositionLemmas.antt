@@ -6,8 +6,7 @@ use Rattle.std.specs.Prelude.{◌&&◌, ◌==◌, ◌⊎◌, not, is_some, slice
 use Rattle.std.proofs.lemmas.Bool.{cases_eq, cases_lt, ne_eqb, and_parts, and_from, eq-eqb, eqb-true}
 use Rattle.std.proofs.lemmas.List.{get_or-set_other, get_or-set_same, get_or_past, set_past}
 use Rattle.pp_channel.specs.Answer.{only_looks, reply_shown, event_of, flags_of, ready_at}
-use Rattle.pp_channel.specs.declared.chan_op.ChanOp.{ChanOp}
-use Rattle.pp_channel.specs.declared.flags.Flags.{Flags}
+use Rattle.pp_channel.specs.declared.{chan_op.ChanOp.ChanOp, flags.Flags.Flags, event.Event.Event}
 use Rattle.pp_word.specs.Address.{next_place, place_after}
 use Rattle.pp_word.specs.Opcode.{code_of, length_of}
 use Rattle.pp_word.specs.declared.opcode.Opcode.{Opcode}
@@ -20,19 +19,14 @@ use Rattle.pp_machine.specs.Operand.{lower_six, operation, second_word}
 use Rattle.pp_machine.specs.Processor.{Processor, word_at}
 use Rattle.pp_numbers.specs.Profile.{has_channel}
 use Rattle.pp_machine.specs.Step.{Step, need_of, local, probes, takes, does}
-use Rattle.pp_machine.specs.declared.answer.Answer.{Answer}
-use Rattle.pp_machine.specs.declared.block.Block.{Block}
-use Rattle.pp_machine.specs.declared.block.BlockKind.{BlockKind}
+use Rattle.pp_machine.specs.declared.{answer.Answer.Answer, block.Block.Block, block.BlockKind.BlockKind, need.Need.Need, pp_state.PpState.PpState}
 use Rattle.pp_machine.specs.declared.block.BlockKind.TheVariants.{CentralIn, CentralOut, Input, Output}
-use Rattle.pp_machine.specs.declared.need.Need.{Need}
 use Rattle.pp_machine.specs.declared.need.Need.TheVariants.{Channel}
-use Rattle.pp_machine.specs.declared.pp_state.PpState.{PpState}
 use Rattle.pp_machine.specs.declared.pp_state.PpState.TheVariants.{Running}
 use Rattle.pp_races.specs.OtherFlags.{position_at, position_of, is_same, shown_to, found_at, is_alike, is_race, makes_none}
 use Rattle.pp_races.specs.Positions.{cut_position, held_position, position_shown, tests_flags}
 use Rattle.pp_races.specs.declared.position.Position.{Position}
 use Rattle.pp_channel.specs.History.{IsLawful, HasTwelveBitWords, waiting}
-use Rattle.pp_channel.specs.declared.event.Event.{Event}
 use Rattle.pp_channel.proofs.AnswerLemmas.{full_register}
 use Rattle.pp_races.specs.declared.found.Found.TheVariants.{Alike, Waits, Races}
 

@@ -14,9 +14,7 @@ use Rattle.pp_races.specs.FlagSets.{has}
 use Rattle.pp_races.specs.Spans.{AreSpans, GoesOnFrom, IsSpan, no_span, span_at}
 use Rattle.pp_races.specs.Tables.{flags_through, missed_from}
 use Rattle.pp_races.specs.Watch.{from_alike}
-use Rattle.pp_races.specs.declared.flag_set.FlagSet.{FlagSet}
-use Rattle.pp_races.specs.declared.low.Low.{Low}
-use Rattle.pp_races.specs.declared.span.Span.{Span}
+use Rattle.pp_races.specs.declared.{flag_set.FlagSet.FlagSet, low.Low.Low, span.Span.Span}
 use Rattle.pp_races.proofs.SpanLemmas.{empty_span, goes_past, longer_span, same_span}
 
 -- ---- numbers of spans

@@ -4,8 +4,7 @@ use Rattle.std.specs.Prelude.{◌==◌, ◌&&◌, if◌then◌else◌}
 use Rattle.std.proofs.lemmas.Bool.{and_from, cases_lt, eq-eqb, or_left, or_right}
 use Rattle.pp_channel.specs.Answer.{event_of, flags_of}
 use Rattle.pp_numbers.specs.ChannelNo.{channel_count}
-use Rattle.pp_channel.specs.declared.chan_op.ChanOp.{ChanOp}
-use Rattle.pp_channel.specs.declared.event.Event.{Event}
+use Rattle.pp_channel.specs.declared.{chan_op.ChanOp.ChanOp, event.Event.Event}
 use Rattle.pp_machine.specs.MachineState.{MachineState, processor_of, history_of}
 use Rattle.pp_machine.specs.MachineStep.{stepped}
 use Rattle.pp_machine.specs.NeedAndEffect.{need}
@@ -25,8 +24,7 @@ use Rattle.pp_races.specs.Soundness.{AreLastOf, AsksLawfulChannel, IsSound, Turn
 use Rattle.pp_races.specs.Watch.{Watch, asked, each_below, each_number, looked, unwatched, watched, watched_need}
 use Rattle.pp_races.specs.Tables.{AreLow, AreWatched}
 use Rattle.pp_races.specs.WatchTables.{AreTables}
-use Rattle.pp_races.specs.declared.finding.Finding.{Finding}
-use Rattle.pp_races.specs.declared.watch_tables.WatchTables.{WatchTables}
+use Rattle.pp_races.specs.declared.{finding.Finding.Finding, watch_tables.WatchTables.WatchTables}
 use Rattle.pp_races.proofs.FinalLemmas.{determinate}
 use Rattle.pp_races.proofs.GrowLemmas.{behind, findings_are, forgets, forgets_uses, forgotten, watched_push}
 use Rattle.pp_races.proofs.MissedLemmas.{none_missed}

@@ -8,11 +8,8 @@ use Rattle.pp_machine.specs.Block.{block_word}
 use Rattle.pp_machine.specs.NeedAndEffect.{if_running, need, next_step, step_of}
 use Rattle.pp_machine.specs.PpMemory.{IsMemory}
 use Rattle.pp_machine.specs.Step.{need_of}
-use Rattle.pp_machine.specs.declared.block.Block.{Block}
-use Rattle.pp_machine.specs.declared.block.BlockKind.{BlockKind}
+use Rattle.pp_machine.specs.declared.{block.Block.Block, block.BlockKind.BlockKind, need.Need.Need, pp_state.PpState.PpState}
 use Rattle.pp_machine.specs.declared.block.BlockKind.TheVariants.{Input}
-use Rattle.pp_machine.specs.declared.need.Need.{Need}
-use Rattle.pp_machine.specs.declared.pp_state.PpState.{PpState}
 use Rattle.pp_machine.specs.declared.pp_state.PpState.TheVariants.{Running}
 use Rattle.pp_numbers.specs.declared.profile.Profile.{Profile}
 use Rattle.pp_races.specs.Findings.{same_profile, same_words, stays_running}

@@ -9,9 +9,7 @@ use Rattle.pp_races.specs.FlagSets.{has}
 use Rattle.pp_races.specs.Spans.{GoesOnFrom, IsDisjoint, IsSpan, flags_past, no_span}
 use Rattle.pp_races.specs.Tables.{flags_through, missed_from}
 use Rattle.pp_races.specs.Watch.{Missed, from_alike, missed_event}
-use Rattle.pp_races.specs.declared.flag_set.FlagSet.{FlagSet}
-use Rattle.pp_races.specs.declared.low.Low.{Low}
-use Rattle.pp_races.specs.declared.span.Span.{Span}
+use Rattle.pp_races.specs.declared.{flag_set.FlagSet.FlagSet, low.Low.Low, span.Span.Span}
 use Rattle.pp_races.proofs.LowLemmas.{alike_passed, missed_append, missed_push, missed_push_other, through_append, through_push, through_push_other}
 
 -- ---- two spans, one after the other

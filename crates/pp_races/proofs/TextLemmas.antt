@@ -7,12 +7,10 @@ use Rattle.std.proofs.lemmas.List.{take-append-le, take_all}
 use Rattle.pp_text.specs.TextWriter.{HasPrinted, Prints}
 use Rattle.pp_text.proofs.PrintingLemmas.{prints_on, prints_nothing}
 use Rattle.pp_text.specs.Written.{AppendsFront, IsReportWritten, IsWritten}
-use Rattle.pp_text.specs.declared.report_fault.ReportFault.{ReportFault}
-use Rattle.pp_text.specs.declared.text_writer.TextWriter.{TextWriter}
+use Rattle.pp_text.specs.declared.{report_fault.ReportFault.ReportFault, text_writer.TextWriter.TextWriter}
 use Rattle.pp_races.specs.Printing.{IsPrinted, PrintsFindings, PrintsFirst}
 use Rattle.pp_races.specs.RacesText.{finding_line, findings_text, verdict_line, verdict_of}
-use Rattle.pp_races.specs.declared.finding.Finding.{Finding}
-use Rattle.pp_races.specs.declared.verdict.Verdict.{Verdict}
+use Rattle.pp_races.specs.declared.{finding.Finding.Finding, verdict.Verdict.Verdict}
 use Rattle.pp_races.specs.declared.verdict.Verdict.TheVariants.{Same}
 use Rattle.pp_races.proofs.SoundLemmas.{none_first}
 use Rattle.pp_races.proofs.VerdictLemmas.{same_none}

@@ -7,16 +7,13 @@ use Rattle.std.proofs.lemmas.List.{length_push, take_at, take_all}
 use Rattle.pp_channel.specs.Answer.{event_of, reply_to, flags_of, event_by, event_with, ready_at, reply_shown, reply_by}
 use Rattle.pp_channel.specs.History.{waiting}
 use Rattle.pp_numbers.specs.ChannelNo.{channel_count}
-use Rattle.pp_channel.specs.declared.chan_op.ChanOp.{ChanOp}
+use Rattle.pp_channel.specs.declared.{chan_op.ChanOp.ChanOp, event.Event.Event, flags.Flags.Flags}
 use Rattle.pp_channel.specs.declared.chan_op.ChanOp.TheVariants.{Probe}
-use Rattle.pp_channel.specs.declared.event.Event.{Event}
-use Rattle.pp_channel.specs.declared.flags.Flags.{Flags}
 use Rattle.pp_machine.specs.MachineState.{MachineState, processor_of, history_of}
 use Rattle.pp_machine.specs.NeedAndEffect.{need, processor_after}
 use Rattle.pp_machine.specs.Processor.{Processor}
 use Rattle.pp_machine.specs.Run.{run}
-use Rattle.pp_machine.specs.declared.answer.Answer.{Answer}
-use Rattle.pp_machine.specs.declared.need.Need.{Need}
+use Rattle.pp_machine.specs.declared.{answer.Answer.Answer, need.Need.Need}
 use Rattle.pp_machine.specs.declared.need.Need.TheVariants.{Channel}
 use Rattle.pp_run.specs.Determinacy.{Waits, IsRaceFree, IsRaceFreeOn, IsNoRaceAt, Stays, DoesTheSame, AdvancesAlone, WaitsForGood, MayFind, at_moment, processor_at, history_at, need_at}
 use Rattle.pp_races.specs.OnePass.IsChecked.{step_waits, step_elsewhere, step_looks, step_makes}

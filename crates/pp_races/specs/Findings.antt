@@ -7,15 +7,12 @@ use Rattle.pp_machine.specs.NeedAndEffect.{need, processor_after}
 use Rattle.pp_numbers.specs.PpNo.{each_processor}
 use Rattle.pp_machine.specs.Processor.{Processor, is_running, word_at}
 use Rattle.pp_machine.specs.Run.{run}
-use Rattle.pp_machine.specs.declared.answer.Answer.{Answer}
-use Rattle.pp_machine.specs.declared.need.Need.{Need}
+use Rattle.pp_machine.specs.declared.{answer.Answer.Answer, need.Need.Need, trace.Trace.Trace}
 use Rattle.pp_machine.specs.declared.need.Need.TheVariants.{Nothing, Local, Channel}
 use Rattle.pp_numbers.specs.declared.profile.Profile.{Profile}
-use Rattle.pp_machine.specs.declared.trace.Trace.{Trace}
 use Rattle.pp_races.specs.OtherFlags.{is_same, position_of, waits_at}
 use Rattle.pp_races.specs.Watch.{Watch, asking_step, each_below, each_number, first_race, unwatched, watched}
-use Rattle.pp_races.specs.declared.asking_step.AskingStep.{AskingStep}
-use Rattle.pp_races.specs.declared.finding.Finding.{Finding}
+use Rattle.pp_races.specs.declared.{asking_step.AskingStep.AskingStep, finding.Finding.Finding}
 use Rattle.pp_races.specs.declared.finding.Finding.TheVariants.{GoingOn, HeldBefore, Shared}
 
 -- ---- processors at the end

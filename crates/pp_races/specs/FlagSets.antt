@@ -1,9 +1,7 @@
 -- Something of each of the flags of a channel. (Private contracts alone cite this.)
 use Rattle.std.specs.Prelude.{Bool, false, Option, None, if◌then◌else◌}
 use Rattle.pp_channel.specs.declared.flags.Flags.{Flags}
-use Rattle.pp_races.specs.declared.asking_step.AskingStep.{AskingStep}
-use Rattle.pp_races.specs.declared.flag_set.FlagSet.{FlagSet}
-use Rattle.pp_races.specs.declared.looks.Looks.{Looks}
+use Rattle.pp_races.specs.declared.{asking_step.AskingStep.AskingStep, flag_set.FlagSet.FlagSet, looks.Looks.Looks}
 
 -- one of four, by the flags
 abbrev pub by_flags : {X : Type 0} → X → X → X → X → Flags → X

@@ -3,12 +3,10 @@
 use Rattle.std.specs.Prelude.{ℕ, Bool, false, not, ◌==◌, Option, None, Some, is_some, if◌then◌else◌}
 use Rattle.pp_word.specs.Address.{next_place, place_after}
 use Rattle.pp_word.specs.Opcode.{code_of}
-use Rattle.pp_channel.specs.declared.chan_op.ChanOp.{ChanOp}
-use Rattle.pp_channel.specs.declared.flags.Flags.{Flags}
+use Rattle.pp_channel.specs.declared.{chan_op.ChanOp.ChanOp, flags.Flags.Flags}
 use Rattle.pp_machine.specs.Operand.{operation, second_word}
 use Rattle.pp_machine.specs.Processor.{Processor, word_at}
-use Rattle.pp_machine.specs.declared.block.Block.{Block}
-use Rattle.pp_machine.specs.declared.block.BlockKind.{BlockKind}
+use Rattle.pp_machine.specs.declared.{block.Block.Block, block.BlockKind.BlockKind}
 use Rattle.pp_machine.specs.declared.block.BlockKind.TheVariants.{Input, Output}
 use Rattle.pp_races.specs.OtherFlags.{position_of}
 use Rattle.pp_races.specs.declared.position.Position.{Position}

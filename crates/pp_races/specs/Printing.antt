@@ -1,11 +1,9 @@
 -- Findings that are printed as they come. (Private contracts alone cite this.)
 use Rattle.std.specs.Prelude.{◌≡◌, ℕ, List, [], ◌++◌, Option, Result, Ok, Err, flat_map}
 use Rattle.pp_text.specs.TextWriter.{Prints}
-use Rattle.pp_text.specs.declared.report_fault.ReportFault.{ReportFault}
-use Rattle.pp_text.specs.declared.text_writer.TextWriter.{TextWriter}
+use Rattle.pp_text.specs.declared.{report_fault.ReportFault.ReportFault, text_writer.TextWriter.TextWriter}
 use Rattle.pp_races.specs.RacesText.{finding_line, verdict_of}
-use Rattle.pp_races.specs.declared.finding.Finding.{Finding}
-use Rattle.pp_races.specs.declared.verdict.Verdict.{Verdict}
+use Rattle.pp_races.specs.declared.{finding.Finding.Finding, verdict.Verdict.Verdict}
 
 -- the lines of these findings are printed, and a verdict goes on by them
 pub record PrintsFindings {W : Type 0} (contents : W → Option (List ℕ)) (old new : TextWriter W)

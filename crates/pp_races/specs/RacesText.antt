@@ -9,10 +9,8 @@ use Rattle.pp_text.specs.PrintedText.{padded, event_text, line_end}
 use Rattle.pp_word.specs.Numeral.{decimal, octal}
 use Rattle.pp_races.specs.Findings.{findings}
 use Rattle.pp_races.specs.Watch.{each_below}
-use Rattle.pp_races.specs.declared.asking_step.AskingStep.{AskingStep}
-use Rattle.pp_races.specs.declared.finding.Finding.{Finding}
+use Rattle.pp_races.specs.declared.{asking_step.AskingStep.AskingStep, finding.Finding.Finding, verdict.Verdict.Verdict}
 use Rattle.pp_races.specs.declared.finding.Finding.TheVariants.{Before, After, GoingOn, HeldBefore, Shared}
-use Rattle.pp_races.specs.declared.verdict.Verdict.{Verdict}
 use Rattle.pp_races.specs.declared.verdict.Verdict.TheVariants.{Same, NoRaceSoFar, MayDiffer}
 
 -- ---- steps and events

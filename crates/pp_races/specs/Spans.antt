@@ -7,11 +7,7 @@ use Rattle.pp_machine.specs.declared.trace.Trace.{Trace}
 use Rattle.pp_races.specs.FlagSets.{by_flags, has, no_flags}
 use Rattle.pp_races.specs.Tables.{flags_through, missed_at, missed_from}
 use Rattle.pp_races.specs.Watch.{from_alike}
-use Rattle.pp_races.specs.declared.flag_set.FlagSet.{FlagSet}
-use Rattle.pp_races.specs.declared.latest.Latest.{Latest}
-use Rattle.pp_races.specs.declared.low.Low.{Low}
-use Rattle.pp_races.specs.declared.span.Span.{Span}
-use Rattle.pp_races.specs.declared.trace_index.TraceIndex.{TraceIndex}
+use Rattle.pp_races.specs.declared.{flag_set.FlagSet.FlagSet, latest.Latest.Latest, low.Low.Low, span.Span.Span, trace_index.TraceIndex.TraceIndex}
 
 -- no event
 abbrev pub no_span : Span

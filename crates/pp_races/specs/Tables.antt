@@ -10,10 +10,7 @@ use Rattle.pp_numbers.specs.PpNo.{processor_count, processor_index, names_proces
 use Rattle.pp_machine.specs.declared.trace.Trace.{Trace}
 use Rattle.pp_races.specs.FlagSets.{look_at, no_looks}
 use Rattle.pp_races.specs.Watch.{Missed, Watch, missed_event, race_after}
-use Rattle.pp_races.specs.declared.finding.Finding.{Finding}
-use Rattle.pp_races.specs.declared.low.Low.{Low}
-use Rattle.pp_races.specs.declared.looks.Looks.{Looks}
-use Rattle.pp_races.specs.declared.word_use.WordUse.{WordUse}
+use Rattle.pp_races.specs.declared.{finding.Finding.Finding, low.Low.Low, looks.Looks.Looks, word_use.WordUse.WordUse}
 
 -- how many entries there are, and the place of the one of processor q and channel c
 abbrev pub entry_count : ℕ

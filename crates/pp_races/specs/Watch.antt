@@ -4,20 +4,16 @@ use Rattle.std.specs.Prelude.{ℕ, Bool, false, not, ◌||◌, ◌&&◌, ◌==�
 use Rattle.std.specs.Option.{option_or}
 use Rattle.pp_word.specs.Address.{next_place}
 use Rattle.pp_channel.specs.Answer.{event_of, flags_of, flags_after}
-use Rattle.pp_channel.specs.declared.chan_op.ChanOp.{ChanOp}
-use Rattle.pp_channel.specs.declared.event.Event.{Event}
-use Rattle.pp_channel.specs.declared.flags.Flags.{Flags}
+use Rattle.pp_channel.specs.declared.{chan_op.ChanOp.ChanOp, event.Event.Event, flags.Flags.Flags}
 use Rattle.pp_machine.specs.MachineState.{MachineState, processor_of, history_of}
 use Rattle.pp_machine.specs.MachineStep.{stepped}
 use Rattle.pp_machine.specs.NeedAndEffect.{need}
 use Rattle.pp_numbers.specs.PpNo.{processor_count, processor_number}
 use Rattle.pp_machine.specs.Processor.{word_at}
-use Rattle.pp_machine.specs.declared.need.Need.{Need}
+use Rattle.pp_machine.specs.declared.{need.Need.Need, trace.Trace.Trace}
 use Rattle.pp_machine.specs.declared.need.Need.TheVariants.{Channel, Read, Write}
-use Rattle.pp_machine.specs.declared.trace.Trace.{Trace}
 use Rattle.pp_races.specs.OtherFlags.{waits_at, found_at, is_alike, is_race}
-use Rattle.pp_races.specs.declared.asking_step.AskingStep.{AskingStep}
-use Rattle.pp_races.specs.declared.finding.Finding.{Finding}
+use Rattle.pp_races.specs.declared.{asking_step.AskingStep.AskingStep, finding.Finding.Finding}
 use Rattle.pp_races.specs.declared.finding.Finding.TheVariants.{Before, After}
 unfoldable pub use Rattle.pp_text.specs.PrintedText.{each_below}
 

@@ -4,9 +4,8 @@ ghost use Rattle.std.specs.Prelude.{◌≡◌, ◌++◌, ◌+◌, ℕ, IsTrue, O
 ghost use Rattle.pp_numbers.specs.ChannelNo.{names_channel};
 ghost use Rattle.pp_machine.specs.MachineState.{processor_of};
 ghost use Rattle.pp_machine.specs.NeedAndEffect.{need, processor_after};
-ghost use Rattle.pp_machine.specs.declared.answer.Answer.{Answer};
+ghost use Rattle.pp_machine.specs.declared.{answer.Answer.Answer, need.Need.Need};
 ghost use Rattle.pp_numbers.specs.PpNo.{names_processor};
-ghost use Rattle.pp_machine.specs.declared.need.Need.{Need};
 ghost use Rattle.pp_races.specs.Findings.{end_by_need, end_of, same_profile, same_words, stays_running, turns_in_place};
 ghost use Rattle.pp_races.specs.Soundness.{TurnTestIsExact};
 ghost use Rattle.pp_races.specs.Spans.{Indexes};

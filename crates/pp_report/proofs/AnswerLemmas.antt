@@ -13,8 +13,7 @@ use Rattle.pp_machine.specs.NeedAndEffect.{need, step_of, outcome, is_held, if_r
 use Rattle.pp_machine.specs.Processor.{Processor, word_at}
 use Rattle.pp_machine.specs.Replay.{fits, reply_fits}
 use Rattle.pp_machine.specs.Step.{need_of}
-use Rattle.pp_machine.specs.declared.block.Block.{Block}
-use Rattle.pp_machine.specs.declared.block.BlockKind.{BlockKind}
+use Rattle.pp_machine.specs.declared.{block.Block.Block, block.BlockKind.BlockKind}
 use Rattle.pp_machine.specs.declared.block.BlockKind.TheVariants.{CentralIn, CentralOut, Input, Output}
 use Rattle.pp_machine.specs.declared.pp_state.PpState.TheVariants.{Running, Stopped, Fault}
 use Rattle.pp_machine.proofs.StepLemmas.{at_rest, nothing_at_rest}

@@ -5,8 +5,7 @@ use Rattle.std.proofs.lemmas.Bool.{cases_eq}
 use Rattle.std.proofs.lemmas.List.{get_or_read, length-set}
 use Rattle.pp_channel.specs.Answer.{channel_state, history_after}
 use Rattle.pp_numbers.specs.ChannelNo.{channel_count, channel_index, names_channel, channel_places}
-use Rattle.pp_channel.specs.declared.channel_state.ChannelState.{ChannelState}
-use Rattle.pp_channel.specs.declared.event.Event.{Event}
+use Rattle.pp_channel.specs.declared.{channel_state.ChannelState.ChannelState, event.Event.Event}
 use Rattle.pp_machine.specs.MachineState.{MachineState, history_of, processor_of}
 use Rattle.pp_machine.specs.MachineStep.{histories_after}
 use Rattle.pp_machine.specs.Processor.{Processor, no_processor}

@@ -12,9 +12,7 @@ use Rattle.pp_sessions.specs.SessionsText.{lines_from, line_and_words}
 use Rattle.pp_sessions.specs.Stretches.{are_parted, begins_session, ends_session, stretches, tally_of, word_of, words_in}
 use Rattle.pp_sessions.specs.TimedEvents.{opening_events, timed_event, timed_events, timed_on}
 use Rattle.pp_sessions.specs.declared.moment.Moment.TheVariants.{DeadStart}
-use Rattle.pp_sessions.specs.declared.moment.TimedEvent.{TimedEvent}
-use Rattle.pp_sessions.specs.declared.open_stretch.OpenStretch.{OpenStretch}
-use Rattle.pp_sessions.specs.declared.tally.Tally.{Tally}
+use Rattle.pp_sessions.specs.declared.{moment.TimedEvent.TimedEvent, open_stretch.OpenStretch.OpenStretch, tally.Tally.Tally}
 use Rattle.pp_sessions.proofs.CutLemmas.{cut-append, last_in, uncut-push}
 
 -- ---- the stretch that is open

@@ -13,8 +13,7 @@ use Rattle.pp_sessions.specs.OpenStretch.{untaken_after}
 use Rattle.pp_sessions.specs.SessionsLaw.{TellsMoments}
 use Rattle.pp_sessions.specs.Stretches.{begins_session, ends_session, is_take, tally_of, untaken}
 use Rattle.pp_sessions.specs.TimedEvents.{events_in}
-use Rattle.pp_sessions.specs.declared.moment.TimedEvent.{TimedEvent}
-use Rattle.pp_sessions.specs.declared.tally.Tally.{Tally}
+use Rattle.pp_sessions.specs.declared.{moment.TimedEvent.TimedEvent, tally.Tally.Tally}
 use Rattle.pp_sessions.proofs.CutLemmas.{last_in}
 
 -- the word put and not taken

@@ -7,9 +7,7 @@ use Rattle.pp_machine.specs.declared.trace.Trace.{Trace}
 use Rattle.pp_sessions.specs.SessionsText.{lines_from}
 use Rattle.pp_sessions.specs.Stretches.{are_parted, stretches, tally_of, words_in}
 use Rattle.pp_sessions.specs.TimedEvents.{timed_on}
-use Rattle.pp_sessions.specs.declared.moment.TimedEvent.{TimedEvent}
-use Rattle.pp_sessions.specs.declared.open_stretch.OpenStretch.{OpenStretch}
-use Rattle.pp_sessions.specs.declared.tally.Tally.{Tally}
+use Rattle.pp_sessions.specs.declared.{moment.TimedEvent.TimedEvent, open_stretch.OpenStretch.OpenStretch, tally.Tally.Tally}
 
 -- a list is cut nowhere: no two neighbours pass the test
 abbrev pub IsUncut : {X : Type 0} → (X → X → Bool) → X → List X → Type 0

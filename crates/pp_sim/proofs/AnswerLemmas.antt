@@ -12,9 +12,8 @@ use Rattle.pp_numbers.specs.declared.profile.Profile.{Profile}
 use Rattle.pp_deck.specs.DeckMeaning.{LoadedDeck, deck_meaning}
 use Rattle.pp_deck.specs.declared.deck_fault.DeckFault.{DeckFault}
 use Rattle.pp_text.specs.Written.{IsReportWritten, IsWritten}
-use Rattle.pp_text.specs.declared.report_fault.ReportFault.{ReportFault}
+use Rattle.pp_text.specs.declared.{report_fault.ReportFault.ReportFault, write_fault.WriteFault.WriteFault}
 use Rattle.pp_text.specs.declared.report_fault.ReportFault.TheVariants as report
-use Rattle.pp_text.specs.declared.write_fault.WriteFault.{WriteFault}
 use Rattle.pp_sim.specs.TextAnswer.{AnswersDeckUnless, IsAnswerUnless, answer_to, answer_to_report, IsOfDeck, IsLoadFault, NothingPrevents, most_bytes}
 use Rattle.pp_sim.specs.TextOf.{IsTextAfter}
 use Rattle.pp_listing.specs.declared.going_on.Busy.{Busy}

@@ -10,9 +10,8 @@ use Rattle.pp_sim.specs.TextAnswer.{AnswersDeck, AnswersDeckUnless}
 use Rattle.pp_sim.specs.TextOf.{IsTextOf, obstacle}
 use Rattle.pp_sim.specs.ThreadsText.{IsThreadsText}
 use Rattle.pp_text.specs.Written.{AppendsFront}
-use Rattle.pp_command.specs.declared.line_fault.LineFault.{LineFault}
+use Rattle.pp_command.specs.declared.{line_fault.LineFault.LineFault, work.Work.Work}
 use Rattle.pp_sim.specs.declared.text_fault.TextFault.{TextFault}
-use Rattle.pp_command.specs.declared.work.Work.{Work}
 
 -- ---- words that ask for work
 

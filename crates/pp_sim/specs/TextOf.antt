@@ -3,8 +3,7 @@ use Rattle.std.specs.Prelude.{◌≡◌, ℕ, List, ◌≤◌, length, Ok, None,
 use Rattle.pp_machine.specs.Headline.{HoldsOnEachChannel, IsMachine}
 use Rattle.pp_machine.specs.MachineState.{processor_of}
 use Rattle.pp_machine.specs.Run.{barrel, run}
-use Rattle.pp_numbers.specs.declared.bounds.Bounds.{Bounds}
-use Rattle.pp_numbers.specs.declared.window.Window.{Window}
+use Rattle.pp_numbers.specs.declared.{bounds.Bounds.Bounds, window.Window.Window}
 use Rattle.pp_deck.specs.DeckMeaning.{LoadedDeck, deck_meaning}
 use Rattle.pp_deck.specs.InUse.{in_use}
 use Rattle.pp_listing.specs.Dump.{after, deck_to_go_on, dump, first_busy}
@@ -18,8 +17,7 @@ use Rattle.pp_state.specs.StateText.{state_after}
 use Rattle.pp_ends.specs.Endings.{IsEnding}
 use Rattle.pp_ends.specs.EndsText.{ends_text_of}
 use Rattle.pp_ends.specs.Loops.{AreLoops}
-use Rattle.pp_ends.specs.declared.ending.Ending.{Ending}
-use Rattle.pp_ends.specs.declared.loops.Loop.{Loop}
+use Rattle.pp_ends.specs.declared.{ending.Ending.Ending, loops.Loop.Loop}
 use Rattle.pp_steps.specs.StepsText.{steps_text}
 use Rattle.pp_steps.specs.declared.choice.Choice.{Choice}
 use Rattle.pp_races.specs.Findings.{findings}
@@ -27,8 +25,7 @@ use Rattle.pp_races.specs.RacesText.{races_text}
 use Rattle.pp_sessions.specs.SessionsText.{sessions_after}
 use Rattle.pp_draw.specs.DrawingText.{drawing_of_run}
 use Rattle.pp_run.specs.Determinacy.{IsDeterminate}
-use Rattle.pp_command.specs.declared.text_of.ChosenSteps.{ChosenSteps}
-use Rattle.pp_command.specs.declared.text_of.TextOf.{TextOf}
+use Rattle.pp_command.specs.declared.{text_of.ChosenSteps.ChosenSteps, text_of.TextOf.TextOf}
 use Rattle.pp_sim.specs.TextAnswer.{NothingPrevents}
 
 -- the text of a loaded deck that has run in the barrel for N turns. Of that run the headline holds:

@@ -5,18 +5,15 @@ use Rattle.std.proofs.lemmas.List.{get_or_past}
 use Rattle.pp_channel.specs.Answer.{IsReady, event_of, only_looks}
 use Rattle.pp_numbers.specs.ChannelNo.{channel_count, channel_index, names_channel, channel_places}
 use Rattle.pp_channel.specs.History.{IsLawful, active}
-use Rattle.pp_channel.specs.declared.chan_op.ChanOp.{ChanOp}
-use Rattle.pp_channel.specs.declared.event.Event.{Event}
+use Rattle.pp_channel.specs.declared.{chan_op.ChanOp.ChanOp, event.Event.Event}
 use Rattle.pp_channel.proofs.AnswerLemmas.{looks_or_acts, none_without_ready, table_of_ready}
 use Rattle.pp_channel.proofs.HistoryLemmas.{lawful_empty}
 use Rattle.pp_machine.specs.Headline.{HoldsOnEachChannel}
 use Rattle.pp_machine.specs.MachineState.{MachineState, history_of, processor_of}
 use Rattle.pp_machine.specs.MachineStep.{answer_to, step_outcome}
 use Rattle.pp_machine.specs.NeedAndEffect.{need, IsHeldAnswer}
-use Rattle.pp_machine.specs.declared.block.Block.{Block}
-use Rattle.pp_machine.specs.declared.need.Need.{Need}
+use Rattle.pp_machine.specs.declared.{block.Block.Block, need.Need.Need, outcome.Outcome.Outcome}
 use Rattle.pp_machine.specs.declared.need.Need.TheVariants as needs
-use Rattle.pp_machine.specs.declared.outcome.Outcome.{Outcome}
 use Rattle.pp_machine.specs.declared.outcome.Outcome.TheVariants.{Held, Moved}
 use Rattle.pp_machine.proofs.StepLemmas.{held_by_answer}
 use Rattle.pp_state.specs.StateLaw.{IsHeld, IsHeldBy}

@@ -3,8 +3,7 @@ use Rattle.std.specs.Prelude.{◌≡◌, ◌≢◌, ℕ, ◌+◌, true, false, �
 use Rattle.pp_word.specs.Address.{place_count}
 use Rattle.pp_channel.specs.Answer.{IsReady, only_looks}
 use Rattle.pp_channel.specs.History.{active}
-use Rattle.pp_channel.specs.declared.chan_op.ChanOp.{ChanOp}
-use Rattle.pp_channel.specs.declared.event.Event.{Event}
+use Rattle.pp_channel.specs.declared.{chan_op.ChanOp.ChanOp, event.Event.Event}
 use Rattle.pp_machine.specs.MachineState.{MachineState, history_of, processor_of}
 use Rattle.pp_machine.specs.NeedAndEffect.{need}
 use Rattle.pp_numbers.specs.PpNo.{names_processor}

@@ -7,18 +7,14 @@ use Rattle.std.proofs.lemmas.List.{append-nil}
 use Rattle.std.proofs.Math.Seq.{drop-append_seam}
 use Rattle.std.proofs.lemmas.List.Elements.{filter-append}
 use Rattle.pp_channel.specs.Answer.{event_of}
-use Rattle.pp_channel.specs.declared.chan_op.ChanOp.{ChanOp}
-use Rattle.pp_channel.specs.declared.event.Event.{Event}
+use Rattle.pp_channel.specs.declared.{chan_op.ChanOp.ChanOp, event.Event.Event}
 use Rattle.pp_machine.specs.MachineState.{MachineState, history_of, processor_of}
 use Rattle.pp_machine.specs.MachineStep.{answer_to, step_outcome, stepped, trace_after}
 use Rattle.pp_machine.specs.NeedAndEffect.{need}
 use Rattle.pp_machine.specs.Run.{run}
-use Rattle.pp_machine.specs.declared.answer.Answer.{Answer}
-use Rattle.pp_machine.specs.declared.need.Need.{Need}
+use Rattle.pp_machine.specs.declared.{answer.Answer.Answer, need.Need.Need, outcome.Outcome.Outcome, trace.Trace.Trace}
 use Rattle.pp_machine.specs.declared.need.Need.TheVariants.{Channel}
-use Rattle.pp_machine.specs.declared.outcome.Outcome.{Outcome}
 use Rattle.pp_machine.specs.declared.outcome.Outcome.TheVariants as outcomes
-use Rattle.pp_machine.specs.declared.trace.Trace.{Trace}
 use Rattle.pp_run.specs.RunSteps.{RunStep, run_steps, seen_of}
 use Rattle.pp_text.proofs.HeldLemmas.{moves_where_made}
 use Rattle.pp_run.specs.BareMachine.{progress, progress_by}
@@ -26,8 +22,7 @@ use Rattle.pp_steps.specs.Choice.{chooses_channel, chooses_need, chooses_turn, c
 use Rattle.pp_steps.specs.HeldRuns.{last_of, progress_of}
 use Rattle.pp_steps.specs.StepsLaw.{entry_of, event_on, is_chosen_event, line_event}
 use Rattle.pp_steps.specs.StepsText.{line_kind, lines_from, with_line, with_lines}
-use Rattle.pp_steps.specs.declared.choice.Choice.{Choice}
-use Rattle.pp_steps.specs.declared.line_kind.LineKind.{LineKind}
+use Rattle.pp_steps.specs.declared.{choice.Choice.Choice, line_kind.LineKind.LineKind}
 use Rattle.pp_steps.specs.declared.line_kind.LineKind.TheVariants.{OneStep}
 use Rattle.pp_run.specs.declared.progress.Progress.{Progress}
 use Rattle.pp_run.specs.declared.progress.Progress.TheVariants.{Moved}

@@ -7,9 +7,7 @@ use Rattle.pp_word.specs.declared.opcode.Opcode.TheVariants.{RJM, STD, RAD, AOD,
 use Rattle.pp_machine.specs.NeedAndEffect.{processor_after}
 use Rattle.pp_machine.specs.Operand.{index, lower_six, operation}
 use Rattle.pp_machine.specs.Processor.{Processor, word_at}
-use Rattle.pp_machine.specs.declared.answer.Answer.{Answer}
-use Rattle.pp_machine.specs.declared.block.Block.{Block}
-use Rattle.pp_machine.specs.declared.block.BlockKind.{BlockKind}
+use Rattle.pp_machine.specs.declared.{answer.Answer.Answer, block.Block.Block, block.BlockKind.BlockKind}
 use Rattle.pp_machine.specs.declared.block.BlockKind.TheVariants.{CentralIn, Input}
 use Rattle.pp_steps.specs.declared.stores.Stores.{Stores}
 

@@ -3,11 +3,8 @@ use Rattle.std.proofs.Common.{◌≡◌, ◌≢◌, ℕ, Bool, true, false, cond
 use Rattle.std.specs.Prelude.{IsTrue, is_some, if◌then◌else◌}
 use Rattle.pp_channel.specs.Answer.{channel_state, event_of, flags_of, only_looks, reply_by, reply_made, reply_shown}
 use Rattle.pp_channel.specs.History.{active, waiting}
-use Rattle.pp_channel.specs.declared.chan_op.ChanOp.{ChanOp}
-use Rattle.pp_channel.specs.declared.event.Event.{Event}
+use Rattle.pp_channel.specs.declared.{chan_op.ChanOp.ChanOp, event.Event.Event, flags.Flags.Flags, reply.Reply.Reply}
 use Rattle.pp_channel.specs.declared.event.Event.TheVariants as events
-use Rattle.pp_channel.specs.declared.flags.Flags.{Flags}
-use Rattle.pp_channel.specs.declared.reply.Reply.{Reply}
 use Rattle.pp_channel.specs.declared.reply.Reply.TheVariants as replies
 use Rattle.pp_channel.proofs.AnswerLemmas.{held_at, look_makes_none, look_not_held}
 use Rattle.pp_machine.specs.MachineState.{MachineState, history_of, processor_of}
@@ -15,13 +12,10 @@ use Rattle.pp_machine.specs.MachineStep.{answer_to, step_outcome}
 use Rattle.pp_machine.specs.NeedAndEffect.{is_held, need, outcome, if_running, next_step}
 use Rattle.pp_machine.specs.Processor.{Processor}
 use Rattle.pp_machine.specs.Step.{need_of}
-use Rattle.pp_machine.specs.declared.answer.Answer.{Answer}
+use Rattle.pp_machine.specs.declared.{answer.Answer.Answer, block.Block.Block, outcome.Outcome.Outcome, pp_state.PpState.PpState}
 use Rattle.pp_machine.specs.declared.answer.Answer.TheVariants as answers
-use Rattle.pp_machine.specs.declared.block.Block.{Block}
 use Rattle.pp_machine.specs.declared.need.Need.TheVariants as needs
-use Rattle.pp_machine.specs.declared.outcome.Outcome.{Outcome}
 use Rattle.pp_machine.specs.declared.outcome.Outcome.TheVariants.{Held, Moved, AtRest}
-use Rattle.pp_machine.specs.declared.pp_state.PpState.{PpState}
 use Rattle.pp_machine.specs.declared.pp_state.PpState.TheVariants.{Running, Stopped, Fault}
 
 -- a processor that needs a channel is running

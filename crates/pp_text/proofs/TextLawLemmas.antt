@@ -19,9 +19,8 @@ use Rattle.pp_machine.specs.MachineState.{MachineState, processor_of}
 use Rattle.pp_machine.specs.Processor.{Processor, HasFaultNumber}
 use Rattle.pp_numbers.specs.PpNo.{names_processor, processor_index, is_named}
 use Rattle.pp_numbers.proofs.PpNoLemmas.{processor_fits}
-use Rattle.pp_machine.specs.declared.pp_state.PpState.{PpState}
+use Rattle.pp_machine.specs.declared.{pp_state.PpState.PpState, trace.Trace.Trace}
 use Rattle.pp_machine.specs.declared.pp_state.PpState.TheVariants.{Running, Stopped, Fault}
-use Rattle.pp_machine.specs.declared.trace.Trace.{Trace}
 use Rattle.pp_word.specs.Numeral.{decimal, digit, digits, octal, unpadded}
 use Rattle.pp_text.specs.TextLaw.{EventFits, ProcessorFits, HistoryFits, ShowSameProcessor, ShowSameChannel, FitsItsText, AgreeOnText}
 use Rattle.pp_text.proofs.PrintingLemmas.{channels_by_number, numbered_channel_line, processors_by_number}

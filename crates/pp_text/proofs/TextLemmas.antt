@@ -1,8 +1,7 @@
 -- Steps of what prints.
 use Rattle.std.proofs.Common.{◌≡◌, ◌≢◌, ℕ, ◌-◌, ◌/◌, ◌%◌, ◌^◌, ◌<◌, zero, suc, List, [], ◌∷◌, ◌++◌, None, get_or, slice_get, refl, append_assoc, arith, codes}
 use Rattle.pp_channel.specs.Answer.{flags_of}
-use Rattle.pp_channel.specs.declared.chan_op.ChanOp.{ChanOp}
-use Rattle.pp_channel.specs.declared.flags.Flags.{Flags}
+use Rattle.pp_channel.specs.declared.{chan_op.ChanOp.ChanOp, flags.Flags.Flags}
 use Rattle.pp_machine.specs.MachineState.{MachineState, history_of, processor_of}
 use Rattle.pp_machine.specs.MachineStep.{step_outcome}
 use Rattle.pp_machine.specs.NeedAndEffect.{need}

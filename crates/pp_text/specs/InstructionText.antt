@@ -4,8 +4,7 @@ use Rattle.std.specs.Prelude.{ℕ, ◌/◌, ◌%◌, ◌^◌, ◌==◌, ◌&&◌
 use Rattle.pp_word.specs.Address.{next_place, relative_to}
 use Rattle.pp_word.specs.Opcode.{opcode_at, row_of}
 use Rattle.pp_machine.specs.Processor.{Processor, word_at}
-use Rattle.pp_machine.specs.declared.block.Block.{Block}
-use Rattle.pp_machine.specs.declared.block.BlockKind.{BlockKind}
+use Rattle.pp_machine.specs.declared.{block.Block.Block, block.BlockKind.BlockKind}
 use Rattle.pp_machine.specs.declared.block.BlockKind.TheVariants.{CentralIn, CentralOut, Input, Output}
 use Rattle.pp_word.specs.Numeral.{octal}
 use Rattle.pp_text.specs.declared.operands.Operands.{Operands}

@@ -2,11 +2,9 @@
 use Rattle.std.specs.Prelude.{◌≡◌, ℕ, ◌-◌, ◌==◌, ◌&&◌, Bool, true, false, nat_le, nat_lt, List, [], ◌∷◌, replicate, slice_set, Option, None, Some, if◌then◌else◌}
 use Rattle.pp_numbers.specs.ChannelNo.{channel_count}
 use Rattle.pp_command.specs.ChannelList.{AreListed}
-use Rattle.pp_numbers.specs.declared.bounds.Bounds.{Bounds}
-use Rattle.pp_numbers.specs.declared.window.Window.{Window}
+use Rattle.pp_numbers.specs.declared.{bounds.Bounds.Bounds, window.Window.Window, profile.Profile.Profile}
 use Rattle.pp_numbers.specs.PpNo.{processor_count, processor_index}
 use Rattle.pp_numbers.specs.Profile.{has_processor}
-use Rattle.pp_numbers.specs.declared.profile.Profile.{Profile}
 use Rattle.pp_numbers.specs.declared.profile.Profile.TheVariants.{Ten, Twenty}
 
 -- the profile of a machine of n processors

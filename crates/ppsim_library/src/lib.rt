@@ -10,8 +10,7 @@ ghost use Rattle.std.specs.Prelude.{◌≡◌, MatchOption, None, false, max};
 ghost use Rattle.fixed_arena.specs.Lending.{IsGivenBack};
 ghost use Rattle.ppsim_library.specs.Answered.{NeedsNoThreads, RefusesNumber, Tells, TellsOfTrace};
 ghost use Rattle.ppsim_library.specs.Numbers.{bounds_of, only_of, processor_of, profile_of, window_of};
-ghost use Rattle.pp_command.specs.declared.text_of.TextOf.{TextOf};
-ghost use Rattle.pp_command.specs.declared.work.Work.{Work};
+ghost use Rattle.pp_command.specs.declared.{text_of.TextOf.TextOf, work.Work.Work};
 
 use crate::answer::{Answer, refused_number};
 use crate::numbers::{bounds_of, channels_of, only_of, processor_of, profile_of, window_of};

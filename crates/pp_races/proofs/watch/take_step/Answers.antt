@@ -10,9 +10,7 @@ use Rattle.pp_run.proofs.Moments.{run_central}
 use Rattle.pp_races.specs.Tables.{AreUses, AreWatched}
 use Rattle.pp_races.specs.Watch.{watched_need}
 use Rattle.pp_races.specs.WatchTables.{AreTables}
-use Rattle.pp_races.specs.declared.looks.Looks.{Looks}
-use Rattle.pp_races.specs.declared.low.Low.{Low}
-use Rattle.pp_races.specs.declared.word_use.WordUse.{WordUse}
+use Rattle.pp_races.specs.declared.{looks.Looks.Looks, low.Low.Low, word_use.WordUse.WordUse}
 use Rattle.pp_races.proofs.LookLemmas.{off_tables}
 use Rattle.pp_races.proofs.UseLemmas.{uses_asked}
 use Rattle.pp_races.proofs.watch.take_step.Goals as goal

@@ -5,12 +5,11 @@ use Rattle.std.proofs.lemmas.Grind.{common_steps}
 use Rattle.pp_channel.specs.Answer.{event_of, reply_to}
 use Rattle.pp_channel.specs.declared.event.Event.{Event}
 use Rattle.pp_numbers.specs.ChannelNo.{channel_index, names_channel}
-use Rattle.pp_machine.specs.declared.trace.Trace.{Trace}
+use Rattle.pp_machine.specs.declared.{trace.Trace.Trace, need.Need.Need}
 use Rattle.pp_machine.specs.Headline.{opening_history}
 use Rattle.pp_machine.specs.MachineState.{MachineState, history_of}
 use Rattle.pp_machine.specs.MachineStep.{histories_after, served}
 use Rattle.pp_machine.specs.declared.answer.Answer.TheVariants as answers
-use Rattle.pp_machine.specs.declared.need.Need.{Need}
 use Rattle.pp_machine.specs.declared.need.Need.TheVariants.{Channel}
 use Rattle.pp_machine.proofs.TakenLemmas.{own_history, some_is_made}
 use Rattle.pp_machine.proofs.HeadlineLemmas.{headline_after_event}

@@ -7,9 +7,8 @@ use Rattle.pp_machine.specs.MachineStep.{answer_to, served, taken}
 use Rattle.pp_machine.specs.NeedAndEffect.{need, outcome}
 use Rattle.pp_machine.specs.Processor.{Processor}
 use Rattle.pp_machine.specs.Replay.{fits}
-use Rattle.pp_machine.specs.declared.answer.Answer.{Answer}
+use Rattle.pp_machine.specs.declared.{answer.Answer.Answer, need.Need.Need}
 use Rattle.pp_machine.specs.declared.answer.Answer.TheVariants as answers
-use Rattle.pp_machine.specs.declared.need.Need.{Need}
 use Rattle.pp_machine.specs.declared.need.Need.TheVariants.{Channel, Read, Write}
 use Rattle.pp_machine.proofs.TakenLemmas.{own_processor, taken_by, stepped_for, outcome_for, with_processors}
 use Rattle.pp_machine.proofs.machine.Machine.step_external.Goals as goal
