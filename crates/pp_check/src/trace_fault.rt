@@ -6,7 +6,7 @@ use thiserror::Error;
 
 /// What is wrong with a line of a trace. Printed, channels and words are octal, turns and numbers
 /// of events decimal.
-#[derive(Clone, Copy, Debug, PartialEq, Eq, Error)]
+#[derive(Clone, Copy, Debug, Error)]
 pub enum TraceFlaw {
     /// The line is none of a trace.
     #[error("not a line of a trace")]
@@ -28,7 +28,7 @@ pub enum TraceFlaw {
 
 /// Why a text is no lawful trace: the first line with which it is none, from 1 on (decimal), and
 /// what is wrong with it.
-#[derive(Clone, Copy, Debug, PartialEq, Eq, Error)]
+#[derive(Clone, Copy, Debug, Error)]
 #[error("line {}: {}", .line, .flaw)]
 pub struct TraceFault {
     pub line: u64,
