@@ -1,7 +1,8 @@
-// floor PROCESSORS: what any program takes for the text of self1, self10 or self20, run by threads
-// for 100,000 steps. Each thread does four exchanges on the word of a channel of its own in every
+// floor PROCESSORS: a bare program beside which to see what self1, self10 and self20 take by threads,
+// 100,000 steps each. Each thread makes four exchanges on the word of a channel of its own in every
 // five steps, and keeps what a report keeps: 16 bytes an event and 16 a step. Then come 4 bytes an
-// event for its channel's history, one for its author, and its line. Nothing is decoded or checked.
+// event for its channel's history, one for its author, and a line as long as its line. Nothing is
+// decoded or checked.
 
 #include <pthread.h>
 #include <stdatomic.h>
@@ -70,7 +71,9 @@ int main(int count, char **words) {
   long processors = count > 1 ? atol(words[1]) : 0;
   if (processors < 1 || processors > MOST) return 2;
   pthread_t threads[MOST];
-  for (long place = 1; place < processors; place++) pthread_create(&threads[place], 0, work, (void *)place);
+  for (long place = 1; place < processors; place++) {
+    if (pthread_create(&threads[place], 0, work, (void *)place)) return 1;
+  }
   work(0);
   for (long place = 1; place < processors; place++) pthread_join(threads[place], 0);
   for (long place = 0; place < processors; place++) {
