@@ -1,8 +1,8 @@
-// floor PROCESSORS: a bare program beside which to see what self1, self10 and self20 take by threads,
-// 100,000 steps each. Each thread makes four exchanges on the word of a channel of its own in every
-// five steps, and keeps what a report keeps: 16 bytes an event and 16 a step. Then come 4 bytes an
-// event for its channel's history, one for its author, and a line as long as its line. Nothing is
-// decoded or checked.
+// floor PROCESSORS: a bare program beside which to see what self1, self10 and self20 take by
+// threads, 100,000 steps each. Each thread makes four exchanges on the word of a channel of its own
+// in every five steps, and keeps what a report keeps: 16 bytes an event and 16 a step. Then come 4
+// bytes an event for its channel's history, one for its author, and a line as long as its line.
+// Nothing is decoded or checked.
 
 #include <pthread.h>
 #include <stdatomic.h>
