@@ -86,7 +86,15 @@ held_made_none op state (Some (events.Function w)) flags e = cc
 held_reply : (flags : Flags) (reply : Reply) → answers.Channel reply ≡ answers.Channel (replies.Held flags) → reply ≡ replies.Held flags
 held_reply flags reply e = cc
 
--- and changed no history
+-- an operation that makes no event changes nothing
+pub served_without_event : (n c : ℕ) (op : ChanOp) (m : MachineState) → event_of op (history_of c m) ≡ None → served n (Channel c op) m ≡ m
+served_without_event n c op m none =
+    let h = history_of c m in
+    ap (λ (made : Option Event). record m { histories = slice_set m.histories (channel_index c) (h ++ option_to_list made); trace = m.trace ++ map (λ e. record { turn = m.turns; pp = n; channel = c; event = e }) (option_to_list made) }) none
+    ∙ ap (λ (g : List Event). record m { histories = slice_set m.histories (channel_index c) g; trace = m.trace ++ [] }) (append-nil h)
+    ∙ ap (λ (hs : List (List Event)). record m { histories = hs; trace = m.trace ++ [] }) (set-get_or m.histories (channel_index c) [])
+    ∙ ap (λ (t : List Trace). record m { trace = t }) (append-nil m.trace)
+
 served_held : (n : ℕ) (x : Need) (m : MachineState) (flags : Flags) → answer_to x m ≡ answers.Channel (replies.Held flags) → served n x m ≡ m
 served_held n Nothing m flags e = cc
 served_held n Local m flags e = cc
@@ -94,11 +102,7 @@ served_held n (Read a) m flags e = cc
 served_held n (Write a w) m flags e = cc
 served_held n (Channel c op) m flags e =
     let h = history_of c m in
-    let none : event_of op h ≡ None = held_made_none op (channel_state h) (event_of op h) flags (held_reply flags (reply_to op h) e) in
-    ap (λ (made : Option Event). record m { histories = slice_set m.histories (channel_index c) (h ++ option_to_list made); trace = m.trace ++ map (λ e. record { turn = m.turns; pp = n; channel = c; event = e }) (option_to_list made) }) none
-    ∙ ap (λ (g : List Event). record m { histories = slice_set m.histories (channel_index c) g; trace = m.trace ++ [] }) (append-nil h)
-    ∙ ap (λ (hs : List (List Event)). record m { histories = hs; trace = m.trace ++ [] }) (set-get_or m.histories (channel_index c) [])
-    ∙ ap (λ (t : List Trace). record m { trace = t }) (append-nil m.trace)
+    served_without_event n c op m (held_made_none op (channel_state h) (event_of op h) flags (held_reply flags (reply_to op h) e))
 
 -- a step that is held counts a turn, and does nothing else
 stepped_held : (n : ℕ) (m : MachineState) → step_outcome n m ≡ Held → stepped n m ≡ record m { turns = counted m.turns }

@@ -1,6 +1,7 @@
 -- Processors at rest in the rounds of the barrel.
 use Rattle.std.proofs.Common.{◌≡◌, ◌≢◌, ℕ, zero, suc, ◌+◌, ◌-◌, ◌*◌, ◌^◌, ◌<◌, ◌≤◌, List, slice_set, get_or, refl, sym, ap, subst, ◌∙◌, arith, inl, inr, get_or-set_same, get_or-set_other, length}
 use Rattle.std.specs.Prelude.{min, IsSome}
+use Rattle.std.proofs.Math.Nat.{mul-le-mul_left}
 use Rattle.std.proofs.lemmas.Bool.Decides.{eqb_tells}
 use Rattle.pp_machine.specs.MachineState.{MachineState, processor_of}
 use Rattle.pp_machine.specs.MachineStep.{answer_to, stepped, step_event}
@@ -12,7 +13,7 @@ use Rattle.pp_numbers.specs.declared.profile.Profile.{Profile}
 use Rattle.pp_machine.specs.Rounds.{RestBetween, PassesOverRest, IsCut, whole_rounds}
 use Rattle.pp_machine.specs.Run.{MakesEvent, run, barrel}
 use Rattle.pp_machine.proofs.MachineStepLemmas.{stepped_at_rest}
-use Rattle.pp_numbers.proofs.ProfileLemmas.{index_in_turn, in_round, more_rounds, fewer_rounds}
+use Rattle.pp_numbers.proofs.ProfileLemmas.{most_processors, index_in_turn, in_round, more_rounds, fewer_rounds}
 use Rattle.pp_machine.proofs.RunLemmas.{run-append, run_profile, barrel_more}
 
 -- a step changes no other processor
@@ -159,6 +160,10 @@ round_later rounds round m n ran is = is ∙ ap (λ p. processors_in p) (sym (pr
 -- rounds counted in turns
 pub counted_rounds : (p : Profile) (a b rounds round : ℕ) → a ≡ rounds → b ≡ round → round ≡ processors_in p → a * b ≡ rounds * processors_in p
 counted_rounds p a b rounds round first second is = ap (λ k. k * b) first ∙ ap (λ k. rounds * k) (second ∙ is)
+
+-- rounds have at most twenty turns each
+pub turns_at_most : (p : Profile) (rounds round : ℕ) → round ≡ processors_in p → rounds * round ≤ rounds * processor_count
+turns_at_most p rounds round is = mul-le-mul_left rounds (omega (arith, is, most_processors p))
 
 -- a machine that has made whole rounds of another, and then whole rounds more
 pub rounds_after : (rounds more : ℕ) (m n o : MachineState) → n ≡ run (whole_rounds m.profile rounds) m → o ≡ run (whole_rounds n.profile more) n → o ≡ run (whole_rounds m.profile (rounds + more)) m

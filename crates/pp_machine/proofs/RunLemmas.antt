@@ -7,8 +7,9 @@ use Rattle.pp_machine.specs.MachineStep.{stepped, answer_to, served, taken}
 use Rattle.pp_numbers.specs.Profile.{processor_in_turn}
 use Rattle.pp_machine.specs.Run.{run, barrel}
 use Rattle.pp_numbers.specs.declared.profile.Profile.{Profile}
-use Rattle.std.specs.Prelude.{if◌then◌else◌, Option, Some, None, Result, Ok, Err, IsNone, IsSome, IsOk, IsErr}
+use Rattle.std.specs.Prelude.{if◌then◌else◌, Option, Some, None, Result, Ok, Err, IsNone, IsSome, IsOk, IsErr, OnOk}
 use Rattle.std.specs.Option.{option_to_list}
+use Rattle.std.specs.Result.{is_err}
 use Rattle.std.proofs.lemmas.Bool.{ne_eqb}
 use Rattle.std.proofs.lemmas.List.Elements.{filter_map-append}
 use Rattle.pp_channel.specs.Answer.{event_of}
@@ -131,6 +132,11 @@ run_keeps (n ∷ ns) m each h = run_keeps ns (stepped n m) (step_each n m each) 
 not_both : {X Y : Type 0} (answer : Result X Y) → IsErr answer → IsOk answer → ⊥
 not_both (Ok x) refused done = cc
 not_both (Err y) refused done = cc
+
+-- what is true of an answer that is no refusal
+pub if_made : {X Y : Type 0} {P : Type 0} (answer : Result X Y) → is_err answer ≡ false → OnOk answer P → P
+if_made (Ok x) made p = p
+if_made (Err y) made p = cc
 
 -- a step that was refused makes an event, where one that makes none is not refused
 pub some_event : {E X Y : Type 0} (event : Option E) (answer : Result X Y) → IsErr answer → (IsNone event → IsOk answer) → IsSome event

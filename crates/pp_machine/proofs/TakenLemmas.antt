@@ -1,5 +1,6 @@
 -- A step of a machine, put together from what its parts left in the machine's fields.
-use Rattle.std.proofs.Common.{◌≡◌, ℕ, ◌<◌, List, [], length, get_or, slice_set, Option, None, Some, false, refl, ap, ◌∙◌, rules}
+use Rattle.std.proofs.Common.{◌≡◌, ℕ, ◌-◌, ◌<◌, List, [], ◌∷◌, ◌++◌, length, length-append, take, get_or, slice_set, Option, None, Some, false, not, ◌&&◌, refl, sym, ap, subst, ◌∙◌, arith, rules}
+use Rattle.std.proofs.Math.Seq.{take-append_seam}
 use Rattle.std.specs.Prelude.{Bool, true, IsNone, IsSome, IsTrue, ◌↔◌, if◌then◌else◌}
 use Rattle.std.proofs.lemmas.List.{get_or_read, set-get_or}
 use Rattle.pp_numbers.specs.ChannelNo.{channel_index}
@@ -7,8 +8,16 @@ use Rattle.pp_channel.specs.declared.event.Event.{Event}
 use Rattle.pp_machine.specs.Headline.{IsMachine}
 use Rattle.pp_machine.specs.MachineState.{MachineState, history_of, processor_of}
 use Rattle.pp_machine.specs.MachineStep.{answer_to, counted, served, taken, stepped, step_outcome}
-use Rattle.pp_machine.specs.NeedAndEffect.{need, processor_after, outcome, is_held, if_running}
-use Rattle.pp_machine.specs.Processor.{Processor, no_processor}
+use Rattle.pp_word.specs.declared.opcode.Opcode.{Opcode}
+use Rattle.pp_numbers.specs.Profile.{has_channel}
+use Rattle.pp_machine.specs.Effect.{faults}
+use Rattle.pp_machine.specs.InstructionTable.{instruction, row, works_on_channel}
+use Rattle.pp_machine.specs.NeedAndEffect.{need, processor_after, outcome, is_held, if_running, answered, next_step, step_of}
+use Rattle.pp_machine.specs.NextStep.{IsAtInstruction}
+use Rattle.pp_machine.specs.Operand.{lower_six}
+use Rattle.pp_machine.specs.Replay.{fits}
+use Rattle.pp_machine.specs.Step.{Step, need_of, local}
+use Rattle.pp_machine.specs.Processor.{Processor, no_processor, no_such_channel}
 use Rattle.pp_numbers.specs.PpNo.{processor_index}
 use Rattle.pp_machine.specs.declared.{answer.Answer.Answer, block.Block.Block, need.Need.Need}
 use Rattle.pp_machine.specs.declared.answer.Answer.TheVariants.{Local}
@@ -83,7 +92,26 @@ own_history {before} {now} {i} {h} n view place within read =
     ∙ ap (λ k. get_or before.histories k []) place
     ∙ ap (history_of n) view
 
+-- a list that lost again what was put at its end
+pub popped : {X : Type 0} {before pushed after : List X} {n : ℕ} (e : X) → pushed ≡ before ++ e ∷ [] → n ≡ length pushed → after ≡ take (n - 1) pushed → after ≡ before
+popped {X} {before} {pushed} {after} {n} e push count pop =
+    let left : n - 1 ≡ length before = omega (arith, count, ap length push, length-append before (e ∷ [])) in
+    pop ∙ ap (λ l. take (n - 1) l) push ∙ ap (λ k. take k (before ++ e ∷ [])) left ∙ take-append_seam before (e ∷ [])
+
 -- what is there is not missing
 pub some_is_made : {X : Type 0} (made : Option X) (event : X) → made ≡ Some event → IsNone made → ⊥
 some_is_made None event is none = cc
 some_is_made (Some other) event is none = search rules
+
+-- an answer that does not fit a fault fits the row of the instruction
+if_fits : (faulty : Bool) (step fault : Step) (pp : Processor) (x : Answer) → IsTrue (fits (need_of (if faulty then fault else step)) x) → fits (need_of fault) x ≡ false → answered step pp x ≡ answered (if faulty then fault else step) pp x
+if_fits true step fault pp x fit other = cc
+if_fits false step fault pp x fit other = refl
+
+pub taken_by_row : (op : Opcode) (d : ℕ) (pp : Processor) (x : Answer) → IsAtInstruction op d pp → IsTrue (fits (need pp) x) → fits Need.Local x ≡ false → answered (row op pp d) pp x ≡ processor_after pp x
+unfolding need processor_after
+taken_by_row op d pp x next fit other =
+    let is : next_step pp ≡ instruction op pp d = ap (λ b. step_of b pp) next.free ∙ ap (λ o. instruction o pp (lower_six pp)) (sym next.operation) ∙ ap (λ e. instruction op pp e) (sym next.lower_six) in
+    let needs : need pp ≡ need_of (instruction op pp d) = ap (λ s. if_running s (need_of (next_step pp)) Need.Nothing) next.running ∙ ap need_of is in
+    let after : processor_after pp x ≡ answered (instruction op pp d) pp x = ap (λ s. if_running s (answered (next_step pp) pp x) pp) next.running ∙ ap (λ s. answered s pp x) is in
+    if_fits (works_on_channel op && not (has_channel pp.profile d)) (row op pp d) (local (faults pp no_such_channel)) pp x (subst (λ y. IsTrue (fits y x)) needs fit) other ∙ sym after

@@ -1,5 +1,7 @@
 use Rattle.std.proofs.lemmas.Grind.{common_steps}
-use Rattle.std.proofs.Common.{arith, ◌≡◌, ◌+◌, [], replicate}
+use Rattle.std.proofs.Common.{arith, ◌≡◌, ◌+◌, List, [], replicate, ap, ◌∙◌}
+use Rattle.pp_numbers.specs.ChannelNo.{channel_count}
+use Rattle.pp_channel.specs.declared.event.Event.{Event}
 use Rattle.pp_machine.proofs.HeadlineLemmas.{headline_of_none}
 use Rattle.pp_machine.proofs.machine.new_channels.Goals as goal
 
@@ -10,3 +12,8 @@ loop-preserved g c =
       without_history = row;
       headline = λ k below. headline_of_none _ _ _ row c.new-channel.ensures c.history-history.ensures.lawful c.history-history.ensures.law k;
     }
+
+pub returns-clause-items : goal.returns-clause-items
+returns-clause-items g c =
+    let all : c.loop.counter ≡ channel_count = omega arith in
+    c.loop.invariant.without_history ∙ ap (λ k. replicate {A = List Event} k []) all

@@ -1,5 +1,7 @@
-use Rattle.std.proofs.Common.{sym, ◌∙◌}
+use Rattle.std.proofs.Common.{◌≡◌, arith, length, replicate, ap, sym, ◌∙◌}
+use Rattle.std.proofs.lemmas.List.{length-replicate}
 use Rattle.std.proofs.lemmas.Grind.{replicate_next}
+use Rattle.pp_numbers.specs.PpNo.{processor_count}
 use Rattle.pp_machine.specs.Processor.{new_processor}
 use Rattle.pp_machine.proofs.machine.new_processors.Goals as goal
 
@@ -11,3 +13,11 @@ loop-preserved g c = record {
   made = c.push_reserved.ensures.items ∙ rw (c.loop.invariant.made, c.new.ensures) (sym (replicate_next c.loop.counter (new_processor c.args.profile)));
   room = c.push_reserved.ensures.capacity ∙ c.loop.invariant.room;
 }
+
+pub push_reserved-requires : goal.push_reserved-requires
+push_reserved-requires g c = omega (arith, c.loop.processors.ok.0, ap length c.loop.invariant.made, length-replicate c.loop.counter (new_processor c.args.profile))
+
+pub returns : goal.returns
+returns g c =
+    let all : c.loop.counter ≡ processor_count = omega arith in
+    c.loop.invariant.made ∙ ap (λ k. replicate k (new_processor c.args.profile)) all

@@ -24,3 +24,9 @@ invariant_of-result g c =
           let Q : List Trace → Type 0 = λ trace. HoldsOnChannel (if get_or (replicate channel_count false) (channel_index k) false then Activate ∷ [] else []) (events_on k trace) (get_or histories (channel_index k) []) in
           subst Q (sym c.new-2.ensures.items) (subst P (sym (none_opened channel_count (channel_index k))) (c.in_ok-new_channels.ensures.headline (channel_index k) (channel_places.place_below k names)));
     }
+
+pub returns-clause-sized : goal.returns-clause-sized
+returns-clause-sized g c = c.in_ok-central.ensures.sized
+
+pub returns-clause-bad_size : goal.returns-clause-bad_size
+returns-clause-bad_size g c = (λ fault size. cc, λ bad. absurd (bad c.in_ok-central.ensures.sized))

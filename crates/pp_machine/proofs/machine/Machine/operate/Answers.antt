@@ -1,19 +1,47 @@
-use Rattle.std.proofs.Common.{◌≡◌, List, Option, map, ◌++◌, ◌∷◌, [], arith, get_or, slice_set, ap, sym, ◌∙◌, rules}
-use Rattle.std.specs.Prelude.{Some, length, IsTrue, ◌<◌}
+use Rattle.std.proofs.Common.{◌≡◌, List, Option, map, ◌++◌, ◌∷◌, [], arith, get_or, slice_set, ap, sym, subst, ◌∙◌, rules}
+use Rattle.std.specs.Prelude.{None, Some, length, IsTrue, ◌<◌}
 use Rattle.std.specs.Option.{option_to_list}
 use Rattle.std.proofs.lemmas.Grind.{common_steps}
 use Rattle.pp_channel.specs.Answer.{event_of, reply_to}
 use Rattle.pp_channel.specs.declared.event.Event.{Event}
 use Rattle.pp_numbers.specs.ChannelNo.{channel_index, names_channel}
 use Rattle.pp_machine.specs.declared.{trace.Trace.Trace, need.Need.Need}
-use Rattle.pp_machine.specs.Headline.{opening_history}
+use Rattle.pp_machine.specs.Headline.{IsMachine, opening_history}
 use Rattle.pp_machine.specs.MachineState.{MachineState, history_of}
 use Rattle.pp_machine.specs.MachineStep.{histories_after, served}
 use Rattle.pp_machine.specs.declared.answer.Answer.TheVariants as answers
 use Rattle.pp_machine.specs.declared.need.Need.TheVariants.{Channel}
-use Rattle.pp_machine.proofs.TakenLemmas.{own_history, some_is_made}
+use Rattle.pp_machine.proofs.TakenLemmas.{own_history, popped, some_is_made}
+use Rattle.pp_machine.proofs.MachineStepLemmas.{served_without_event}
 use Rattle.pp_machine.proofs.HeadlineLemmas.{headline_after_event}
 use Rattle.pp_machine.proofs.machine.Machine.operate.Goals as goal
+
+pub returns-in-None-clause-ok : goal.returns-in-None-clause-ok
+returns-in-None-clause-ok g c =
+    let none : event_of c.args.op (history_of c.args.channel c.args.self.now) ≡ None = ap (event_of c.args.op) (sym (own_history c.args.channel c.self.view_is c.index-i.ensures.place (omega (arith, c.index-i.ensures.below, c.self.invariant.channels)) c.index.ensures)) ∙ (sym c.next_event-made.ensures.event ∙ c.in-None.is) in
+    sym (served_without_event c.args.n c.args.channel c.args.op c.args.self.now none)
+
+pub invariant_of-self : goal.invariant_of-self
+invariant_of-self g c =
+    let inside = c.self.inside in
+    let before : MachineState = record { profile = inside.profile; processors = inside.processors.items; histories = inside.channels.items; central = inside.central; turns = inside.turns; trace = inside.trace.items; opened = inside.opened } in
+    subst (λ (t : List Trace). IsMachine (record before { trace = t })) (sym c.in_err-push-in-Some.ensures.items) c.self.invariant
+
+pub invariant_of-self-in-Err : goal.invariant_of-self-in-Err
+invariant_of-self-in-Err g c =
+    let inside = c.self.inside in
+    let before : MachineState = record { profile = inside.profile; processors = inside.processors.items; histories = inside.channels.items; central = inside.central; turns = inside.turns; trace = inside.trace.items; opened = inside.opened } in
+    let trace = popped _ c.in_ok-push-in-Some.ensures.items (omega (arith, c.push.new.self.ok.0)) c.pop.ensures.rest in
+    subst (λ (hs : List (List Event)). IsMachine (record before { histories = hs; trace = c.pop.new.self.items })) (sym c.in-Err.ensures.unchanged_after_memory)
+    (subst (λ (t : List Trace). IsMachine (record before { trace = t })) (sym trace) c.self.invariant)
+
+pub returns-in-Err-clause-unchanged_after_memory : goal.returns-in-Err-clause-unchanged_after_memory
+returns-in-Err-clause-unchanged_after_memory g c =
+    let inside = c.self.inside in
+    let before : MachineState = record { profile = inside.profile; processors = inside.processors.items; histories = inside.channels.items; central = inside.central; turns = inside.turns; trace = inside.trace.items; opened = inside.opened } in
+    let trace = popped _ c.in_ok-push-in-Some.ensures.items (omega (arith, c.push.new.self.ok.0)) c.pop.ensures.rest in
+    ap (λ (hs : List (List Event)). record before { histories = hs; trace = c.pop.new.self.items }) c.in-Err.ensures.unchanged_after_memory
+    ∙ (ap (λ (t : List Trace). record before { trace = t }) trace ∙ c.self.view_is)
 
 pub invariant_of-self-in-Ok : goal.invariant_of-self-in-Ok
 invariant_of-self-in-Ok g c =

@@ -2,7 +2,7 @@ use Rattle.std.proofs.Common.{◌*◌, ap, subst, ◌∙◌, arith}
 use Rattle.pp_numbers.specs.Profile.{processors_in}
 use Rattle.pp_machine.specs.Rounds.{IsCut}
 use Rattle.pp_machine.specs.Run.{run, barrel}
-use Rattle.pp_machine.proofs.RoundLemmas.{counted_rounds, round_later, rounds_after, cut_after}
+use Rattle.pp_machine.proofs.RoundLemmas.{counted_rounds, turns_at_most, round_later, rounds_after, cut_after}
 use Rattle.pp_machine.proofs.machine.Machine.run_by_turns.Goals as goal
 
 pub returns-in-Err-clause-cut : goal.returns-in-Err-clause-cut
@@ -30,3 +30,17 @@ run_passing-requires-clause-round g c =
 pub run_passing-requires-clause-whole : goal.run_passing-requires-clause-whole
 run_passing-requires-clause-whole g c = λ several.
     round_later c.loop-done.done c.round-round.result c.args.self.now c.loop-done.self c.loop-done.invariant.ran c.round-round.ensures
+
+pub overflow_mul-result : goal.overflow_mul-result
+overflow_mul-result g c = omega (arith, c.from.ensures, turns_at_most c.args.self.now.profile c.from.result c.from-in-Err.result (c.from-in-Err.ensures ∙ c.round-round.ensures))
+
+pub overflow_add-result : goal.overflow_add-result
+overflow_add-result g c =
+    let p = c.args.self.now.profile in
+    omega (
+      arith,
+      c.from.ensures,
+      turns_at_most p c.from.result c.from-in-Err.result (c.from-in-Err.ensures ∙ c.round-round.ensures),
+      turns_at_most p c.min-further.result c.round-round.result c.round-round.ensures,
+      c.in-Err.ensures.cut.at_event.0,
+    )

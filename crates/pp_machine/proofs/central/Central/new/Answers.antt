@@ -1,0 +1,23 @@
+use Rattle.std.proofs.Common.{◌≡◌, ◌∙◌, ℕ, zero, suc, ◌<◌, ◌≤◌, ◌^◌, List, length, replicate, get_or, refl, ap, arith, rules}
+use Rattle.std.proofs.lemmas.List.{length-replicate}
+use Rattle.pp_machine.specs.Central.{IsCentral}
+use Rattle.pp_machine.proofs.central.Central.new.Goals as goal
+
+zero_at_each : (n i : ℕ) → get_or {A = ℕ} (replicate n 0) i 0 ≡ 0
+zero_at_each zero i = refl
+zero_at_each (suc n) zero = refl
+zero_at_each (suc n) (suc i) = zero_at_each n i
+
+zeros_are_central : (size : ℕ) (words : List ℕ) → 0 < size → size ≤ 2 ^ 17 → words ≡ replicate size 0 → IsCentral words
+zeros_are_central size words some most zeros =
+    let count : length words ≡ size = ap length zeros ∙ length-replicate size 0 in
+    record {
+      size = record { some = omega arith; most = omega arith };
+      small = λ a. omega (arith, ap (λ l. get_or l a 0) zeros ∙ zero_at_each size a);
+    }
+
+pub invariant_of-result : goal.invariant_of-result
+invariant_of-result g c = zeros_are_central c.args.size _ (omega arith) (omega arith) (search rules)
+
+pub returns-clause-sound : goal.returns-clause-sound
+returns-clause-sound g c = zeros_are_central c.args.size _ (omega arith) (omega arith) (search rules)
