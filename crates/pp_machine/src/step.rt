@@ -7,8 +7,7 @@ ghost use Rattle.pp_channel.specs.History.{IsLawful, HasTwelveBitWord};
 ghost use Rattle.pp_channel.specs.Law.{KeepsLaw};
 ghost use Rattle.pp_machine.specs.NextStep.{IsAtInstruction, IsNext};
 ghost use Rattle.pp_machine.specs.NeedAndEffect.{need};
-ghost use Rattle.pp_numbers.specs.PpNo.{processor_index};
-ghost use Rattle.pp_numbers.specs.Profile.{has_channel, processors_in};
+ghost use Rattle.pp_numbers.specs.Profile.{has_channel};
 ghost use Rattle.pp_machine.specs.Processor.{IsAtRest, IsAtFault, KeepsMemoryAndRegisters};
 
 use crate::answer::Answer;
@@ -40,8 +39,12 @@ impl<A: Allocator> Machine<A> {
             → KeepsMemoryAndRegisters (processor_of n self.old) (processor_of n self.new) }
         ensures headline { HoldsOnEachChannel self.new }
     {
-        match self.processors[n.index()].state() {
-            PpState::Running => self.step_by_need(n),
+        let i = n.index();
+        match self.processors[i].state() {
+            PpState::Running => {
+                let (next, d) = self.processors[i].next_instruction();
+                self.step_external(n, &next, d)
+            }
             PpState::Stopped | PpState::Fault(_) => {
                 self.count_turn();
                 Ok(Outcome::AtRest)
@@ -49,42 +52,10 @@ impl<A: Allocator> Machine<A> {
         }
     }
 
-    /// One step of a processor: what it needs is asked, answered and given.
-    #[tactic(auto, unfolding(crate::specs::MachineStep::stepped, // the machine after it
-    crate::specs::MachineStep::step_event, // its event
-    crate::specs::MachineStep::step_outcome))]
-    fn step_by_need(&mut self, n: PpNo) -> Result<Outcome, Memory>
-        ensures step { IsStep n result self.old self.new }
-        ensures headline { HoldsOnEachChannel self.new }
-    {
-        let i = n.index();
-        let need = self.processors[i].wants();
-        let answer = self.serve(n, need)?;
-        let outcome = self.processors[i].give(answer);
-        self.count_turn();
-        Ok(outcome)
-    }
-
-    /// What the channels and central memory answer to a need of a processor.
-    fn serve(&mut self, n: PpNo, asked: Need) -> Result<Answer, Memory>
-        ensures answer { IfOk result (λ x. x ≡ answer_to asked self.old) }
-        ensures ok { OnOk result (self.new ≡ served n asked self.old) }
-        ensures unchanged_after_memory { OnErr result (self.new ≡ self.old) }
-        ensures no_event { IsNone (event_for asked self.old) → IsOk result }
-    {
-        Ok(match asked {
-            Need::Nothing | Need::Local => Answer::Local,
-            Need::Channel(channel, op) => Answer::Channel(self.exchange(n, channel, op)?),
-            Need::Read(address) => Answer::Read(self.central.read(address)),
-            Need::Write(address, word) => Answer::Wrote(self.central.write(address, word)),
-        })
-    }
-
     /// One step of a processor in the barrel, as `step` makes it. What a step needs is asked of its
     /// instruction alone here, and the barrel has the only call, so that it is compiled in place.
     #[tactic(auto, using(crate::proofs::MachineStepLemmas::steps_at_rest))]
     pub(crate) fn step_in_barrel(&mut self, n: PpNo) -> Result<Outcome, Memory>
-        requires place { processor_index n < processors_in self.old.profile }
         ensures step { IsStep n result self.old self.new }
         ensures headline { HoldsOnEachChannel self.new }
     {
@@ -108,8 +79,7 @@ impl<A: Allocator> Machine<A> {
     /// The step of a processor that is running.
     #[tactic(auto, using(crate::proofs::MachineStepLemmas::steps_alone))]
     fn go_on(&mut self, n: PpNo) -> Result<Outcome, Memory>
-        requires place { processor_index n < processors_in self.old.profile }
-        requires running { (processor_of n self.old).state ≡ PpState.Running }
+        requires { (processor_of n self.old).state ≡ PpState.Running }
         ensures step { IsStep n result self.old self.new }
         ensures headline { HoldsOnEachChannel self.new }
     {
@@ -133,7 +103,6 @@ impl<A: Allocator> Machine<A> {
     /// channel.
     #[tactic(auto, using(crate::proofs::MachineStepLemmas::steps_by_probe))]
     fn test_flags(&mut self, n: PpNo, op: Opcode, d: Word6, profile: Profile)
-        requires place { processor_index n < processors_in self.old.profile }
         requires next { IsAtInstruction op d (processor_of n self.old) }
         requires probes { need (processor_of n self.old)
             ≡ (if has_channel profile d then Need.Channel d ChanOp.Probe else Need.Local) }
@@ -151,13 +120,14 @@ impl<A: Allocator> Machine<A> {
         self.count_turn();
     }
 
-    /// The step of a processor with the answer to its need.
+    /// The step of a processor with the answer to its need, whatever that is. It is compiled in
+    /// place where the barrel calls it.
     #[tactic(auto, unfolding(crate::specs::MachineStep::stepped, // the machine after it
     crate::specs::MachineStep::step_event, // its event
     crate::specs::MachineStep::step_outcome))]
+    #[inline(always)]
     fn step_external(&mut self, n: PpNo, next: &Option<Opcode>, d: Word6) -> Result<Outcome, Memory>
-        requires place { processor_index n < processors_in self.old.profile }
-        requires next { IsNext next.now d (processor_of n self.old) }
+        requires { IsNext next.now d (processor_of n self.old) }
         ensures step { IsStep n result self.old self.new }
         ensures headline { HoldsOnEachChannel self.new }
     {

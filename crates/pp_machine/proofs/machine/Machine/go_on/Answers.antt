@@ -7,8 +7,7 @@ use Rattle.pp_machine.specs.MachineState.{MachineState, processor_of}
 use Rattle.pp_machine.specs.MachineStep.{IsStep, stepped, step_outcome}
 use Rattle.pp_machine.specs.NeedAndEffect.{need, outcome}
 use Rattle.pp_machine.specs.Processor.{Processor}
-use Rattle.pp_numbers.specs.PpNo.{processor_index}
-use Rattle.pp_numbers.specs.Profile.{has_channel, processors_in}
+use Rattle.pp_numbers.specs.Profile.{has_channel}
 use Rattle.pp_machine.specs.declared.answer.Answer.TheVariants as answers
 use Rattle.pp_machine.specs.declared.need.Need.TheVariants.{Local, Channel}
 use Rattle.pp_machine.proofs.MachineStepLemmas.{stepped_alone, outcome_alone}
@@ -80,16 +79,8 @@ pub invariant_of-self-else-tests_flags : goal.invariant_of-self-else-tests_flags
 invariant_of-self-else-tests_flags g c =
     with_processors _ (length-set c.self.inside.processors.items c.index-i.result c.step_internal.new.self) c.self.invariant
 
-pub step_external-requires-clause-place : goal.step_external-requires-clause-place
-step_external-requires-clause-place g c =
-    let same : c.match-next.self ≡ c.args.self.now = elim c.match-next.branch [
-      | in-Some+else-step_internal+else-tests_flags w ↦ w.self-is ∙ same_machine c.index-i.result c.self.view_is w.index_mut.ensures.value w.if-step_internal.ensures.otherwise
-      | in_default w ↦ w.self-is
-    ] in
-    subst (λ (m : MachineState). processor_index c.args.n < processors_in m.profile) (sym same) c.requires.place
-
-pub step_external-requires-clause-next : goal.step_external-requires-clause-next
-step_external-requires-clause-next g c =
+pub step_external-requires : goal.step_external-requires
+step_external-requires g c =
     let read = own_processor c.args.n c.self.view_is c.index-i.ensures.place (omega (arith, c.index-i.ensures.below, c.self.invariant.processors)) c.index.ensures in
     let same : c.match-next.self ≡ c.args.self.now = elim c.match-next.branch [
       | in-Some+else-step_internal+else-tests_flags w ↦ w.self-is ∙ same_machine c.index-i.result c.self.view_is w.index_mut.ensures.value w.if-step_internal.ensures.otherwise

@@ -1,23 +1,15 @@
-use Rattle.std.proofs.Common.{arith, refl, ◌≡◌, ◌<◌, ap, sym, subst, ◌∙◌, get_or}
+use Rattle.std.proofs.Common.{arith, refl, ◌≡◌, ap, sym, subst, ◌∙◌, get_or}
 use Rattle.std.specs.Prelude.{IsSome}
 use Rattle.pp_machine.specs.MachineState.{MachineState}
 use Rattle.pp_machine.specs.MachineStep.{stepped, step_event}
-use Rattle.pp_numbers.specs.PpNo.{processor_index}
-use Rattle.pp_numbers.specs.Profile.{processor_in_turn, processors_in}
+use Rattle.pp_numbers.specs.Profile.{processor_in_turn}
 use Rattle.pp_machine.specs.Rounds.{PassesOverRest}
 use Rattle.pp_machine.specs.Run.{run, barrel}
-use Rattle.pp_machine.proofs.RoundLemmas.{passes_over_stepped, profile_after}
+use Rattle.pp_machine.proofs.RoundLemmas.{passes_over_stepped}
 use Rattle.pp_machine.proofs.RunLemmas.{some_event}
 use Rattle.pp_numbers.proofs.ProfileLemmas.{in_turn_at}
 use Rattle.pp_machine.proofs.RunLemmas.{barrel_more}
 use Rattle.pp_machine.proofs.machine.Machine.run_round.Goals as goal
-
-pub step_in_barrel-requires : goal.step_in_barrel-requires
-step_in_barrel-requires g c =
-    let running = get_or c.args.next.now c.loop-self.place 0 in
-    let p = c.args.self.now.profile in
-    let passed : c.pass_to-in-loop-self.new.self ≡ run (barrel p running) c.args.self.now = c.pass_to-in-loop-self.ensures.ran p c.args.self.now (omega arith) c.loop-self.invariant.ran in
-    record { place = subst (λ q. processor_index c.at.result < processors_in q) (sym (profile_after (barrel p running) c.args.self.now c.pass_to-in-loop-self.new.self passed)) (omega (arith, c.at.ensures.place)) }
 
 pub loop-self-preserved : goal.loop-self-preserved
 loop-self-preserved g c =

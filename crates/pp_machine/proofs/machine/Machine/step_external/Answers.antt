@@ -17,17 +17,17 @@ use Rattle.pp_machine.proofs.machine.Machine.step_external.Goals as goal
 
 pub wants_next-requires : goal.wants_next-requires
 wants_next-requires g c =
-    subst (λ (pp : Processor). IsNext c.args.next.now c.args.d pp) (sym (own_processor c.args.n c.self.view_is c.index-i.ensures.place (omega (arith, c.index-i.ensures.below, c.self.invariant.processors)) c.index.ensures)) c.requires.next
+    subst (λ (pp : Processor). IsNext c.args.next.now c.args.d pp) (sym (own_processor c.args.n c.self.view_is c.index-i.ensures.place (omega (arith, c.index-i.ensures.below, c.self.invariant.processors)) c.index.ensures)) c.requires
 
 pub give_local-outcome-requires-clause-next : goal.give_local-outcome-requires-clause-next
-give_local-outcome-requires-clause-next g c = subst (λ (pp : Processor). IsNext c.args.next.now c.args.d pp) (sym (own_processor c.args.n c.self.view_is c.index-i.ensures.place (omega (arith, c.index-i.ensures.below, c.self.invariant.processors)) c.index_mut.ensures.value)) c.requires.next
+give_local-outcome-requires-clause-next g c = subst (λ (pp : Processor). IsNext c.args.next.now c.args.d pp) (sym (own_processor c.args.n c.self.view_is c.index-i.ensures.place (omega (arith, c.index-i.ensures.below, c.self.invariant.processors)) c.index_mut.ensures.value)) c.requires
 
 pub invariant_of-self : goal.invariant_of-self
 invariant_of-self g c =
     with_processors _ (length-set c.self.inside.processors.items c.index-i.result c.give_local-outcome.new.self) c.self.invariant
 
 pub give_reply-outcome-requires-clause-next : goal.give_reply-outcome-requires-clause-next
-give_reply-outcome-requires-clause-next g c = subst (λ (pp : Processor). IsNext c.args.next.now c.args.d pp) (sym (own_processor c.args.n (c.self-in-Channel.view_is ∙ c.in_ok-reply-in-Channel.ensures.ok) c.index-i.ensures.place (omega (arith, c.index-i.ensures.below, c.self-in-Channel.invariant.processors)) c.index_mut-in-Channel.ensures.value)) c.requires.next
+give_reply-outcome-requires-clause-next g c = subst (λ (pp : Processor). IsNext c.args.next.now c.args.d pp) (sym (own_processor c.args.n (c.self-in-Channel.view_is ∙ c.in_ok-reply-in-Channel.ensures.ok) c.index-i.ensures.place (omega (arith, c.index-i.ensures.below, c.self-in-Channel.invariant.processors)) c.index_mut-in-Channel.ensures.value)) c.requires
 
 pub invariant_of-self-in-Channel : goal.invariant_of-self-in-Channel
 invariant_of-self-in-Channel g c =
@@ -43,7 +43,7 @@ give_reply-outcome-requires-clause-fits g c =
     (subst (λ (a : Answer). IsTrue (fits x a)) (sym c.in_ok-reply-in-Channel.ensures.reply) (state_fits op (channel_state (history_of c.in-Channel.channel c.args.self.now))))
 
 pub give_central-requires-clause-next : goal.give_central-requires-clause-next
-give_central-requires-clause-next g c = subst (λ (pp : Processor). IsNext c.args.next.now c.args.d pp) (sym (own_processor c.args.n c.self.view_is c.index-i.ensures.place (omega (arith, c.index-i.ensures.below, c.self.invariant.processors)) c.index_mut-in-Read.ensures.value)) c.requires.next
+give_central-requires-clause-next g c = subst (λ (pp : Processor). IsNext c.args.next.now c.args.d pp) (sym (own_processor c.args.n c.self.view_is c.index-i.ensures.place (omega (arith, c.index-i.ensures.below, c.self.invariant.processors)) c.index_mut-in-Read.ensures.value)) c.requires
 
 pub give_central-requires-clause-fits : goal.give_central-requires-clause-fits
 give_central-requires-clause-fits g c =
@@ -56,7 +56,7 @@ invariant_of-self-in-Read g c =
     with_processors _ (length-set c.self.inside.processors.items c.index-i.result c.give_central.new.self) c.self.invariant
 
 pub give_written-requires-clause-next : goal.give_written-requires-clause-next
-give_written-requires-clause-next g c = subst (λ (pp : Processor). IsNext c.args.next.now c.args.d pp) (sym (own_processor c.args.n c.self.view_is c.index-i.ensures.place (omega (arith, c.index-i.ensures.below, c.self.invariant.processors)) c.index_mut-in-Write.ensures.value)) c.requires.next
+give_written-requires-clause-next g c = subst (λ (pp : Processor). IsNext c.args.next.now c.args.d pp) (sym (own_processor c.args.n c.self.view_is c.index-i.ensures.place (omega (arith, c.index-i.ensures.below, c.self.invariant.processors)) c.index_mut-in-Write.ensures.value)) c.requires
 
 pub give_written-requires-clause-fits : goal.give_written-requires-clause-fits
 give_written-requires-clause-fits g c =
