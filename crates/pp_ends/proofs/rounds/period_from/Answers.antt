@@ -2,13 +2,13 @@ use Rattle.std.proofs.Common.{◌≡◌, ℕ, ◌+◌, sym, subst, inl, inr, ari
 use Rattle.std.proofs.lemmas.Bool.{cases_eq}
 use Rattle.pp_run.specs.BareMachine.{StandsFor}
 use Rattle.pp_ends.specs.Rounds.{AreAlikeAfter, after_rounds}
-use Rattle.pp_ends.proofs.rounds.find_period.Goals as goal
+use Rattle.pp_ends.proofs.rounds.period_from.Goals as goal
 
 pub loop-passed-init : goal.loop-passed-init
 loop-passed-init g c = record {
   later =
       let same : c.args.rounds ≡ c.args.rounds + 0 = omega arith in
-      subst (λ (t : ℕ). StandsFor c.in_ok-later.later (after_rounds t c.args.machine.now)) same c.in_ok-later.ensures;
+      subst (λ (t : ℕ). StandsFor c.args.later.now (after_rounds t c.args.machine.now)) same c.requires.later;
   none = λ k some low. absurd (omega (arith, some, low));
 }
 
@@ -23,7 +23,7 @@ returns-then-stand_alike g c =
       some = omega arith;
       most = omega (arith, c.loop-passed-test.true);
       alike = subst (λ (t : ℕ). AreAlikeAfter rounds t m) same
-          (c.stand_alike.ensures.alike c.if-stand_alike.true (after_rounds rounds m) (after_rounds (rounds + passed + 1) m) c.in_ok-end.ensures stands);
+          (c.stand_alike.ensures.alike c.if-stand_alike.true (after_rounds rounds m) (after_rounds (rounds + passed + 1) m) c.requires.end stands);
       least = λ k some low. c.loop-passed.invariant.none k some (omega (arith, low));
     }
 
@@ -39,7 +39,7 @@ loop-passed-preserved g c =
       none = λ k some low. elim (cases_eq k (passed + 1)) [
         | inl is ↦ subst (λ (j : ℕ). ¬ AreAlikeAfter rounds (rounds + j) m) (sym is)
             (subst (λ (t : ℕ). ¬ AreAlikeAfter rounds t m) same
-            (c.stand_alike.ensures.differ c.if-stand_alike.false (after_rounds rounds m) (after_rounds (rounds + passed + 1) m) c.in_ok-end.ensures stands))
+            (c.stand_alike.ensures.differ c.if-stand_alike.false (after_rounds rounds m) (after_rounds (rounds + passed + 1) m) c.requires.end stands))
         | inr other ↦ c.loop-passed.invariant.none k some (omega (arith, low, other))
       ];
     }
