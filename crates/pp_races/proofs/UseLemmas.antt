@@ -73,3 +73,14 @@ bits_marked of was table place a n next is within were more b low q named = elim
       ap (λ (u : WordUse). has_bit (of u) q) (get_or-set_other table place b next unused (λ on. other (on ∙ is)))
       ∙ were b low q named ∙ sym (or-false (was b q)) ∙ ap (λ t. was b q || (t && q == n)) (sym (ne_eqb b a other))
 ]
+
+-- a word's writers, after a step that reads a word
+pub writers_kept : (table : List WordUse) (place : ℕ) (next : WordUse) → place < length table → next.writers ≡ (get_or table place unused).writers
+    → (b : ℕ) → (get_or (slice_set table place next) b unused).writers ≡ (get_or table b unused).writers
+writers_kept table place next within is b = elim (cases_eq b place) [
+  | inl same ↦
+      ap (λ k. (get_or (slice_set table place next) k unused).writers) same
+      ∙ ap (λ (u : WordUse). u.writers) (get_or-set_same table place next unused within) ∙ is
+      ∙ ap (λ k. (get_or table k unused).writers) (sym same)
+  | inr other ↦ ap (λ (u : WordUse). u.writers) (get_or-set_other table place b next unused other)
+]

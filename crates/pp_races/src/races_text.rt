@@ -6,7 +6,6 @@ ghost use Rattle.pp_run.specs.Determinacy.{IsDeterminate};
 ghost use Rattle.pp_text.specs.TextWriter.{Prints};
 ghost use Rattle.pp_text.specs.Written.{IsReportWritten};
 ghost use Rattle.pp_races.specs.Findings.{findings};
-ghost use Rattle.pp_races.specs.Printing.{IsPrinted};
 ghost use Rattle.pp_races.specs.RacesText.{races_text, verdict_line};
 ghost use Rattle.pp_races.specs.Watch.{unwatched};
 ghost use Rattle.pp_races.specs.WatchTables.{AreTables};
@@ -51,13 +50,7 @@ pub fn write_races<A: Allocator + Copy, W: Write>(
     let Ok(mut tables) = WatchTables::of(alloc, machine, in_all(events)) else {
         return Err(ReportFault::Memory);
     };
-    let mut text = TextWriter::new(writer);
-    let printed = print_races(&mut text, machine, turns, &mut tables);
-    let written = text.finish();
-    match printed {
-        Ok(()) => written.map_err(|_| ReportFault::Write),
-        Err(fault) => Err(fault),
-    }
+    write_watched(writer, machine, turns, &mut tables)
 }
 
 /// How many events these are in all.
@@ -69,17 +62,16 @@ fn in_all(events: &[usize; CHANNELS]) -> usize {
     all
 }
 
-/// Makes the run, and prints the text of its races.
-fn print_races<A: Allocator, W: Write>(
-    text: &mut TextWriter<W>,
+/// Makes the run, and writes the text of its races.
+fn write_watched<A: Allocator, W: Write>(
+    writer: &mut W,
     machine: &mut Machine<A>,
     turns: u32,
     tables: &mut WatchTables<A>,
 ) -> Result<(), ReportFault>
     requires { AreTables tables.old machine.old unwatched }
-    ensures same_writer { text.new.writer.ghost_name ≡ text.old.writer.ghost_name }
-    ensures printed { IsPrinted W.contents text.old text.new
-        (races_text (barrel machine.old.profile turns) machine.old) result }
+    ensures written { IsReportWritten (races_text (barrel machine.old.profile turns) machine.old)
+        result (W.contents writer.old) (W.contents writer.new) }
     ensures same { result ≢ Err ReportFault.Memory
         → findings (barrel machine.old.profile turns) machine.old ≡ []
         → IsDeterminate (barrel machine.old.profile turns) machine.old }
@@ -87,24 +79,30 @@ fn print_races<A: Allocator, W: Write>(
     ensures cut { OnErr result ((t : ℕ) × (t ≤ turns)
         × (machine.new ≡ run (barrel machine.old.profile t) machine.old)) }
 {
-    match print_run(text, machine, turns, tables) {
+    let mut text = TextWriter::new(writer);
+    match print_run(&mut text, machine, turns, tables) {
         Ok(verdict) => {
-            print_verdict(text, verdict);
-            Ok(())
+            print_verdict(&mut text, verdict);
+            text.finish().map_err(|_| ReportFault::Write)
         }
-        // Nothing was found, and so nothing is printed.
-        Err(Verdict::Same) => Err(ReportFault::Memory),
-        Err(Verdict::NoRaceSoFar) => Err(ReportFault::Write),
-        Err(Verdict::MayDiffer) => Err(ReportFault::Write),
+        Err(verdict) => {
+            let _written = text.finish();
+            match verdict {
+                // Nothing was found, and so nothing is printed.
+                Verdict::Same => Err(ReportFault::Memory),
+                Verdict::NoRaceSoFar | Verdict::MayDiffer => Err(ReportFault::Write),
+            }
+        }
     }
 }
 
 fn print_verdict<W: Write>(text: &mut TextWriter<W>, verdict: Verdict)
     ensures { Prints W.contents text.old text.new (verdict_line verdict) }
 {
-    match verdict {
-        Verdict::Same => text.print(b"SAME IN EVERY ORDER\n"),
-        Verdict::NoRaceSoFar => text.print(b"NO RACE SO FAR\n"),
-        Verdict::MayDiffer => text.print(b"MAY DIFFER\n"),
-    }
+    let line: &[u8] = match verdict {
+        Verdict::Same => b"SAME IN EVERY ORDER\n",
+        Verdict::NoRaceSoFar => b"NO RACE SO FAR\n",
+        Verdict::MayDiffer => b"MAY DIFFER\n",
+    };
+    text.print(line);
 }
