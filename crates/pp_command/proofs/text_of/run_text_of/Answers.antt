@@ -18,3 +18,30 @@ returns-in_default c (TextOf.Draw window) k = c.requires.draw k.0
 
 pub returns-in_err-turns : goal.returns-in_err-turns
 returns-in_err-turns c = rw c.from_residual.ensures (no_turns c.args.name.now (value_in c.args.matches.now) c.args.profile c.requires.list c.in_err-turns.ensures)
+
+pub returns-in-barrel : goal.returns-in-barrel
+returns-in-barrel c = (c.in-barrel.is, c.in_ok-turns.ensures)
+
+pub returns-in-dump : goal.returns-in-dump
+returns-in-dump c = (c.in-dump.is, c.in_ok-turns.ensures)
+
+pub returns-in-state : goal.returns-in-state
+returns-in-state c = (c.in-state.is, c.in_ok-turns.ensures)
+
+pub returns-in-races : goal.returns-in-races
+returns-in-races c = (c.in-races.is, c.in_ok-turns.ensures)
+
+pub returns-in-ends : goal.returns-in-ends
+returns-in-ends c = (c.in-ends.is, c.in_ok-turns.ensures)
+
+pub returns-in-sessions : goal.returns-in-sessions
+returns-in-sessions c = (c.in-sessions.is, c.in_ok-turns.ensures, c.is_flagged.ensures)
+
+pub returns-in-memory : goal.returns-in-memory
+returns-in-memory c = rw c.in-memory.is c.memory_text_of.ensures
+
+pub returns-in-central : goal.returns-in-central
+returns-in-central c = rw c.in-central.is c.central_text_of.ensures
+
+pub returns-in-steps : goal.returns-in-steps
+returns-in-steps c = rw c.in-steps.is c.steps_text_of.ensures
