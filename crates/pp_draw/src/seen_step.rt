@@ -41,8 +41,10 @@ pub fn run_seeing_steps<A: Allocator>(
         window,
         steps: Vec::new(alloc),
     };
-    run_observed(machine, window.to, &mut shown)?;
-    Ok(shown.steps)
+    match run_observed(machine, window.to, &mut shown) {
+        Ok(()) => Ok(shown.steps),
+        Err(cut) => Err(cut),
+    }
 }
 
 /// The steps that are shown in a window.
