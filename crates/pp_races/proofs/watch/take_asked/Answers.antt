@@ -6,10 +6,17 @@ use Rattle.pp_races.specs.OtherFlags.{waits_at}
 use Rattle.pp_races.specs.Soundness.{AsksLawfulChannel}
 use Rattle.pp_races.proofs.LookLemmas.{index_kept, waits_watched}
 use Rattle.pp_races.proofs.watch.take_asked.Goals as goal
-use Rattle.pp_races.proofs.watch.take_asked.Goals.{After-next_event}
+use Rattle.pp_races.proofs.watch.take_asked.Goals.{After-next_event, After-waits_at}
 
 event : (g : _) (c : After-next_event g) → event_of c.args.op.now (history_of c.args.c c.args.machine.now) ≡ c.next_event.result
 event g c = ap (event_of c.args.op.now) (sym c.channel-channel.ensures.value) ∙ sym c.next_event.ensures.event
+
+waits : (g : _) (c : After-waits_at g) → waits_at c.args.op.now (processor_of c.args.n c.args.machine.now) (flags_of (history_of c.args.c c.args.machine.now)) ≡ c.waits_at.result
+waits g c =
+    ap (λ h. waits_at c.args.op.now (processor_of c.args.n c.args.machine.now) (flags_of h)) (sym c.channel-channel.ensures.value)
+    ∙ ap (λ f. waits_at c.args.op.now (processor_of c.args.n c.args.machine.now) f) (sym c.flags.ensures)
+    ∙ ap (λ p. waits_at c.args.op.now p c.flags.result) (sym c.pp.ensures)
+    ∙ sym c.waits_at.ensures
 
 sound : (g : _) (c : After-next_event g) → AsksLawfulChannel (Need.Channel c.args.c c.args.op.now) c.args.machine.now
 sound g c =
@@ -26,10 +33,12 @@ pub returns-then-waits_at-clause-watched : goal.returns-then-waits_at-clause-wat
 returns-then-waits_at-clause-watched g c = λ w are.
     waits_watched c.args.machine.now w c.args.n c.args.c c.args.op.now c.args.low.now c.args.looks.now c.args.findings.now.items c.requires.needs
     (event g (goal.at.returns-then-waits_at-clause-watched g c).After-next_event ∙ c.in_default.is)
-    (ap (λ h. waits_at c.args.op.now (processor_of c.args.n c.args.machine.now) (flags_of h)) (sym c.channel-channel.ensures.value)
-    ∙ ap (λ f. waits_at c.args.op.now (processor_of c.args.n c.args.machine.now) f) (sym c.flags.ensures)
-    ∙ ap (λ p. waits_at c.args.op.now p c.flags.result) (sym c.pp.ensures)
-    ∙ sym c.waits_at.ensures ∙ c.if-waits_at.true) are
+    (waits g (goal.at.returns-then-waits_at-clause-watched g c).After-waits_at ∙ c.if-waits_at.true) are
+
+pub returns-clause-watched : goal.returns-clause-watched
+returns-clause-watched g c =
+    rw (event g (goal.at.returns-clause-watched g c).After-next_event ∙ c.in_default.is, waits g (goal.at.returns-clause-watched g c).After-waits_at ∙ c.if-waits_at.false)
+    c.take_look.ensures.watched
 
 pub returns-then-waits_at-clause-index : goal.returns-then-waits_at-clause-index
 returns-then-waits_at-clause-index g c =
