@@ -65,9 +65,3 @@ pub returns-clause-same : goal.returns-clause-same
 returns-clause-same g c =
     run_tells c.args.machine.now.profile c.args.turns c.loop-turn.turn c.args.machine.now c.loop-turn.machine c.loop-turn.tables c.is_sound.ensures.processors c.is_sound.ensures.channels (omega arith) c.loop-turn.invariant.run
     c.in-Ok-find_unsettled.ensures.turns
-
-pub returns-in_default-clause-cut : goal.returns-in_default-clause-cut
-returns-in_default-clause-cut g c = (c.loop-turn.turn, omega arith, c.loop-turn.invariant.run.ran)
-
-pub returns-in_default-find_unsettled-clause-cut : goal.returns-in_default-find_unsettled-clause-cut
-returns-in_default-find_unsettled-clause-cut g c = (c.loop-turn.turn, omega arith, c.loop-turn.invariant.run.ran)
