@@ -2,8 +2,7 @@
 
 ghost use Rattle.std.specs.Prelude.{ℕ, ◌≡◌, ◌≢◌, ◌≤◌, ◌<◌, ◌^◌, Ok, Err, IfOk, IfErr, OnOk, length, position};
 ghost use Rattle.pp_deck.specs.DeckText.{lines_of};
-ghost use Rattle.pp_machine.specs.DeadStart.{IsBeforeFirstTurn};
-ghost use Rattle.pp_deck.specs.DeckMeaning.{deck_meaning, meaning_of_lines, size_of, is_foreign, line_of_byte, with_dead_start};
+ghost use Rattle.pp_deck.specs.DeckMeaning.{deck_meaning, meaning_of_lines, size_of, is_foreign, line_of_byte};
 ghost use Rattle.pp_deck.specs.Reading.{before_lines, deck_so_far};
 
 use crate::central_size::central_size;
@@ -60,14 +59,7 @@ pub fn read_deck<A: Allocator + Copy>(
             code: DeckCode::NotAscii,
         });
     }
-    let Ok(mut reading) = Reading::new(alloc, profile, central_size(text)) else {
-        return Err(OUT_OF_MEMORY);
-    };
-    read_lines(&mut reading, text)?;
-    match reading.into_deck() {
-        Ok(deck) => Ok(deck),
-        Err(Memory) => Err(OUT_OF_MEMORY),
-    }
+    deck_of_lines(alloc, profile, text)
 }
 
 /// No line is at fault if memory was refused.
@@ -93,18 +85,39 @@ fn line_of_byte(text: &[u8], place: usize) -> u32
     ended as u32 + 1
 }
 
-/// Reads all lines of a text, up to the first fault.
-fn read_lines<A: Allocator>(reading: &mut Reading<A>, text: &[u8]) -> Result<(), DeckFault>
+/// The deck of a text that is ASCII and not too long.
+fn deck_of_lines<A: Allocator + Copy>(
+    alloc: A,
+    profile: Profile,
+    text: &[u8],
+) -> Result<Deck<A>, DeckFault>
+    requires { length text.now ≤ LONGEST_TEXT }
+    ensures ok { IfOk result (λ deck. meaning_of_lines profile (lines_of text.now)
+        ≡ Ok (record { machine = deck.machine; named = deck.named })) }
+    ensures fault { IfErr result (λ fault. fault.code ≢ DeckCode.Memory
+        → meaning_of_lines profile (lines_of text.now) ≡ Err fault) }
+    ensures memory_at_no_line { IfErr result (λ fault. fault.code ≡ DeckCode.Memory
+        → fault.line ≡ 0) }
+{
+    let Ok(mut reading) = Reading::new(alloc, profile, central_size(text)) else {
+        return Err(OUT_OF_MEMORY);
+    };
+    read_lines(&mut reading, text)?;
+    Ok(reading.into_deck())
+}
+
+/// Reads all lines of a text, up to the first fault, and then waits as dead start has it.
+fn read_lines<A: Allocator + Copy>(reading: &mut Reading<A>, text: &[u8]) -> Result<(), DeckFault>
     requires limit { length text.now ≤ LONGEST_TEXT }
     requires size { size_of (lines_of text.now) ≤ 2 ^ 17 }
     requires fresh { reading.old ≡ before_lines reading.old.machine.profile
         (size_of (lines_of text.now)) }
     ensures ok { OnOk result (meaning_of_lines reading.old.machine.profile (lines_of text.now)
-        ≡ Ok (with_dead_start reading.new.asks_dead_start (deck_so_far reading.new))) }
-    ensures before { OnOk result (IsBeforeFirstTurn reading.new.machine) }
-    ensures fault { IfErr result (λ fault. meaning_of_lines reading.old.machine.profile
-        (lines_of text.now) ≡ Err fault) }
-    ensures no_memory { IfErr result (λ fault. fault.code ≢ DeckCode.Memory) }
+        ≡ Ok (deck_so_far reading.new)) }
+    ensures fault { IfErr result (λ fault. fault.code ≢ DeckCode.Memory
+        → meaning_of_lines reading.old.machine.profile (lines_of text.now) ≡ Err fault) }
+    ensures memory_at_no_line { IfErr result (λ fault. fault.code ≡ DeckCode.Memory
+        → fault.line ≡ 0) }
 {
     let mut lines = Lines::of(text);
     let mut number = 0;
@@ -121,5 +134,8 @@ fn read_lines<A: Allocator>(reading: &mut Reading<A>, text: &[u8]) -> Result<(),
             is_after_fields = true;
         }
     }
-    Ok(())
+    match reading.wait_unnamed() {
+        Ok(()) => Ok(()),
+        Err(Memory) => Err(OUT_OF_MEMORY),
+    }
 }

@@ -1,6 +1,6 @@
 //! A deck, as far as it has been read.
 
-ghost use Rattle.std.specs.Prelude.{◌≡◌, ◌≤◌, ◌∷◌, ◌^◌, length, is_some, Err, IfOk, IsErrOf, ◌↔◌, if◌then◌else◌};
+ghost use Rattle.std.specs.Prelude.{◌≡◌, ◌≤◌, ◌∷◌, ◌^◌, length, is_some, Err, IfOk, IsErrOf, OnOk, ◌↔◌, if◌then◌else◌};
 ghost use Rattle.pp_machine.specs.Central.{IsCentralSize};
 ghost use Rattle.pp_deck.specs.DeckLine.{section_line, start_line, words_line, central_words_line, line_after};
 ghost use Rattle.pp_machine.specs.DeadStart.{IsBeforeFirstTurn};
@@ -61,25 +61,29 @@ impl<A: Allocator> Reading<A> {
         })
     }
 
-    /// The deck, once all lines are read: at dead start the processors that it does not name wait.
-    pub(crate) fn into_deck(self) -> Result<Deck<A>, Memory>
+    /// Once all lines are read: at dead start the processors that the deck does not name wait.
+    pub(crate) fn wait_unnamed(&mut self) -> Result<(), Memory>
     where
         A: Clone,
-        requires { IsBeforeFirstTurn self.machine }
-        ensures { IfOk result (λ deck. record { machine = deck.machine; named = deck.named }
-            ≡ with_dead_start self.asks_dead_start (deck_so_far self)) }
+        requires { IsBeforeFirstTurn self.old.machine }
+        ensures { OnOk result (deck_so_far self.new
+            ≡ with_dead_start self.old.asks_dead_start (deck_so_far self.old)) }
     {
-        let Reading {
-            mut machine,
-            named,
-            current: _,
-            asks_dead_start,
-        } = self;
-        if asks_dead_start {
-            let waiting = unnamed(machine.profile(), &named);
-            machine.dead_start(&waiting)?;
+        if self.asks_dead_start {
+            let waiting = unnamed(self.machine.profile(), &self.named);
+            self.machine.dead_start(&waiting)?;
         }
-        Ok(Deck { machine, named })
+        Ok(())
+    }
+
+    /// The deck that was read.
+    pub(crate) fn into_deck(self) -> Deck<A>
+        ensures { record { machine = result.machine; named = result.named } ≡ deck_so_far self }
+    {
+        Deck {
+            machine: self.machine,
+            named: self.named,
+        }
     }
 
     /// Reads a line with this first field and these after it. `is_after_fields` says whether a
@@ -111,9 +115,8 @@ impl<A: Allocator> Reading<A> {
             Keyword::Processor => self.read_section(fields),
             Keyword::Start => self.read_start(fields),
             Keyword::DeadStart => {
-                end_line(fields)?;
                 self.asks_dead_start = true;
-                Ok(())
+                end_line(fields)
             }
             Keyword::Words => self.read_words(first, fields),
             Keyword::Unknown => Err(Flaw::UnknownLine),
@@ -130,10 +133,9 @@ impl<A: Allocator> Reading<A> {
         let profile = self.machine.profile();
         let n = next_number(fields, 2)?;
         let processor = profile.processor(n as u8).ok_or(Flaw::BadProcessor)?;
-        end_line(fields)?;
         self.named[processor.index()] = true;
         self.current = Some(processor);
-        Ok(())
+        end_line(fields)
     }
 
     /// `START p` or `START p a`, after its keyword.

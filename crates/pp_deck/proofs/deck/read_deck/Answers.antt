@@ -1,4 +1,4 @@
-use Rattle.std.proofs.Common.{◌≡◌, ◌≤◌, ◌∙◌, List, ℕ, None, Ok, ap, arith, length, sym}
+use Rattle.std.proofs.Common.{◌≡◌, ◌≤◌, ◌∙◌, List, ℕ, None, arith, length, sym}
 use Rattle.std.specs.Prelude.{position}
 use Rattle.pp_numbers.specs.declared.profile.Profile.{Profile}
 use Rattle.pp_deck.specs.DeckMeaning.{deck_meaning, is_foreign, meaning_of_lines}
@@ -9,7 +9,8 @@ means : (p : Profile) (text : List ℕ) → length text ≤ 1048576 → position
 unfolding deck_meaning
 means p text short none = grind (arith, short, none)
 
-pub returns-in-Ok-into_deck-clause-ok : goal.returns-in-Ok-into_deck-clause-ok
-returns-in-Ok-into_deck-clause-ok g c =
-    means c.args.profile c.args.text.now c.if-text-gt-LONGEST_TEXT.false (sym c.first_foreign.ensures ∙ c.in_default.is)
-    ∙ rw c.in-Ok.ensures.profile at c.in_ok-read_lines.ensures.ok ∙ ap Ok (sym c.in-Ok-into_deck.ensures)
+pub returns-clause-ok : goal.returns-clause-ok
+returns-clause-ok g c = rw (means c.args.profile c.args.text.now c.if-text-gt-LONGEST_TEXT.false (sym c.first_foreign.ensures ∙ c.in_default.is)) c.deck_of_lines.ensures.ok
+
+pub returns-clause-fault : goal.returns-clause-fault
+returns-clause-fault g c = rw (means c.args.profile c.args.text.now c.if-text-gt-LONGEST_TEXT.false (sym c.first_foreign.ensures ∙ c.in_default.is)) c.deck_of_lines.ensures.fault

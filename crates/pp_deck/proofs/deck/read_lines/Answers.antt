@@ -1,4 +1,4 @@
-use Rattle.std.proofs.Common.{arith, ◌∙◌}
+use Rattle.std.proofs.Common.{Ok, ap, arith, sym, ◌∙◌}
 use Rattle.pp_deck.specs.DeckText.{lines_of}
 use Rattle.pp_deck.proofs.FieldLemmas.{next_line, no_line, length-lines_of}
 use Rattle.pp_deck.proofs.ReadingLemmas.{read_none, read_blank, read_fields, read_flaw, read_all, before_first_turn, central_length}
@@ -20,7 +20,7 @@ read_line-requires g c = omega (arith, c.requires.size, central_length c.args.re
 pub returns-in-Err-clause-fault : goal.returns-in-Err-clause-fault
 returns-in-Err-clause-fault g c =
     let next = next_line _ _ _ _ _ c.loop-fields.invariant.left c.in-Some.ensures.taken in
-    rw c.code.ensures (read_flaw c.args.reading.now.machine.profile _ _ _ _ _ _ c.in-Err.flaw c.loop-fields.invariant.read next.within (next.here ∙ c.in-Some-next_field.ensures.taken) c.in-Err.ensures)
+    λ _. rw c.code.ensures (read_flaw c.args.reading.now.machine.profile _ _ _ _ _ _ c.in-Err.flaw c.loop-fields.invariant.read next.within (next.here ∙ c.in-Some-next_field.ensures.taken) c.in-Err.ensures)
 
 pub loop-fields-preserved-in-Some-next_field : goal.loop-fields-preserved-in-Some-next_field
 loop-fields-preserved-in-Some-next_field g c =
@@ -40,9 +40,10 @@ loop-fields-preserved g c =
       read = read_blank c.args.reading.now.machine.profile _ _ _ _ c.loop-fields.invariant.read next.within (next.here ∙ c.in_default-next_field.ensures.none);
     }
 
-pub returns-clause-before : goal.returns-clause-before
-returns-clause-before g c = before_first_turn c.args.reading.now.machine.profile _ _ _ _ c.loop-fields.invariant.read
+pub wait_unnamed-requires : goal.wait_unnamed-requires
+wait_unnamed-requires g c = before_first_turn c.args.reading.now.machine.profile _ _ _ _ c.loop-fields.invariant.read
 
-pub returns-clause-ok : goal.returns-clause-ok
-returns-clause-ok g c =
+pub returns-in-Ok-clause-ok : goal.returns-in-Ok-clause-ok
+returns-in-Ok-clause-ok g c =
     read_all c.args.reading.now.machine.profile _ _ _ _ c.loop-fields.invariant.read (no_line _ _ _ c.loop-fields.invariant.within c.loop-fields.invariant.left c.in_default.ensures.none)
+    ∙ ap Ok (sym c.in-Ok.ensures)
