@@ -49,10 +49,7 @@ pub(crate) fn set_central_words<A: Allocator>(
     let mut address = first.get();
     while let Some(field) = fields.next_field() {
         let word = Word60::truncated(number(field, 20)?);
-        let Some(at) = Word18::new(address) else {
-            return Err(Flaw::CentralRange);
-        };
-        if !machine.write_central(at, word) {
+        if !machine.write_central(Word18::truncated(address), word) {
             return Err(Flaw::CentralRange);
         }
         address += 1;
@@ -91,8 +88,7 @@ pub(crate) fn start_a(fields: &mut Fields) -> Result<Word18, Flaw>
         return Ok(Word18::ZERO);
     };
     let a = Word18::truncated(number(field, 6)? as u32);
-    end_line(fields)?;
-    Ok(a)
+    end_line(fields).and(Ok(a))
 }
 
 /// The size of central memory that a `CENTRAL` line sets, after its keyword.
@@ -105,6 +101,5 @@ pub(crate) fn central_size_in(fields: &mut Fields) -> Result<u32, Flaw>
     if size < 1 || size > LARGEST_SIZE {
         return Err(Flaw::CentralRange);
     }
-    end_line(fields)?;
-    Ok(size)
+    end_line(fields).and(Ok(size))
 }

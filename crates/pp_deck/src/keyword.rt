@@ -48,8 +48,8 @@ impl Keyword {
     }
 }
 
-/// Whether a field is this word.
-fn is_word(field: &[u8], word: &[u8]) -> bool
+/// Whether a field is this word. Those of traces are asked too.
+pub fn is_word(field: &[u8], word: &[u8]) -> bool
     ensures { result ≡ bytes_eq field.now word.now }
 {
     field == word

@@ -9,25 +9,22 @@ returns-in_err-number g c =
     let p = err_from_is_err_and c.from_residual.result c.from_residual.ensures.1 in
     rw (p.1, p.2) (words_bad _ _ _ _ _ _ _ _ _ _ c.loop-field.invariant.rest c.in-Some.ensures.taken c.in_err-number.ensures.exact)
 
-pub returns-in_default-new : goal.returns-in_default-new
-returns-in_default-new g c =
-    let past : length c.args.machine.now.central ≤ c.loop-field.address = grind (arith, c.in_default-new.ensures, c.requires) in
-    words_past _ _ _ _ _ _ _ _ _ _ c.loop-field.invariant.rest c.in-Some.ensures.taken c.in_ok-number.ensures.exact past
-
 pub returns-then-not-write_central : goal.returns-then-not-write_central
 returns-then-not-write_central g c =
-    let past : length c.args.machine.now.central ≤ c.loop-field.address = grind (arith, c.if-not-write_central.ensures, c.in-Some-new.ensures.value, c.loop-field.invariant.size) in
+    let at : c.truncated.result ≡ c.loop-field.address = omega (arith, c.truncated.ensures, c.loop-field.invariant.within) in
+    let past : length c.args.machine.now.central ≤ c.loop-field.address = grind (arith, c.if-not-write_central.ensures, at, c.loop-field.invariant.size) in
     words_past _ _ _ _ _ _ _ _ _ _ c.loop-field.invariant.rest c.in-Some.ensures.taken c.in_ok-number.ensures.exact past
 
 pub loop-field-preserved : goal.loop-field-preserved
 loop-field-preserved g c =
+    let at : c.truncated.result ≡ c.loop-field.address = omega (arith, c.truncated.ensures, c.loop-field.invariant.within) in
     let written = c.write_central.ensures.written in
-    let below : c.loop-field.address < length c.args.machine.now.central = grind (arith, c.if-not-write_central.ensures, c.in-Some-new.ensures.value, c.loop-field.invariant.size) in
+    let below : c.loop-field.address < length c.args.machine.now.central = grind (arith, c.if-not-write_central.ensures, at, c.loop-field.invariant.size) in
     let word : c.truncated-word.result ≡ c.in_ok-number.field-0 = omega (arith, c.truncated-word.ensures, c.in_ok-number.ensures.small) in
     record {
-      size = ap (λ m. length m.central) written ∙ length-set c.loop-field.machine.central c.in-Some-new.at c.truncated-word.result ∙ c.loop-field.invariant.size;
+      size = ap (λ m. length m.central) written ∙ length-set c.loop-field.machine.central _ c.truncated-word.result ∙ c.loop-field.invariant.size;
       within = omega (arith, below, c.requires);
-      rest = rw (written, c.in-Some-new.ensures.value, word) (words_more _ _ _ _ _ _ _ _ _ _ c.loop-field.invariant.rest c.in-Some.ensures.taken c.in_ok-number.ensures.exact below);
+      rest = rw (written, at, word) (words_more _ _ _ _ _ _ _ _ _ _ c.loop-field.invariant.rest c.in-Some.ensures.taken c.in_ok-number.ensures.exact below);
     }
 
 pub returns : goal.returns
