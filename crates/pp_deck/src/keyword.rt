@@ -48,7 +48,7 @@ impl Keyword {
     }
 }
 
-/// Whether a field is this word. Those of traces are asked too.
+/// Whether a field is this word. Traces are read by it too.
 pub fn is_word(field: &[u8], word: &[u8]) -> bool
     ensures { result ≡ bytes_eq field.now word.now }
 {

@@ -19,3 +19,4 @@ pub use deck_fault::{DeckCode, DeckFault};
 pub use fields::Fields;
 pub use keyword::is_word;
 pub use laws::{deck_law, reading_law};
+pub use lines::first_line_feed;

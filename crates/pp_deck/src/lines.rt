@@ -53,8 +53,8 @@ impl<'a> Lines<'a> {
     }
 }
 
-/// Where the first line of a text ends.
-fn first_line_feed(text: &[u8]) -> Option<usize>
+/// Where the first line of a text ends. Traces are read by it too.
+pub fn first_line_feed(text: &[u8]) -> Option<usize>
     ensures { result ≡ position is_line_feed text.now }
 {
     text.iter().position(|byte| *byte == b'\n')
