@@ -104,10 +104,7 @@ impl<A: Allocator> Reading<A> {
     {
         match Keyword::of(first) {
             Keyword::Central if is_after_fields => Err(Flaw::UnknownLine),
-            Keyword::Central => {
-                central_size_in(fields)?;
-                Ok(())
-            }
+            Keyword::Central => central_size_in(fields).and(Ok(())),
             Keyword::CentralWords => {
                 let address = Word18::truncated(next_number(fields, 6)? as u32);
                 set_central_words(&mut self.machine, address, fields)
