@@ -1,7 +1,7 @@
 //! The check of a trace.
 
-ghost use Rattle.std.specs.Prelude.{ℕ, ◌≡◌, ◌+◌, ◌<◌, ◌≤◌, ◌↔◌, [], ◌∷◌, IfOk, IfErr, MatchOption, length, position, take};
-ghost use Rattle.pp_deck.specs.DeckText.{fields_of, is_line_feed, lines_of};
+ghost use Rattle.std.specs.Prelude.{ℕ, ◌≡◌, ◌+◌, ◌<◌, ◌≤◌, ◌↔◌, [], ◌∷◌, IfOk, IfErr, MatchOption, length, take};
+ghost use Rattle.pp_deck.specs.DeckText.{fields_of, lines_of};
 ghost use Rattle.pp_check.specs.LawfulTrace.{AreLawful, parsed_lines};
 ghost use Rattle.pp_check.specs.TraceFault.{IsFault};
 ghost use Rattle.pp_check.specs.Verdict.{verdict_of};
@@ -10,6 +10,7 @@ use crate::judge::Judge;
 use crate::trace_fault::TraceFault;
 use crate::verdict::Verdict;
 use pp_channel::CHANNELS;
+use pp_deck::first_line_feed;
 
 /// Whether the events of a trace are those of lawful histories: a text in the lines that `barrel`
 /// or `threads` print. `opened` are flags of the channels that were open before the first line, in
@@ -54,11 +55,4 @@ fn first_line(text: &[u8]) -> (&[u8], Option<&[u8]>)
         Some(end) => (&text[..end], Some(&text[end + 1..])),
         None => (text, None),
     }
-}
-
-/// The place where the first line of a text ends.
-fn first_line_feed(text: &[u8]) -> Option<usize>
-    ensures { result ≡ position is_line_feed text.now }
-{
-    text.iter().position(|byte| *byte == b'\n')
 }

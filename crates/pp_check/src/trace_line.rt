@@ -1,10 +1,10 @@
 //! What a line of a trace says.
 
-ghost use Rattle.std.specs.Prelude.{◌≡◌, ◌<◌, bytes_eq, Some, None, MatchOption, is_some, length, if◌then◌else◌};
-ghost use Rattle.pp_check.specs.TraceLine.{active_said, are_over, after_channel, after_processor, channel_in, channel_line, parsed_event, is_processor, last_word, parsed_line, number_after, numbered_line, parsed_state, turn_line};
+ghost use Rattle.std.specs.Prelude.{◌≡◌, ◌<◌, is_some, length, if◌then◌else◌};
+ghost use Rattle.pp_check.specs.TraceLine.{active_said, are_over, channel_in, channel_line, parsed_event, is_processor, last_word, parsed_line, number_after, numbered_line, parsed_state, turn_line};
 
 use pp_channel::{ChannelNo, ChannelState, Event, Flags};
-use pp_deck::Fields;
+use pp_deck::{Fields, is_word};
 use pp_numbers::PpNo;
 use pp_word::{Word12, numeral};
 
@@ -47,8 +47,10 @@ fn turn_line(field: &[u8], fields: &mut Fields) -> Option<TraceLine>
     ensures { result ≡ turn_line field.now fields.old }
 {
     let turn = numeral(10, COUNT_DIGITS, field)?;
-    after_processor(fields)?;
-    let channel = after_channel(fields)?;
+    if !is_processor(fields.next_field()?) {
+        return None;
+    }
+    let channel = channel_in(fields.next_field()?)?;
     let event = event_in(fields)?;
     Some(TraceLine::AtTurn(turn, channel, event))
 }
@@ -70,7 +72,9 @@ fn channel_line(channel: ChannelNo, fields: &mut Fields) -> Option<TraceLine>
 fn numbered_line(channel: ChannelNo, number: u64, fields: &mut Fields) -> Option<TraceLine>
     ensures { result ≡ numbered_line channel number fields.old }
 {
-    after_processor(fields)?;
+    if !is_processor(fields.next_field()?) {
+        return None;
+    }
     let event = event_in(fields)?;
     Some(TraceLine::Numbered(number, channel, event))
 }
@@ -134,13 +138,6 @@ fn active_in(fields: &mut Fields) -> Option<ChannelState>
     }
 }
 
-/// Whether a field is this word.
-fn is_word(field: &[u8], word: &[u8]) -> bool
-    ensures { result ≡ bytes_eq field.now word.now }
-{
-    field == word
-}
-
 /// Whether no field is left.
 fn are_over(fields: &mut Fields) -> bool
     ensures { result ≡ are_over fields.old }
@@ -159,22 +156,6 @@ fn last_word(fields: &mut Fields) -> Option<Word12>
     }
     let word = numeral(8, 4, field)?;
     Some(Word12::truncated(word as u32))
-}
-
-/// Skips a processor.
-fn after_processor(fields: &mut Fields) -> Option<()>
-    ensures { MatchOption result (after_processor fields.old ≡ None)
-        (λ _. after_processor fields.old ≡ Some fields.new) }
-{
-    is_processor(fields.next_field()?).then_some(())
-}
-
-/// The next field, a channel.
-fn after_channel(fields: &mut Fields) -> Option<ChannelNo>
-    ensures { MatchOption result (after_channel fields.old ≡ None)
-        (λ c. after_channel fields.old ≡ Some (c, fields.new)) }
-{
-    channel_in(fields.next_field()?)
 }
 
 /// Whether a field is `PP00` or another processor's.
