@@ -62,3 +62,11 @@ pub lines-smaller : goal.lines-smaller
 lines-smaller c =
     let lengths = rw c.in-Some.is at c.first_line.ensures.lengths in
     omega (arith, lengths)
+
+pub verdict-requires-clause-kept : goal.verdict-requires-clause-kept
+verdict-requires-clause-kept c =
+    let all = lines_of c.args.text.now in
+    let read = c.lines.invariant.read in
+    let line = line_at _ _ _ (c.first_line.result.0).now (c.first_line.result.1) c.lines.invariant.left c.first_line.ensures.lines in
+    let more = read_more c.args.opened.now all c.lines.passed _ c.read.new.self line.within line.here read.said (c.in_default.ensures.judged c.args.opened.now _ read.keeps) in
+    (c.args.opened.now, (_, more.keeps.kept))
