@@ -1,4 +1,4 @@
-use Rattle.std.proofs.Common.{◌++◌, List, [], refl, ap, subst, ◌∙◌, drop, rules}
+use Rattle.std.proofs.Common.{◌++◌, List, [], refl, ap, arith, subst, ◌∙◌, drop, rules}
 use Rattle.pp_machine.specs.declared.trace.Trace.{Trace}
 use Rattle.pp_text.specs.TextWriter.{Prints}
 use Rattle.pp_text.proofs.PrintingLemmas.{prints_nothing}
@@ -33,3 +33,12 @@ returns-clause-lines g c = λ entry on.
       subst (Prints _ _ _) (ap (λ (es : List Trace). line_and_words c.args.with_words c.args.c old.number c.in-Some.tally (words_in (timed_on c.args.c es))) (rest_of old.start past)) c.print_stretch.ensures,
       takes_next c.args.with_words c.args.c (open_at c.args.c past old) _ c.args.event.now c.in-Some.tally c.of-2.result c.in-Some.is (search rules) c.next_number-current.ensures refl c.of-2.ensures.tally words,
     )
+
+pub returns-in_default-clause-few : goal.returns-in_default-clause-few
+returns-in_default-clause-few g c = λ most few.
+    let one = c.of.ensures.few in
+    record { number = omega (arith, few.number); tally = record { events = omega (arith, one.events); put = omega (arith, one.put); taken = omega (arith, one.taken) } }
+
+pub returns-then-not-is_over-clause-few : goal.returns-then-not-is_over-clause-few
+returns-then-not-is_over-clause-few g c = λ most few.
+    record { number = omega (arith, few.number); tally = c.with.ensures.few most (rw c.in-Some.is at few.tally) }
