@@ -99,9 +99,8 @@ pub fn read_words<'a>(alloc: Global, words: &'a [&'a str]) -> Result<Asked<'a>, 
     // one has, and for nothing else.
     ensures refused { IfErr result (IsRefused (map (λ s. s.now) words.entry.now)) }
 {
-    let command = match command(alloc, words) {
-        Ok(command) => command,
-        Err(_) => return Err(LineFault::Memory),
+    let Ok(command) = command(alloc, words) else {
+        return Err(LineFault::Memory);
     };
     let matches = match command.try_get_matches_from(words) {
         Ok(matches) => matches,
