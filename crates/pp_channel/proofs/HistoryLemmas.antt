@@ -9,7 +9,7 @@ use Rattle.pp_channel.specs.declared.event.Event.{Event}
 use Rattle.pp_channel.specs.declared.event.Event.TheVariants.{Activate, Disconnect, Put, Take, Function}
 use Rattle.pp_channel.specs.Session.{Session, puts, takes}
 use Rattle.pp_channel.specs.History.{Course, events_of, IsLawful, HasTwelveBitWord, HasTwelveBitWords, switches_to, active, last_stretch, full, waiting}
-use Rattle.pp_word.proofs.LastElements.{last_or-push, after_last-found, after_last-push}
+use Rattle.pp_numbers.proofs.LastElements.{last_or-push, after_last-found, after_last-push}
 use Rattle.pp_channel.proofs.HistoryWalk.{State, Inactive, Empty, Holding, step, walk, along, walk_course, state_of, state_in}
 use Rattle.pp_channel.proofs.CourseLemmas.{after_function, after_activate, after_disconnect, after_put, after_take}
 

@@ -12,7 +12,7 @@ use Rattle.pp_channel.specs.History.{IsLawful, active}
 use Rattle.pp_channel.specs.Law.{IsSession, PassesInOrder, IsUntaken, IsFullWith, KeepsLaw}
 use Rattle.pp_channel.proofs.HistoryWalk.{State, Inactive, Empty, Holding, step, walk, along, walk-append, walk_none}
 use Rattle.pp_channel.proofs.HistoryLemmas.{Fits, fits_more, state_at, moved, held_word, full_at, waiting_at}
-use Rattle.pp_word.proofs.LastElements.{last_or-push}
+use Rattle.pp_numbers.proofs.LastElements.{last_or-push}
 
 -- what the state says of the words since the Activate
 abbrev Words : List Event → State → Type 0

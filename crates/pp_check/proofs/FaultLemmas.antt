@@ -9,7 +9,7 @@ use Rattle.std.proofs.lemmas.List.Elements.{All-get_or, All-take, filter_map-app
 use Rattle.pp_channel.specs.Answer.{channel_state}
 use Rattle.pp_channel.specs.History.{IsLawful}
 use Rattle.pp_channel.specs.declared.event.Event.{Event}
-use Rattle.pp_word.proofs.GrowingLists.{filter_map_more}
+use Rattle.pp_numbers.proofs.GrowingLists.{filter_map_more}
 use Rattle.pp_check.specs.LawfulTrace.{AreLawful, Fits, IsLawfulTrace, history, last_turn, parsed_lines, turn_of, event_on, turns}
 use Rattle.pp_check.specs.TraceFault.{IsFault, IsFlaw, IsFlawOf}
 use Rattle.pp_check.specs.TraceLine.{parsed_line}
@@ -19,7 +19,7 @@ use Rattle.pp_check.specs.declared.trace_line.TraceLine.TheVariants.{AtTurn, Num
 use Rattle.pp_check.proofs.TraceLemmas.{history_more, last_fits, lawful_prefix, turns_more, turns_same}
 use Rattle.std.specs.List.Sorted.{IsStrictlyIncreasing}
 use Rattle.std.proofs.lemmas.Option.{slice_get-get_or}
-use Rattle.pp_word.proofs.LastElements.{last_or_at}
+use Rattle.pp_numbers.proofs.LastElements.{last_or_at}
 use Rattle.pp_check.specs.declared.trace_line.TraceLine.TheVariants as says
 use Rattle.pp_check.proofs.KeepsLemmas.{here_by}
 use Rattle.std.specs.Borrow.{Bor}

@@ -7,10 +7,10 @@ use Rattle.std.proofs.lemmas.Bool.{cases_lt}
 use Rattle.std.proofs.lemmas.List.{append-nil, get_or-take, get_or_append_left, get_or_push, length_push, length-take, take-append-drop, take-append-le}
 use Rattle.std.proofs.lemmas.List.Elements.{filter_map-append}
 use Rattle.pp_channel.proofs.FrontLemmas.{lawful_front}
-use Rattle.pp_word.proofs.LastElements.{last_or-push}
+use Rattle.pp_numbers.proofs.LastElements.{last_or-push}
 use Rattle.pp_channel.specs.History.{IsLawful}
 use Rattle.pp_channel.specs.declared.event.Event.{Event}
-use Rattle.pp_word.proofs.GrowingLists.{filter_map_more}
+use Rattle.pp_numbers.proofs.GrowingLists.{filter_map_more}
 use Rattle.pp_check.specs.LawfulTrace.{Fits, IsLawfulTrace, event_on, events_on, history, last_turn, opening, turn_of, turns}
 use Rattle.pp_check.specs.declared.trace_line.TraceLine.{TraceLine}
 use Rattle.pp_check.specs.declared.trace_line.TraceLine.TheVariants.{Other}

@@ -6,7 +6,7 @@ use Rattle.std.proofs.lemmas.List.{length-take}
 use Rattle.std.proofs.lemmas.List.FromFn.{fill_by_all}
 use Rattle.std.proofs.lemmas.List.Sums.{count_by-le-length, sum_by-cons}
 use Rattle.pp_numbers.specs.ChannelNo.{channel_places, all_channels, channel_count, channel_number}
-use Rattle.pp_word.specs.Tables.{tabulate}
+use Rattle.pp_numbers.specs.Tables.{tabulate}
 use Rattle.pp_check.specs.Judge.{KeepsEvents, new_standing, standing}
 use Rattle.pp_check.specs.LawfulTrace.{is_opened}
 use Rattle.pp_check.specs.Verdict.{is_used, opened_count, used_count}

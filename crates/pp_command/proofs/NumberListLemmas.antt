@@ -5,7 +5,7 @@ use Rattle.std.proofs.lemmas.Bool.{cases_eq, eq-eqb, false≢true, ne_eqb}
 use Rattle.std.proofs.lemmas.List.{get_or-set_other, get_or-set_same, length-set}
 use Rattle.std.proofs.lemmas.List.Elements.{All-cons, All-nil, All-tail}
 use Rattle.pp_numbers.specs.ChannelNo.{channel_count, channel_index, names_channel, channel_places}
-use Rattle.pp_word.proofs.Pieces.{split_first, split_last}
+use Rattle.pp_numbers.proofs.Pieces.{split_first, split_last}
 use Rattle.pp_numbers.specs.PpNo.{is_named, names_processor, processor_count, processor_index, processor_places}
 use Rattle.pp_command.specs.ChannelList.{is_flagged_channel}
 use Rattle.pp_command.specs.NumberList.{AreFlagged, is_among, is_comma, numbered, numbers_of}

@@ -18,8 +18,8 @@ use Rattle.pp_numbers.proofs.PpNoLemmas.{channel_of_processor}
 use Rattle.pp_numbers.proofs.ProfileLemmas.{unnamed_lacks, has_at}
 use Rattle.pp_deck.specs.DeckLaw.{WaitsAtDeadStart}
 use Rattle.pp_deck.specs.DeckLine.{Line, dead_start}
-use Rattle.pp_word.specs.Tables.{tabulate}
-use Rattle.pp_word.proofs.TableLemmas.{length-tabulate, get_or-tabulate, tabulate_is, tabulate_const}
+use Rattle.pp_numbers.specs.Tables.{tabulate}
+use Rattle.pp_numbers.proofs.TableLemmas.{length-tabulate, get_or-tabulate, tabulate_is, tabulate_const}
 use Rattle.pp_deck.specs.DeckLoad.{is_dead_start, asks_dead_start, is_named, processor_loaded}
 use Rattle.pp_deck.specs.DeckMeaning.{LoadedDeck, set_by, unnamed_in, with_dead_start}
 use Rattle.pp_deck.proofs.LawLemmas.{named_here, some_line, some_name, named_some}

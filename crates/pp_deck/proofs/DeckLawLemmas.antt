@@ -18,7 +18,7 @@ use Rattle.pp_deck.specs.DeckText.{lines_of}
 use Rattle.pp_deck.specs.declared.deck_fault.DeckFault.{DeckFault}
 use Rattle.pp_deck.proofs.DeadStartLemmas.{is_waiting, waiting, waiting_where, not_waiting, processor_is, opened_is, history_is, all_processors, each_history, stays}
 use Rattle.pp_deck.proofs.LawLemmas.{processor_here, place_here, registers_here, no_block_here, central_here, named_here, some_name, named_some, own_last, all_last, registers_at, start_set, set_start, word_set, set_word, central_set, set_central}
-use Rattle.pp_word.proofs.TableLemmas.{length-tabulate}
+use Rattle.pp_numbers.proofs.TableLemmas.{length-tabulate}
 use Rattle.pp_deck.proofs.LoadedRangeLemmas.{named_has, said_in_range}
 use Rattle.pp_deck.proofs.MemoryLemmas.{length-central_loaded}
 use Rattle.pp_numbers.specs.declared.profile.Profile.{Profile}

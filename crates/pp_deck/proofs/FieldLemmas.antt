@@ -7,7 +7,7 @@ use Rattle.std.proofs.lemmas.List.Sums.{prefix_len-le-length, take_while-cons, c
 use Rattle.std.proofs.lemmas.List.Splits.{slice_split-cons_yes, slice_split-cons_no, length-slice_split}
 use Rattle.std.proofs.lemmas.List.Quantifiers.{position-Some}
 use Rattle.std.proofs.lemmas.Bool.{ltb-false, cond-true, cond-false, eq-eqb, ne_eqb, not-true}
-use Rattle.pp_word.proofs.Pieces.{at_position, no_position, split_first, split_last}
+use Rattle.pp_numbers.proofs.Pieces.{at_position, no_position, split_first, split_last}
 use Rattle.pp_deck.specs.DeckText.{is_blank, is_comment, is_nonempty, fields_in, is_line_feed, fields_of, lines_of}
 
 -- ---- the first element that passes

@@ -7,9 +7,9 @@ use Rattle.std.proofs.lemmas.Bool.{cases_lt}
 use Rattle.std.proofs.lemmas.List.{get_or_past}
 use Rattle.std.proofs.lemmas.List.Elements.{All-contains, All-from_recursion, All-head, All-tail}
 use Rattle.pp_word.specs.Address.{place_count}
-use Rattle.pp_word.proofs.GrowingLists.{last_of}
-use Rattle.pp_word.specs.Tables.{tabulate}
-use Rattle.pp_word.proofs.TableLemmas.{length-tabulate, get_or-tabulate}
+use Rattle.pp_numbers.proofs.GrowingLists.{last_of}
+use Rattle.pp_numbers.specs.Tables.{tabulate}
+use Rattle.pp_numbers.proofs.TableLemmas.{length-tabulate, get_or-tabulate}
 use Rattle.pp_machine.specs.Central.{IsCentral}
 use Rattle.pp_machine.specs.PpMemory.{IsMemory}
 use Rattle.pp_machine.specs.Processor.{IsProcessor}

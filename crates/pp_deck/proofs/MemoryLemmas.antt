@@ -5,11 +5,11 @@ use Rattle.std.proofs.lemmas.Bool.{le-leb, lt-leb, cases_order}
 use Rattle.std.proofs.lemmas.List.{length-set, get_or-set_same, get_or-set_other}
 use Rattle.pp_word.specs.Address.{place_count}
 use Rattle.pp_deck.specs.DeckLine.{Line, central_words, words}
-use Rattle.pp_word.specs.Tables.{tabulate}
-use Rattle.pp_word.proofs.TableLemmas.{length-tabulate, get_or-tabulate, tabulate_is, tabulate_same, tabulate_const}
+use Rattle.pp_numbers.specs.Tables.{tabulate}
+use Rattle.pp_numbers.proofs.TableLemmas.{length-tabulate, get_or-tabulate, tabulate_is, tabulate_same, tabulate_const}
 use Rattle.pp_deck.specs.DeckLoad.{word_among, word_for, central_word_for, memory_of, central_loaded}
 use Rattle.pp_deck.specs.Reading.{with_words}
-use Rattle.pp_word.proofs.GrowingLists.{last_of, or_else, last_of_more, filter_map_more}
+use Rattle.pp_numbers.proofs.GrowingLists.{last_of, or_else, last_of_more, filter_map_more}
 
 pub length-with_words : (first : ℕ) (ws memory : List ℕ) → length (with_words first ws memory) ≡ length memory
 length-with_words first [] memory = refl

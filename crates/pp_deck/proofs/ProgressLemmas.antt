@@ -15,8 +15,8 @@ use Rattle.pp_deck.specs.DeckLine.{Line, central_words, section, start, words, d
 use Rattle.pp_deck.specs.DeckLoad.{section_of, is_dead_start, asks_dead_start, is_for, lines_for, start_in, memory_of, central_loaded, processor_with, processor_loaded, is_named}
 use Rattle.pp_deck.specs.Reading.{Progress, before_lines, with_words, loaded_from, with_processor, after_line, after_lines, progress_of}
 use Rattle.pp_deck.proofs.SectionLemmas.{machine_after, named_after, current_after, asked_after, after_line_parts, names, own, lines_for_more, section_more}
-use Rattle.pp_word.proofs.GrowingLists.{last_of, or_else, last_of_more, filter_map_more}
-use Rattle.pp_word.proofs.TableLemmas.{get_or-tabulate, tabulate_same, tabulate_const, set-tabulate}
+use Rattle.pp_numbers.proofs.GrowingLists.{last_of, or_else, last_of_more, filter_map_more}
+use Rattle.pp_numbers.proofs.TableLemmas.{get_or-tabulate, tabulate_same, tabulate_const, set-tabulate}
 use Rattle.pp_deck.proofs.MemoryLemmas.{memory_none, memory_set, memory_kept, central_none, central_set, central_kept}
 use Rattle.pp_numbers.specs.declared.profile.Profile.{Profile}
 

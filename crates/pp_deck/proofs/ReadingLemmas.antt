@@ -19,7 +19,7 @@ use Rattle.pp_deck.specs.Reading.{Progress, before_lines, after_line, after_line
 use Rattle.pp_deck.specs.declared.{deck_fault.DeckFault.DeckFault, flaw.Flaw.Flaw}
 use Rattle.pp_deck.proofs.RangeLemmas.{section_after}
 use Rattle.pp_deck.proofs.SectionLemmas.{after_line_parts}
-use Rattle.pp_word.proofs.GrowingLists.{range_more, range_append, filter_map_more}
+use Rattle.pp_numbers.proofs.GrowingLists.{range_more, range_append, filter_map_more}
 use Rattle.pp_deck.proofs.MemoryLemmas.{length-central_loaded}
 use Rattle.pp_deck.proofs.ProgressLemmas.{after_lines_is}
 use Rattle.pp_numbers.specs.declared.profile.Profile.{Profile}

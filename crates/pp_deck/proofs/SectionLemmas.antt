@@ -5,7 +5,7 @@ use Rattle.std.specs.List.{range_with_len}
 use Rattle.std.proofs.lemmas.List.{take-append-le, take_at, get_or_append_left, get_or_push, length_push}
 use Rattle.pp_deck.specs.DeckLine.{Line, nothing, central_words, section, start, words, dead_start}
 use Rattle.pp_deck.specs.DeckLoad.{processor_in, section_of, is_for, lines_for}
-use Rattle.pp_word.proofs.GrowingLists.{last_of, or_else, last_of_more, filter_map_more, filter_map_same, range_more}
+use Rattle.pp_numbers.proofs.GrowingLists.{last_of, or_else, last_of_more, filter_map_more, filter_map_same, range_more}
 use Rattle.pp_machine.specs.MachineState.{MachineState}
 use Rattle.pp_machine.specs.Processor.{runs_from}
 use Rattle.pp_numbers.specs.PpNo.{processor_index}

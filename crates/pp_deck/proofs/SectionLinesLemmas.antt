@@ -4,7 +4,7 @@ use Rattle.std.proofs.Common.{◌≡◌, ℕ, zero, suc, ◌+◌, ◌<◌, ◌�
 use Rattle.std.specs.Prelude.{filter_map, ◌&&◌, ◌||◌}
 use Rattle.std.specs.List.{AllByRecursion, flat_map, list_any, range_with_len, cons_option}
 use Rattle.std.proofs.lemmas.Bool.{and_right, eq-eqb, ne_eqb, cases_eq, cond-true, cond-false}
-use Rattle.pp_word.proofs.GrowingLists.{flat_map_none}
+use Rattle.pp_numbers.proofs.GrowingLists.{flat_map_none}
 use Rattle.std.proofs.lemmas.List.Elements.{filter_map-append}
 use Rattle.std.proofs.lemmas.List.Folds.{list_any-append, list_any_at}
 use Rattle.pp_deck.specs.DeckLine.{Line, nothing, section}

@@ -1,7 +1,7 @@
 -- What the lines of a deck load, taken all together: the last line that sets something holds.
 use Rattle.std.specs.Prelude.{ℕ, ◌-◌, ◌==◌, Bool, true, false, List, length, take, Option, None, Some, slice_get, slice_index_or, unwrap_or, nat_le, filter_map, if◌then◌else◌}
 use Rattle.std.specs.List.{last_or, list_any, range_with_len}
-use Rattle.pp_word.specs.Tables.{tabulate}
+use Rattle.pp_numbers.specs.Tables.{tabulate}
 use Rattle.pp_word.specs.Address.{place_count}
 use Rattle.pp_machine.specs.MachineState.{MachineState, new_machine}
 use Rattle.pp_machine.specs.Processor.{Processor, new_processor, runs_from}

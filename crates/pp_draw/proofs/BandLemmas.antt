@@ -4,7 +4,7 @@ use Rattle.std.specs.Prelude.{◌↔◌, IsFalse, IsTrue}
 use Rattle.std.specs.Int.{from_bool}
 use Rattle.std.proofs.lemmas.Bool.{cases_lt, lt-ltb, ltb-true}
 use Rattle.std.proofs.lemmas.List.{append-nil}
-use Rattle.pp_word.specs.GappedNumbers.{is_number, index_of}
+use Rattle.pp_numbers.specs.GappedNumbers.{is_number, index_of}
 use Rattle.pp_numbers.specs.ChannelNo.{channel_count, channel_index, channel_number, names_channel, channel_places}
 use Rattle.pp_machine.specs.MachineState.{MachineState}
 use Rattle.pp_numbers.specs.PpNo.{names_processor, processor_count, processor_index, processor_number, processor_places}

@@ -5,9 +5,9 @@ use Rattle.std.proofs.lemmas.Bool.{cases_eq, ne_eqb}
 use Rattle.std.proofs.lemmas.List.{length-append}
 use Rattle.std.proofs.lemmas.List.Elements.{All-cons, All-nil, All-replicate}
 use Rattle.std.proofs.lemmas.List.Kept.{AllPairs-cons}
-use Rattle.pp_word.specs.Subsequence.{IsSubsequence}
-use Rattle.pp_word.proofs.Subsequences.{stands_after, stands_through, stands_whole}
-use Rattle.pp_word.specs.GappedNumbers.{index_of, is_number}
+use Rattle.pp_numbers.specs.Subsequence.{IsSubsequence}
+use Rattle.pp_numbers.proofs.Subsequences.{stands_after, stands_through, stands_whole}
+use Rattle.pp_numbers.specs.GappedNumbers.{index_of, is_number}
 use Rattle.pp_numbers.specs.ChannelNo.{channel_index, names_channel, channel_places}
 use Rattle.pp_channel.specs.History.{AreHistories, HasTwelveBitWord, HasTwelveBitWords, IsLawful, history_on}
 use Rattle.pp_line.specs.LineLog.{IsFollowedBy, IsMonotone, event_entry}

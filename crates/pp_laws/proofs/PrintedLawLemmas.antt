@@ -8,7 +8,7 @@ use Rattle.std.proofs.lemmas.List.{append-nil, take_more}
 use Rattle.std.proofs.lemmas.List.Elements.{All-head, All-tail, filter_map-append}
 use Rattle.pp_channel.proofs.HistoryLemmas.{Fits as FitsState, active_at, full_at, held_word, is_active, state_at, waiting_at}
 use Rattle.pp_channel.proofs.HistoryWalk.{State, Inactive}
-use Rattle.pp_word.proofs.LastElements.{last_or-push}
+use Rattle.pp_numbers.proofs.LastElements.{last_or-push}
 use Rattle.pp_channel.specs.Answer.{channel_state}
 use Rattle.pp_numbers.specs.ChannelNo.{names_channel}
 use Rattle.pp_channel.specs.History.{IsLawful, active, full, waiting, history_on}

@@ -2,7 +2,7 @@
 //! definitions.
 
 ghost use Rattle.std.specs.Prelude.{List, ◌++◌};
-ghost use Rattle.pp_word.specs.Subsequence.{IsSubsequence};
+ghost use Rattle.pp_numbers.specs.Subsequence.{IsSubsequence};
 ghost use Rattle.pp_channel.specs.History.{AreHistories};
 ghost use Rattle.pp_line.specs.LineLog.{IsMonotone};
 ghost use Rattle.pp_line.specs.Merge.{Merges, no_opening};

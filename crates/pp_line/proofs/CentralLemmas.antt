@@ -7,7 +7,7 @@ use Rattle.std.proofs.lemmas.List.{append-nil, length_push, length-set}
 use Rattle.std.proofs.lemmas.List.Elements.{filter_map-append}
 use Rattle.std.proofs.lemmas.List.Concat.{flat_map-append}
 use Rattle.std.proofs.lemmas.List.Sums.{fold-append, sum_by-append}
-use Rattle.pp_word.proofs.GrowingLists.{range_more}
+use Rattle.pp_numbers.proofs.GrowingLists.{range_more}
 use Rattle.pp_line.specs.Types.{Access, LineView, OnChannel, Read, Write}
 use Rattle.pp_line.specs.Order.{words_after, left_by, FindsWords, write_number, writes_among, times, AreMade}
 use Rattle.pp_line.proofs.ListFacts.{count_by-parts, sum_by-write}

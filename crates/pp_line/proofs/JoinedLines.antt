@@ -11,7 +11,7 @@ use Rattle.pp_numbers.specs.ChannelNo.{channel_index}
 use Rattle.pp_line.specs.LineState.{LineState, joined, all_joined, lines_of, IsLogBeside, SeesAtLeast, AreClosed, AreInOneOrder}
 use Rattle.pp_line.specs.Order.{ExtendsEach, IsDrawnFrom, FindsWords, AreMade}
 use Rattle.pp_line.proofs.ListFacts.{All-front, All-back}
-use Rattle.pp_word.specs.Subsequence.{IsSubsequence}
+use Rattle.pp_numbers.specs.Subsequence.{IsSubsequence}
 use Rattle.pp_line.specs.LineSteps.{IsLogOf, Tells}
 use Rattle.pp_line.specs.LineView.{Knows, greater_of_each, joined_view, with_unrecorded_load}
 use Rattle.pp_line.specs.Merge.{IsRecordedBy}

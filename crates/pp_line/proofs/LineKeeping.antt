@@ -16,9 +16,9 @@ use Rattle.pp_line.specs.Order.{IsDrawnFrom, entries_among, extended}
 use Rattle.pp_line.specs.Merge.{times_logged}
 use Rattle.pp_line.proofs.LineKnowledge.{not_older_told, told_looked, all_looked, looked_either, last_replaced}
 use Rattle.pp_line.proofs.OrderLemmas.{length-extended, drawn_extended, stands_with_last, stands_joined}
-use Rattle.pp_word.proofs.Subsequences.{stands_front}
+use Rattle.pp_numbers.proofs.Subsequences.{stands_front}
 use Rattle.pp_line.proofs.MergeLemmas.{told_by, times_told-append, times_told_push}
-use Rattle.pp_word.proofs.WrittenNumbers.{set_raises}
+use Rattle.pp_numbers.proofs.WrittenNumbers.{set_raises}
 use Rattle.pp_line.proofs.SeenLemmas.{within_more, greater_left, greater_right, length-greater}
 
 -- what backs an entry backs it where the view has more

@@ -20,7 +20,7 @@ use Rattle.pp_line.proofs.ChannelWordLemmas.{number_of_word, flags_of_word}
 use Rattle.pp_channel.proofs.FrontLemmas.{twelve_bits_take}
 use Rattle.pp_line.proofs.MergeLemmas.{told_by, times_told_push}
 use Rattle.pp_channel.proofs.EachHistory.{bits_on}
-use Rattle.pp_word.proofs.LastElements.{last_or_at}
+use Rattle.pp_numbers.proofs.LastElements.{last_or_at}
 
 -- a step found a word on channel c
 module _ {v : LineView} {c word : ℕ} (t : Tells v c word) where

@@ -6,8 +6,8 @@ use Rattle.std.proofs.lemmas.Bool.{cases_eq, cases_lt, ne_eqb, lt-ltb, le-ltb}
 use Rattle.std.proofs.lemmas.List.{append-nil, length-append, drop_all, drop-append-le, take_at, take-append-le, take-append-drop}
 use Rattle.std.proofs.lemmas.List.Concat.{flat_map-append}
 use Rattle.std.proofs.lemmas.List.Elements.{All-weaker, All-map, filter_map-append}
-use Rattle.pp_word.specs.Subsequence.{IsSubsequence}
-use Rattle.pp_word.proofs.Subsequences.{stands_after, stands_passed, stands_more, stands_push, stands_append, stands_through, stands_whole}
+use Rattle.pp_numbers.specs.Subsequence.{IsSubsequence}
+use Rattle.pp_numbers.proofs.Subsequences.{stands_after, stands_passed, stands_more, stands_push, stands_append, stands_through, stands_whole}
 use Rattle.pp_line.specs.Types.{Access, Did, Entry, Event, OnChannel, Saw, Seen}
 use Rattle.pp_channel.specs.Law.{IsPrefix}
 use Rattle.pp_channel.specs.History.{history_on}

@@ -24,7 +24,7 @@ use Rattle.pp_line.proofs.OrderLemmas.{order_beside, order_more, extends_more, e
 use Rattle.pp_line.proofs.MergeLemmas.{once_inside, TellsOnce, tells_once, merges_by, times_within}
 use Rattle.pp_line.proofs.ViewLemmas.{grow_none, view_beside, view_finds, view_later}
 use Rattle.pp_line.proofs.CentralLemmas.{finds_more, left_more, length-left_by, made_push, made_set, times_in as times_written, times_parts, written_in}
-use Rattle.pp_word.proofs.WrittenNumbers.{set_at_each}
+use Rattle.pp_numbers.proofs.WrittenNumbers.{set_at_each}
 
 -- the events of all views, how often they tell one, and the shares
 abbrev pub events_in : LineView → List Entry

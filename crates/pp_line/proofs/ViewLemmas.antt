@@ -13,13 +13,13 @@ use Rattle.pp_channel.specs.History.{HasTwelveBitWords, history_on}
 use Rattle.pp_line.specs.LineView.{look_by, blank_view, parent_view, child_view, greater_of_each, joined_view, finds, makes}
 use Rattle.pp_line.specs.LineLog.{known_after, seen_on, event_entry}
 use Rattle.pp_line.specs.Order.{ExtendsEach}
-use Rattle.pp_word.specs.Subsequence.{IsSubsequence}
+use Rattle.pp_numbers.specs.Subsequence.{IsSubsequence}
 use Rattle.pp_line.proofs.OrderLemmas.{extends_more, extends_push}
 use Rattle.pp_line.specs.SharedWords.{IsFound, IsViewOf}
 use Rattle.pp_channel.proofs.FrontLemmas.{twelve_bits_take}
 use Rattle.pp_line.proofs.ChannelWordLemmas.{number_at_word}
 use Rattle.pp_line.proofs.MergeLemmas.{Grow}
-use Rattle.pp_word.proofs.WrittenNumbers.{set_at_each, set_raises}
+use Rattle.pp_numbers.proofs.WrittenNumbers.{set_at_each, set_raises}
 use Rattle.pp_line.proofs.SeenLemmas.{within_more, greater_left, greater_right, greater_at, length-greater}
 
 -- an empty program order is extended by each order

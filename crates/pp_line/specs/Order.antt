@@ -4,7 +4,7 @@
 -- line stand in it in the order of that line's program.
 use Rattle.std.specs.Prelude.{◌≡◌, ℕ, ◌==◌, List, [], ◌∷◌, ◌++◌, length, All, Option, Some, None, if◌then◌else◌, filter_map, map, slice_index, slice_set, fold}
 use Rattle.std.specs.List.{flat_map, count_by, range_with_len}
-use Rattle.pp_word.specs.Subsequence.{IsSubsequence}
+use Rattle.pp_numbers.specs.Subsequence.{IsSubsequence}
 use Rattle.pp_line.specs.Types.{Access, Entry, Event, Seen}
 use Rattle.pp_channel.specs.Answer.{flags_of}
 use Rattle.pp_channel.specs.History.{history_on}

@@ -115,7 +115,7 @@ impl<A: Allocator> LineLog<A> {
     }
 
     /// Whether the last entry is a look at the channel that need not stay.
-    #[tactic(auto, using(pp_word::proofs::LastElements::last_or_at))]
+    #[tactic(auto, using(pp_numbers::proofs::LastElements::last_or_at))]
     fn ends_in_look_at(&self, channel: ChannelNo) -> bool
         ensures { result ≡ ends_in_look_at channel self.now }
     {

@@ -10,8 +10,8 @@ use Rattle.pp_channel.specs.declared.{event.Event.Event, flags.Flags.Flags}
 use Rattle.pp_machine.specs.MachineState.{MachineState, history_of, processor_of}
 use Rattle.pp_machine.specs.Processor.{Processor}
 use Rattle.pp_numbers.specs.PpNo.{all_processors}
-use Rattle.pp_word.specs.Tables.{tabulate}
-use Rattle.pp_word.proofs.TableLemmas.{length-tabulate, get_or-tabulate}
+use Rattle.pp_numbers.specs.Tables.{tabulate}
+use Rattle.pp_numbers.proofs.TableLemmas.{length-tabulate, get_or-tabulate}
 use Rattle.pp_listing.specs.Dump.{all_busy, busy_processor, busy_channel, in_processor}
 use Rattle.pp_listing.specs.declared.going_on.Busy.{Busy}
 use Rattle.pp_listing.specs.declared.going_on.Busy.TheVariants.{Active}

@@ -10,7 +10,7 @@ use Rattle.pp_machine.specs.declared.pp_state.PpState.TheVariants.{Running}
 use Rattle.pp_numbers.specs.declared.profile.Profile.{Profile}
 use Rattle.pp_deck.specs.DeckLine.{Line, start, words, line_after}
 use Rattle.pp_deck.specs.DeckLoad.{word_among, word_for}
-use Rattle.pp_word.proofs.GrowingLists.{last_of}
+use Rattle.pp_numbers.proofs.GrowingLists.{last_of}
 use Rattle.pp_text.specs.InstructionText.{is_long}
 use Rattle.pp_listing.specs.ListedLine.{ListedLine, one_word, two_words, says}
 use Rattle.pp_listing.specs.Listing.{instruction_lines, start_line}

@@ -11,10 +11,10 @@ use Rattle.pp_word.specs.Address.{place_count}
 use Rattle.pp_machine.specs.Processor.{Processor, word_at}
 use Rattle.pp_numbers.specs.declared.profile.Profile.{Profile}
 use Rattle.pp_deck.specs.DeckLine.{Line, central_size, central_words, section, start, words, dead_start}
-use Rattle.pp_word.specs.Tables.{tabulate}
-use Rattle.pp_word.proofs.TableLemmas.{tabulate_is}
+use Rattle.pp_numbers.specs.Tables.{tabulate}
+use Rattle.pp_numbers.proofs.TableLemmas.{tabulate_is}
 use Rattle.pp_deck.specs.DeckLoad.{word_among, word_for, central_word_for, start_in, lines_for, is_named, is_dead_start, asks_dead_start, memory_of, central_loaded, processor_with, processor_loaded}
-use Rattle.pp_word.proofs.GrowingLists.{last_of}
+use Rattle.pp_numbers.proofs.GrowingLists.{last_of}
 use Rattle.pp_deck.proofs.SectionLemmas.{names}
 use Rattle.pp_deck.proofs.SectionLinesLemmas.{KeepsCurrent, all_append, all_flat, all_unset, flat_only, filter_flat, any_flat, any_none, section_if, held_by_sections, named_by_sections, unset_by_sections}
 use Rattle.pp_listing.specs.ListedLine.{says}

@@ -6,8 +6,8 @@ use Rattle.std.proofs.lemmas.Bool.{and_left, and_parts, both_ways, false_from_ne
 use Rattle.std.proofs.lemmas.List.{map-append}
 use Rattle.std.proofs.lemmas.List.Elements.{All-cons, All-nil}
 use Rattle.std.proofs.lemmas.List.Folds.{list_any_at, list_any_none}
-use Rattle.pp_word.specs.Tables.{tabulate}
-use Rattle.pp_word.proofs.TableLemmas.{length-tabulate, get_or-tabulate, tabulate_const, tabulate_is}
+use Rattle.pp_numbers.specs.Tables.{tabulate}
+use Rattle.pp_numbers.proofs.TableLemmas.{length-tabulate, get_or-tabulate, tabulate_const, tabulate_is}
 use Rattle.pp_numbers.specs.ChannelNo.{all_channels, channel_count, channel_index, channel_number, names_channel, channel_places}
 use Rattle.pp_machine.specs.MachineState.{MachineState, new_machine, processor_of, is_opened}
 use Rattle.pp_machine.specs.DeadStart.{waiting_on}
@@ -16,7 +16,7 @@ use Rattle.pp_machine.specs.PpMemory.{empty_memory}
 use Rattle.pp_machine.specs.Processor.{Processor, IsProcessor, new_processor, no_processor, word_at}
 use Rattle.pp_numbers.specs.PpNo.{processor_places, all_processors, names_processor, processor_count, processor_index, processor_number, each_processor, is_named}
 use Rattle.pp_word.specs.Address.{place_count}
-use Rattle.pp_word.proofs.GrowingLists.{last_of}
+use Rattle.pp_numbers.proofs.GrowingLists.{last_of}
 use Rattle.std.proofs.lemmas.Grind.{get_or_default_zero}
 use Rattle.pp_numbers.specs.Profile.{has_processor}
 use Rattle.pp_numbers.specs.declared.profile.Profile.{Profile}

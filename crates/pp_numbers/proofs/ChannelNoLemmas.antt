@@ -2,9 +2,9 @@
 use Rattle.std.proofs.Common.{◌≡◌, ℕ, ◌<◌, List, [], arith}
 use Rattle.std.specs.Prelude.{IsTrue}
 use Rattle.std.specs.List.{flat_map, range_with_len}
-use Rattle.pp_word.specs.GappedNumbers.{is_number, number_of}
-use Rattle.pp_word.proofs.GappedNumberLemmas.{over_numbers}
-use Rattle.pp_word.specs.Tables.{tabulate}
+use Rattle.pp_numbers.specs.GappedNumbers.{is_number, number_of}
+use Rattle.pp_numbers.proofs.GappedNumberLemmas.{over_numbers}
+use Rattle.pp_numbers.specs.Tables.{tabulate}
 use Rattle.pp_numbers.specs.ChannelNo.{all_channels, names_channel, channel_number}
 
 -- a channel's number has two octal digits

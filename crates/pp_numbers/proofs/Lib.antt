@@ -2,3 +2,11 @@
 pub mod ChannelNoLemmas
 pub mod PpNoLemmas
 pub mod ProfileLemmas
+pub mod GappedNumberLemmas
+-- and facts about lists that the standard library lacks
+pub mod LastElements
+pub mod TableLemmas
+pub mod GrowingLists
+pub mod Pieces
+pub mod Subsequences
+pub mod WrittenNumbers

@@ -5,9 +5,9 @@ use native.Mathlib.Decide.{dec_lt}
 use Rattle.std.specs.Prelude.{IsTrue}
 use Rattle.std.specs.List.{flat_map, range_with_len}
 use Rattle.std.proofs.lemmas.Bool.{cases_eq, eq-eqb, ne_eqb}
-use Rattle.pp_word.specs.GappedNumbers.{is_number, number_of}
-use Rattle.pp_word.proofs.GappedNumberLemmas.{over_numbers}
-use Rattle.pp_word.specs.Tables.{tabulate}
+use Rattle.pp_numbers.specs.GappedNumbers.{is_number, number_of}
+use Rattle.pp_numbers.proofs.GappedNumberLemmas.{over_numbers}
+use Rattle.pp_numbers.specs.Tables.{tabulate}
 use Rattle.pp_numbers.specs.ChannelNo.{names_channel, channel_places}
 use Rattle.pp_numbers.proofs.ChannelNoLemmas.{named_high}
 use Rattle.pp_numbers.specs.PpNo.{all_processors, processor_count, processor_places, names_processor, processor_index, processor_number}

@@ -3,9 +3,8 @@
 -- (Manual 60100000, data channels: twelve, numbered 0 to 13 (octal). A machine of twenty peripheral
 -- processors has twelve more, numbered 20 to 33.)
 use Rattle.std.specs.Prelude.{ℕ, Bool, List}
-use Rattle.pp_word.specs.GappedNumbers.{ArePlaces, is_number, index_of, number_of}
-use Rattle.pp_word.specs.Tables.{tabulate}
-use Rattle.pp_word.proofs.GappedNumberLemmas.{places}
+use Rattle.pp_numbers.specs.GappedNumbers.{ArePlaces, is_number, index_of, number_of, places}
+use Rattle.pp_numbers.specs.Tables.{tabulate}
 
 -- the number of channels
 abbrev pub channel_count : ℕ

@@ -3,9 +3,8 @@
 -- 60100000, peripheral processors: ten, numbered 0 to 11 (octal), which take turns in a barrel. A
 -- machine of twenty has ten more, numbered 20 to 31, which follow them in the barrel.)
 use Rattle.std.specs.Prelude.{ℕ, ◌&&◌, Bool, false, List, slice_index_or}
-use Rattle.pp_word.specs.GappedNumbers.{ArePlaces, is_number, index_of, number_of}
-use Rattle.pp_word.specs.Tables.{tabulate}
-use Rattle.pp_word.proofs.GappedNumberLemmas.{places}
+use Rattle.pp_numbers.specs.GappedNumbers.{ArePlaces, is_number, index_of, number_of, places}
+use Rattle.pp_numbers.specs.Tables.{tabulate}
 
 -- the number of processors
 abbrev pub processor_count : ℕ

@@ -36,8 +36,8 @@ impl ChannelNo {
     /// The channel of this number, or nothing from 14 to 17 (octal) and from 34 on.
     #[tactic(auto, unfolding(crate::specs::ChannelNo::names_channel, // which numbers there are
     crate::specs::ChannelNo::channel_number, // in order
-    pp_word::specs::GappedNumbers::is_number, // with a gap
-    pp_word::specs::GappedNumbers::number_of))]
+    crate::specs::GappedNumbers::is_number, // with a gap
+    crate::specs::GappedNumbers::number_of))]
     pub fn new(number: u8) -> Option<Self>
         ensures exists { IsSome result ↔ IsTrue (names_channel number) }
         ensures value { IfSome result (λ c. c ≡ number) }
@@ -53,8 +53,8 @@ impl ChannelNo {
     /// Its number.
     #[tactic(auto, unfolding(crate::specs::ChannelNo::names_channel, // which numbers there are
     crate::specs::ChannelNo::channel_number, // in order
-    pp_word::specs::GappedNumbers::is_number, // with a gap
-    pp_word::specs::GappedNumbers::number_of))]
+    crate::specs::GappedNumbers::is_number, // with a gap
+    crate::specs::GappedNumbers::number_of))]
     pub fn get(self) -> u8
         ensures value { result ≡ self }
         ensures names { IsTrue (names_channel result) }

@@ -36,8 +36,8 @@ impl PpNo {
     /// The processor of this number, or nothing from 12 to 17 (octal) and from 32 on.
     #[tactic(auto, unfolding(crate::specs::PpNo::names_processor, // which numbers there are
     crate::specs::PpNo::processor_number, // in order
-    pp_word::specs::GappedNumbers::is_number, // with a gap
-    pp_word::specs::GappedNumbers::number_of))]
+    crate::specs::GappedNumbers::is_number, // with a gap
+    crate::specs::GappedNumbers::number_of))]
     pub fn new(number: u8) -> Option<Self>
         ensures exists { IsSome result ↔ IsTrue (names_processor number) }
         ensures value { IfSome result (λ n. n ≡ number) }
@@ -53,8 +53,8 @@ impl PpNo {
     /// Its number.
     #[tactic(auto, unfolding(crate::specs::PpNo::names_processor, // which numbers there are
     crate::specs::PpNo::processor_number, // in order
-    pp_word::specs::GappedNumbers::is_number, // with a gap
-    pp_word::specs::GappedNumbers::number_of))]
+    crate::specs::GappedNumbers::is_number, // with a gap
+    crate::specs::GappedNumbers::number_of))]
     pub fn get(self) -> u8
         ensures value { result ≡ self }
         ensures names { IsTrue (names_processor result) }

@@ -4,7 +4,7 @@ use Rattle.std.specs.Prelude.{not, count_by, nat_lt, if◌then◌else◌}
 use Rattle.std.proofs.lemmas.Bool.{and_from, cases_eq, cases_lt, lt-ltb, not-false}
 use Rattle.std.proofs.lemmas.List.{get_or_past, take_all}
 use Rattle.std.proofs.lemmas.List.Sums.{sum_by-cons}
-use Rattle.pp_word.proofs.TableLemmas.{get_or-tabulate}
+use Rattle.pp_numbers.proofs.TableLemmas.{get_or-tabulate}
 use Rattle.pp_channel.specs.Answer.{flags_of}
 use Rattle.pp_numbers.specs.ChannelNo.{channel_count}
 use Rattle.pp_channel.specs.declared.{chan_op.ChanOp.ChanOp, event.Event.Event}

@@ -2,7 +2,7 @@
 
 ghost use Rattle.std.specs.Prelude.{◌≡◌, ℕ, Bool, List, count_by};
 ghost use Rattle.std.specs.Option.{option_to_list};
-ghost use Rattle.pp_word.specs.Tables.{tabulate};
+ghost use Rattle.pp_numbers.specs.Tables.{tabulate};
 ghost use Rattle.pp_numbers.specs.PpNo.{processor_count, processor_number};
 ghost use Rattle.pp_races.specs.Findings.{is_shared, sharing_of};
 ghost use Rattle.pp_races.specs.Tables.{IsUseOf, has_bit};

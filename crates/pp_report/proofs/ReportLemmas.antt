@@ -8,7 +8,7 @@ use Rattle.std.proofs.lemmas.List.{append-nil, ext_get_or, get_or_past, length-t
 use Rattle.std.proofs.lemmas.List.Elements.{All-cons, All-head, All-nil, All-tail, filter_map-append}
 use Rattle.std.proofs.lemmas.Option.{slice_get_within}
 use Rattle.std.proofs.lemmas.List.Sums.{sum_by-append, sum_by-cons}
-use Rattle.pp_word.specs.Subsequence.{IsSubsequence}
+use Rattle.pp_numbers.specs.Subsequence.{IsSubsequence}
 use Rattle.pp_channel.specs.Answer.{event_answered}
 use Rattle.pp_numbers.specs.ChannelNo.{channel_count, channel_index, channel_number, names_channel, channel_places}
 use Rattle.pp_channel.specs.History.{IsLawful, history_on}

@@ -56,7 +56,7 @@ impl StepCounts {
 /// Runs `turns` turns of the barrel (decimal), as `Machine::run_barrel` does, and says of each
 /// processor, in the order of the barrel, how many of its steps moved it, were held, and found it
 /// at rest, and how many of the last were held.
-#[tactic(auto, unfolding(pp_word::specs::Tables::tabulate))]
+#[tactic(auto, unfolding(pp_numbers::specs::Tables::tabulate))]
 pub fn run_counting_steps<A: Allocator>(
     machine: &mut Machine<A>,
     turns: u32,

@@ -5,8 +5,8 @@ use Rattle.std.specs.Option.{option_map, option_or, option_to_list}
 use Rattle.std.proofs.lemmas.Bool.{cases_eq, eq-eqb, ne_eqb}
 use Rattle.std.proofs.lemmas.List.{append-nil, length-take-le, map-append, take_all}
 use Rattle.std.proofs.lemmas.List.Elements.{All-pop, filter_map-append}
-use Rattle.pp_word.specs.Subsequence.{IsSubsequence}
-use Rattle.pp_word.proofs.Subsequences.{stands_append, stands_later, stands_more, stands_whole}
+use Rattle.pp_numbers.specs.Subsequence.{IsSubsequence}
+use Rattle.pp_numbers.proofs.Subsequences.{stands_append, stands_later, stands_more, stands_whole}
 use Rattle.pp_line.proofs.ChannelWordLemmas.{number_of_word, flags_of_word}
 use Rattle.pp_channel.proofs.FrontLemmas.{twelve_bits_take}
 use Rattle.pp_channel.proofs.EachHistory.{bits_on}

@@ -3,8 +3,8 @@ use Rattle.std.proofs.Common.{◌≡◌, ℕ, ◌+◌, ◌-◌, ◌*◌, ◌<◌
 use Rattle.std.specs.Prelude.{Some, All, slice_index_or}
 use Rattle.std.proofs.lemmas.List.{take_more, length-append}
 use Rattle.std.proofs.lemmas.List.Elements.{All-pop, All-push, All-weaker}
-use Rattle.pp_word.specs.Subsequence.{IsSubsequence}
-use Rattle.pp_word.proofs.Subsequences.{stands_more}
+use Rattle.pp_numbers.specs.Subsequence.{IsSubsequence}
+use Rattle.pp_numbers.proofs.Subsequences.{stands_more}
 use Rattle.pp_line.specs.LineState.{LineState, IsSplitFrom}
 use Rattle.pp_line.specs.Order.{entries_among}
 use Rattle.pp_line.specs.LineView.{parent_view}

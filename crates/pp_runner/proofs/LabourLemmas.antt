@@ -6,7 +6,7 @@ use Rattle.std.specs.Option.{option_map, option_or, option_to_list}
 use Rattle.std.proofs.lemmas.Bool.{both_ways, eq-eqb}
 use Rattle.std.proofs.lemmas.List.{append-nil, length-append, same_from_push}
 use Rattle.pp_channel.proofs.AnswerLemmas.{shown_makes_none}
-use Rattle.pp_word.proofs.LastElements.{last_or-push}
+use Rattle.pp_numbers.proofs.LastElements.{last_or-push}
 use Rattle.pp_line.specs.LineLog.{LogState, empty_log, appended, looked, with_seen, is_look_at, IsMonotone}
 use Rattle.pp_channel.specs.Answer.{event_answered, flags_shown, seen_answered}
 use Rattle.pp_runner.specs.Types.{Answer, ChanOp, Did, Entry, Event, Flags, LineView, Moved, Need, Reply, Saw, Seen}
@@ -17,8 +17,8 @@ use Rattle.pp_machine.specs.Replay.{OfChannel, fits, replayed, given_count, coll
 use Rattle.pp_runner.proofs.LogLemmas.{looked_at, BeginsWith, begins_with, events_done, events_in-push, sights_in-push, stands_done}
 use Rattle.pp_runner.proofs.ReplyLemmas.{sight_of, reply_to_channel}
 use Rattle.pp_runner.specs.WorkerReport.{OfEachAnswer, IsBySize, event_in, events_in, sights_in}
-use Rattle.pp_word.specs.Subsequence.{IsSubsequence}
-use Rattle.pp_word.proofs.Subsequences.{stands_more, stands_push}
+use Rattle.pp_numbers.specs.Subsequence.{IsSubsequence}
+use Rattle.pp_numbers.proofs.Subsequences.{stands_more, stands_push}
 use Rattle.pp_line.specs.LineState.{LineState}
 use Rattle.pp_line.specs.Order.{entries_among, writes_among}
 use Rattle.pp_runner.proofs.AccessLemmas.{entries_by, made_more, made_still, no_writes, numbered}

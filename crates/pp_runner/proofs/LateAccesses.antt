@@ -4,8 +4,8 @@ use Rattle.std.specs.List.{All, filter, range_with_len}
 use Rattle.std.proofs.lemmas.Bool.{le-ltb}
 use Rattle.std.proofs.lemmas.List.{append-nil}
 use Rattle.std.proofs.lemmas.List.Elements.{All-cons, All-head, All-nil, All-tail}
-use Rattle.pp_word.specs.Subsequence.{IsSubsequence}
-use Rattle.pp_word.proofs.Subsequences.{stands_passed, stands_through}
+use Rattle.pp_numbers.specs.Subsequence.{IsSubsequence}
+use Rattle.pp_numbers.proofs.Subsequences.{stands_passed, stands_through}
 use Rattle.pp_line.proofs.OrderLemmas.{entries_stand, is_later, stands_later_in}
 use Rattle.pp_channel.specs.History.{history_on}
 use Rattle.pp_channel.specs.Law.{IsPrefix}

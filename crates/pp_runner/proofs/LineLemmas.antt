@@ -9,7 +9,7 @@ use Rattle.std.proofs.lemmas.List.Elements.{All-append, All-cons, All-head, All-
 use Rattle.std.proofs.Math.Nat.{suc-mul, mul-one, zero-mul}
 use Rattle.pp_line.proofs.LineAnswers.{number_later}
 use Rattle.pp_line.proofs.LineKnowledge.{all_looked}
-use Rattle.pp_word.proofs.WrittenNumbers.{set_raises}
+use Rattle.pp_numbers.proofs.WrittenNumbers.{set_raises}
 use Rattle.pp_numbers.specs.ChannelNo.{channel_index}
 use Rattle.pp_line.specs.ChannelWord.{number_in}
 use Rattle.pp_line.specs.LineLog.{LogState, with_seen, seen_on}

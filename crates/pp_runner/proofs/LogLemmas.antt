@@ -6,14 +6,14 @@ use Rattle.std.proofs.lemmas.List.{map-append, append-nil, length-append}
 use Rattle.std.proofs.lemmas.List.Elements.{filter_map-append}
 use Rattle.std.proofs.lemmas.Bool.{and_parts}
 use Rattle.std.proofs.Math.Seq.{set-append_seam}
-use Rattle.pp_word.proofs.LastElements.{last_or-push}
+use Rattle.pp_numbers.proofs.LastElements.{last_or-push}
 use Rattle.pp_line.specs.LineLog.{LogState, appended, looked, is_event, is_look_at}
 use Rattle.pp_runner.specs.Types.{Did, Entry, Saw, Seen}
 use Rattle.pp_machine.specs.Replay.{OfChannel}
 use Rattle.pp_runner.specs.Labour.{HasEntries}
 use Rattle.pp_runner.specs.WorkerReport.{event_in, events_in, sights_in}
-use Rattle.pp_word.specs.Subsequence.{IsSubsequence}
-use Rattle.pp_word.proofs.Subsequences.{stands_more}
+use Rattle.pp_numbers.specs.Subsequence.{IsSubsequence}
+use Rattle.pp_numbers.proofs.Subsequences.{stands_more}
 
 set_last : {X : Type 0} (front : List X) (x y : X) → slice_set (front ++ x ∷ []) (length (front ++ x ∷ []) - 1) y ≡ front ++ y ∷ []
 set_last front x y =

@@ -1,6 +1,6 @@
 -- What workers accessed, channels and words of central memory alike, in one order.
 use Rattle.std.specs.Prelude.{◌≡◌, ℕ, true, List, [], ◌∷◌, ◌++◌, Some, map, option_to_list}
-use Rattle.pp_word.specs.Subsequence.{IsSubsequence}
+use Rattle.pp_numbers.specs.Subsequence.{IsSubsequence}
 use Rattle.pp_channel.specs.Answer.{seen_answered}
 use Rattle.pp_line.specs.Order.{entries_among}
 use Rattle.pp_runner.specs.Types.{Access, Answer, Need, Worker}

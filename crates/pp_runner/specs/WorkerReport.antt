@@ -1,7 +1,7 @@
 -- What a worker leaves: its answers, its log, and the whole.
 use Rattle.std.specs.Prelude.{◌≡◌, ◌≤◌, ◌+◌, ◌*◌, ℕ, List, length, ◌↔◌, ◌<◌, IsNone, IsTrue, Some, slice_get, take, map, Option, None, filter_map}
 use Rattle.std.specs.List.{AllZip, flat_map}
-use Rattle.pp_word.specs.Subsequence.{IsSubsequence}
+use Rattle.pp_numbers.specs.Subsequence.{IsSubsequence}
 use Rattle.pp_line.specs.LineLog.{IsMonotone}
 use Rattle.pp_runner.specs.Types.{Answer, Entry, Event, Moved, Need, Seen, Worker}
 use Rattle.pp_machine.specs.Processor.{Processor}

@@ -11,7 +11,7 @@ use Rattle.pp_channel.specs.History.{Course, events_of, idle_stretch}
 use Rattle.pp_channel.specs.Session.{Session, body, puts, takes, word_put}
 use Rattle.pp_channel.specs.declared.event.Event.{Event}
 use Rattle.pp_channel.specs.declared.event.Event.TheVariants.{Activate, Disconnect, Put, Take, Function}
-use Rattle.pp_word.proofs.LastElements.{after_last-found, after_last-push}
+use Rattle.pp_numbers.proofs.LastElements.{after_last-found, after_last-push}
 use Rattle.pp_sessions.specs.OpenStretch.{IsUncut}
 use Rattle.pp_sessions.specs.SessionsLaw.{TellsIdle, TellsSession, idle_part, session_events, stretches_of, whole_parts}
 use Rattle.pp_sessions.specs.SessionsText.{lines_from, next_number, stretch_text}

@@ -8,7 +8,7 @@ use Rattle.std.proofs.lemmas.List.Sums.{fold_push}
 use Rattle.pp_channel.specs.Session.{puts, takes, word_put, word_taken}
 use Rattle.pp_channel.specs.declared.event.Event.{Event}
 use Rattle.pp_channel.specs.declared.event.Event.TheVariants.{Put, Take}
-use Rattle.pp_word.proofs.LastElements.{after_last-found, after_last-push, last_or-push}
+use Rattle.pp_numbers.proofs.LastElements.{after_last-found, after_last-push, last_or-push}
 use Rattle.pp_sessions.specs.OpenStretch.{untaken_after}
 use Rattle.pp_sessions.specs.SessionsLaw.{TellsMoments}
 use Rattle.pp_sessions.specs.Stretches.{begins_session, ends_session, is_take, tally_of, untaken}

@@ -8,7 +8,7 @@ use Rattle.std.proofs.lemmas.List.Concat.{flat_map-append}
 use mathlib.Core.Logic.{dite}
 use native.Mathlib.Decide.{dec_lt}
 use Rattle.pp_word.specs.Address.{place_count}
-use Rattle.pp_word.proofs.GrowingLists.{range_append}
+use Rattle.pp_numbers.proofs.GrowingLists.{range_append}
 use Rattle.pp_machine.specs.MachineState.{MachineState}
 use Rattle.pp_machine.specs.MachineStep.{central_after}
 use Rattle.pp_machine.specs.declared.need.Need.{Need}

@@ -3,8 +3,8 @@ use Rattle.std.proofs.Common.{◌≡◌, ℕ, suc, ◌+◌, ◌-◌, ◌/◌, �
 use Rattle.pp_word.specs.Opcode.{opcode_at, row_of}
 use Rattle.pp_word.specs.declared.opcode.Opcode.{Opcode}
 use Rattle.pp_word.specs.declared.opcode.Opcode.TheVariants.{PSN}
-use Rattle.pp_word.specs.Tables.{tabulate}
-use Rattle.pp_word.proofs.TableLemmas.{tabulate_is}
+use Rattle.pp_numbers.specs.Tables.{tabulate}
+use Rattle.pp_numbers.proofs.TableLemmas.{tabulate_is}
 use Rattle.pp_text.specs.InstructionText.{instruction_text, operands_of, operands_text}
 use Rattle.pp_text.specs.PrintedText.{padded}
 

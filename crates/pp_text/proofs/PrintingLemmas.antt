@@ -4,9 +4,9 @@ use Rattle.std.specs.Prelude.{IsTrue, if◌then◌else◌}
 use Rattle.std.specs.List.{flat_map, range_with_len}
 use Rattle.std.proofs.lemmas.List.{append-nil}
 use Rattle.std.proofs.lemmas.List.Concat.{flat_map-append}
-use Rattle.pp_word.proofs.GrowingLists.{range_more, tabulate_more}
-use Rattle.pp_word.specs.Tables.{tabulate}
-use Rattle.pp_word.specs.GappedNumbers.{is_number, number_of}
+use Rattle.pp_numbers.proofs.GrowingLists.{range_more, tabulate_more}
+use Rattle.pp_numbers.specs.Tables.{tabulate}
+use Rattle.pp_numbers.specs.GappedNumbers.{is_number, number_of}
 use Rattle.pp_numbers.specs.ChannelNo.{all_channels, channel_number, names_channel}
 use Rattle.pp_numbers.proofs.ChannelNoLemmas.{numbers_of_channels}
 use Rattle.pp_channel.specs.declared.event.Event.{Event}

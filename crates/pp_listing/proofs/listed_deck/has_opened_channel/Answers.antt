@@ -2,8 +2,8 @@ use Rattle.std.proofs.Common.{◌≡◌, ◌∙◌, Bool, true, false, ℕ, [], 
 use Rattle.std.specs.Prelude.{◌||◌}
 use Rattle.std.specs.List.{list_any}
 use Rattle.std.proofs.lemmas.List.Folds.{list_any-append}
-use Rattle.pp_word.specs.Tables.{tabulate}
-use Rattle.pp_word.proofs.GrowingLists.{tabulate_more}
+use Rattle.pp_numbers.specs.Tables.{tabulate}
+use Rattle.pp_numbers.proofs.GrowingLists.{tabulate_more}
 use Rattle.pp_numbers.specs.ChannelNo.{all_channels, channel_count, channel_number}
 use Rattle.pp_machine.specs.MachineState.{is_opened}
 use Rattle.pp_listing.proofs.listed_deck.has_opened_channel.Goals as goal

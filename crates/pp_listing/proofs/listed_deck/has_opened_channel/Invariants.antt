@@ -1,6 +1,6 @@
 use Rattle.std.proofs.Common.{◌≡◌}
 use Rattle.std.specs.List.{list_any}
-use Rattle.pp_word.specs.Tables.{tabulate}
+use Rattle.pp_numbers.specs.Tables.{tabulate}
 use Rattle.pp_numbers.specs.ChannelNo.{channel_number}
 use Rattle.pp_machine.specs.MachineState.{is_opened}
 use Rattle.pp_listing.proofs.listed_deck.has_opened_channel.Given as goal

@@ -1,5 +1,5 @@
 use Rattle.std.proofs.Common.{false, arith}
-use Rattle.pp_word.proofs.TableLemmas.{tabulate_is}
+use Rattle.pp_numbers.proofs.TableLemmas.{tabulate_is}
 use Rattle.pp_numbers.specs.PpNo.{processor_count, processor_number}
 use Rattle.pp_races.specs.Tables.{has_bit}
 use Rattle.pp_races.proofs.sharing.flags_of.Goals as goal

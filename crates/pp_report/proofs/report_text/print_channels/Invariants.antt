@@ -1,6 +1,6 @@
 use Rattle.std.proofs.Common.{ℕ, ◌<◌}
 use Rattle.std.specs.List.{flat_map}
-use Rattle.pp_word.specs.Tables.{tabulate}
+use Rattle.pp_numbers.specs.Tables.{tabulate}
 use Rattle.pp_numbers.specs.ChannelNo.{channel_number}
 use Rattle.pp_channel.specs.History.{history_on}
 use Rattle.pp_text.specs.TextWriter.{Prints}

@@ -1,7 +1,7 @@
 use Rattle.std.proofs.Common.{◌≡◌, ℕ, ◌<◌, All, arith, subst, below_more}
 use Rattle.std.specs.Prelude.{IsTrue}
 use Rattle.std.specs.List.{flat_map}
-use Rattle.pp_word.specs.Tables.{tabulate}
+use Rattle.pp_numbers.specs.Tables.{tabulate}
 use Rattle.pp_numbers.specs.ChannelNo.{all_channels, channel_count, channel_index, channel_number, names_channel, channel_places}
 use Rattle.pp_channel.specs.History.{history_on}
 use Rattle.pp_text.specs.TextWriter.{Prints}

@@ -1,7 +1,7 @@
 use Rattle.std.proofs.Common.{ℕ, ◌<◌}
 use Rattle.std.specs.Prelude.{IfSome, IsTrue, option_map, slice_get}
 use Rattle.std.specs.List.{flat_map}
-use Rattle.pp_word.specs.Tables.{tabulate}
+use Rattle.pp_numbers.specs.Tables.{tabulate}
 use Rattle.pp_numbers.specs.PpNo.{processor_index, processor_number, is_named}
 use Rattle.pp_text.specs.TextWriter.{Prints}
 use Rattle.pp_report.specs.PrintedReport.{named_worker_line}

@@ -1,5 +1,5 @@
 use Rattle.std.proofs.Common.{◌≡◌, arith}
-use Rattle.pp_word.specs.Tables.{tabulate}
+use Rattle.pp_numbers.specs.Tables.{tabulate}
 use Rattle.pp_numbers.specs.ChannelNo.{all_channels, channel_count, channel_number}
 use Rattle.pp_text.proofs.PrintingLemmas.{prints_nothing, prints_on, walk_more}
 use Rattle.pp_sessions.specs.SessionsText.{channel_lines}

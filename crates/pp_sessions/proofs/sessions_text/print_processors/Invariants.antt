@@ -1,5 +1,5 @@
 use Rattle.std.specs.List.{flat_map}
-use Rattle.pp_word.specs.Tables.{tabulate}
+use Rattle.pp_numbers.specs.Tables.{tabulate}
 use Rattle.pp_numbers.specs.PpNo.{processor_number}
 use Rattle.pp_text.specs.TextWriter.{Prints}
 use Rattle.pp_sessions.specs.SessionsText.{shown_counts_line}

@@ -1,5 +1,5 @@
 use Rattle.std.proofs.Common.{List, get_or, ap, ◌∙◌, rules}
-use Rattle.pp_word.proofs.TableLemmas.{get_or-tabulate, tabulate_is}
+use Rattle.pp_numbers.proofs.TableLemmas.{get_or-tabulate, tabulate_is}
 use Rattle.pp_numbers.specs.PpNo.{processor_count}
 use Rattle.pp_run.specs.StepCounts.{no_steps}
 use Rattle.pp_run.specs.declared.step_counts.StepCounts.{StepCounts}

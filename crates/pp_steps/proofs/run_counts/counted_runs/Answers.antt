@@ -1,6 +1,6 @@
 use Rattle.std.proofs.Common.{◌≡◌, ◌+◌, ◌∷◌, ◌++◌, ℕ, [], length, sym, subst, ap, ◌∙◌, cond, arith}
 use Rattle.std.specs.Prelude.{Bool}
-use Rattle.pp_word.proofs.TableLemmas.{length-tabulate}
+use Rattle.pp_numbers.proofs.TableLemmas.{length-tabulate}
 use Rattle.pp_machine.specs.MachineState.{MachineState}
 use Rattle.pp_machine.specs.MachineStep.{stepped}
 use Rattle.pp_numbers.specs.PpNo.{processor_count}

@@ -12,7 +12,7 @@ use Rattle.pp_run.specs.BareMachine.{StandsFor, progress}
 use Rattle.pp_steps.specs.Choice.{chosen_steps, is_chosen}
 use Rattle.pp_steps.specs.Cursor.{each_cursor, no_cursor, past_step}
 use Rattle.pp_steps.specs.declared.cursor.Cursor.{Cursor}
-use Rattle.pp_word.proofs.TableLemmas.{length-tabulate}
+use Rattle.pp_numbers.proofs.TableLemmas.{length-tabulate}
 use Rattle.pp_steps.specs.StepsText.{kind_text, steps_text}
 use Rattle.pp_steps.proofs.ChosenSteps.{chosen_from, chosen_more, chosen_parts, few_chosen, next_chosen, none_left, step_in}
 use Rattle.pp_steps.proofs.TextOfSteps.{IsSoFar, everything, nothing_so_far, turn_told}

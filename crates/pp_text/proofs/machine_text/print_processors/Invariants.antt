@@ -1,7 +1,7 @@
 use Rattle.std.proofs.Common.{ℕ, ◌<◌}
 use Rattle.std.specs.Prelude.{IsTrue}
 use Rattle.std.specs.List.{flat_map}
-use Rattle.pp_word.specs.Tables.{tabulate}
+use Rattle.pp_numbers.specs.Tables.{tabulate}
 use Rattle.pp_machine.specs.MachineState.{processor_of}
 use Rattle.pp_numbers.specs.PpNo.{is_named, processor_number}
 use Rattle.pp_text.specs.TextLaw.{ProcessorFits}

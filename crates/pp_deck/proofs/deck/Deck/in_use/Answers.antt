@@ -1,5 +1,5 @@
 use Rattle.std.proofs.Common.{ℕ, false, arith}
-use Rattle.pp_word.proofs.TableLemmas.{tabulate_is}
+use Rattle.pp_numbers.proofs.TableLemmas.{tabulate_is}
 use Rattle.pp_numbers.specs.PpNo.{processor_count, processor_number}
 use Rattle.pp_deck.specs.DeckMeaning.{LoadedDeck}
 use Rattle.pp_deck.specs.InUse.{is_in_use}

@@ -1,6 +1,7 @@
 -- A numbering with a gap: `half` numbers from 0 on, then `gap` that name nothing, then `half` more;
 -- and the place of each in a list of all. So channels and processors are numbered: the second half
 -- begins at 20 (octal).
+use Rattle.std.proofs.Common.{arith}
 use Rattle.std.specs.Prelude.{◌≡◌, ℕ, ◌+◌, ◌-◌, ◌<◌, ◌≤◌, ◌&&◌, ◌||◌, Bool, IsTrue, nat_lt, nat_le, if◌then◌else◌}
 
 -- whether a number names one
@@ -36,3 +37,21 @@ pub record ArePlaces (half : ℕ) (count : ℕ) (names : ℕ → Bool) (index nu
   pub named_low : (n : ℕ) → n < half → IsTrue (names n)
   pub low_number : (n : ℕ) → index n < half → n < half
   pub low_place : (n : ℕ) → n < half → index n < half
+
+-- these numbers and their places are such (models cite it)
+pub places : (half gap : ℕ)
+    → ArePlaces half (half + half) (is_number half gap) (index_of half gap) (number_of half gap)
+unfolding is_number index_of number_of
+places half gap = record {
+  place_again = λ place names. grind (arith, names);
+  place_below = λ n names. grind (arith, names);
+  named_below = λ n below. grind (arith, below);
+  place_past = λ n none. grind (arith, none);
+  one_place = λ m n names same. grind (arith, names, same);
+  place_of_number = λ place below. grind (arith, below);
+  number_named = λ place below. grind (arith, below);
+  number_of_place = λ n names. grind (arith, names);
+  named_low = λ n low. grind (arith, low);
+  low_number = λ n below. grind (arith, below);
+  low_place = λ n low. grind (arith, low);
+}

@@ -1,27 +1,10 @@
--- Numbers with a gap and their places.
+-- Numbers with a gap.
 use Rattle.std.proofs.Common.{◌≡◌, ℕ, ◌+◌, ◌<◌, ◌≤◌, List, [], ◌++◌, ◌∙◌, arith}
 use Rattle.std.specs.Prelude.{IsTrue}
 use Rattle.std.proofs.lemmas.Grind.{flat_map-append}
 use Rattle.std.specs.List.{flat_map, range_with_len}
-use Rattle.pp_word.proofs.GrowingLists.{flat_map_parts}
-use Rattle.pp_word.specs.GappedNumbers.{ArePlaces, is_number, index_of, number_of}
-
-pub places : (half gap : ℕ)
-    → ArePlaces half (half + half) (is_number half gap) (index_of half gap) (number_of half gap)
-unfolding is_number index_of number_of
-places half gap = record {
-  place_again = λ place names. grind (arith, names);
-  place_below = λ n names. grind (arith, names);
-  named_below = λ n below. grind (arith, below);
-  place_past = λ n none. grind (arith, none);
-  one_place = λ m n names same. grind (arith, names, same);
-  place_of_number = λ place below. grind (arith, below);
-  number_named = λ place below. grind (arith, below);
-  number_of_place = λ n names. grind (arith, names);
-  named_low = λ n low. grind (arith, low);
-  low_number = λ n below. grind (arith, below);
-  low_place = λ n low. grind (arith, low);
-}
+use Rattle.pp_numbers.proofs.GrowingLists.{flat_map_parts}
+use Rattle.pp_numbers.specs.GappedNumbers.{is_number}
 
 -- a walk over all is one over all numbers below a bound
 in_gap : (half gap n : ℕ) → half ≤ n → n < half + gap → IsTrue (is_number half gap n) → ⊥

@@ -5,8 +5,8 @@ use Rattle.std.specs.List.{range_with_len, cons_option, flat_map, last_or}
 use Rattle.std.proofs.lemmas.Grind.{flat_map-append}
 use Rattle.std.proofs.lemmas.List.{append-nil, map-append}
 use Rattle.std.proofs.lemmas.List.Elements.{filter_map-append}
-use Rattle.pp_word.proofs.LastElements.{last_or-push}
-use Rattle.pp_word.specs.Tables.{tabulate}
+use Rattle.pp_numbers.proofs.LastElements.{last_or-push}
+use Rattle.pp_numbers.specs.Tables.{tabulate}
 
 pub range_more : (a n : ℕ) → range_with_len a (n + 1) ≡ range_with_len a n ++ (a + n) ∷ []
 range_more a n = ap (range_with_len a) (one n) ∙ from a n
