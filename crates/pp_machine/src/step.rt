@@ -52,8 +52,9 @@ impl<A: Allocator> Machine<A> {
         }
     }
 
-    /// One step of a processor in the barrel, as `step` makes it. What a step needs is asked of its
-    /// instruction alone here, and the barrel has the only call, so that it is compiled in place.
+    /// One step of a processor in the barrel, as `step` makes it, but that what needs nothing from
+    /// outside, and a test of flags, is tried first. The barrel has the only call, so that it is
+    /// compiled in place.
     #[tactic(auto, using(crate::proofs::MachineStepLemmas::steps_at_rest))]
     pub(crate) fn step_in_barrel(&mut self, n: PpNo) -> Result<Outcome, Memory>
         ensures step { IsStep n result self.old self.new }
@@ -120,8 +121,8 @@ impl<A: Allocator> Machine<A> {
         self.count_turn();
     }
 
-    /// The step of a processor with the answer to its need, whatever that is. It is compiled in
-    /// place where the barrel calls it.
+    /// The step of a processor that asks for its need, whatever that is. It is compiled in place
+    /// where the barrel calls it.
     #[tactic(auto, unfolding(crate::specs::MachineStep::stepped, // the machine after it
     crate::specs::MachineStep::step_event, // its event
     crate::specs::MachineStep::step_outcome))]
