@@ -171,6 +171,22 @@ impl Pp {
         }
     }
 
+    /// CRM: the start of a block of `left` central words.
+    pub(super) fn start_central_in(&mut self, left: Word12)
+        requires { self.old.state ≡ PpState.Running }
+        ensures { self.new ≡ starts self.old left (BlockKind.CentralIn left) }
+    {
+        self.start_block(u32::from(left.get()), BlockKind::CentralIn { left });
+    }
+
+    /// CWM: the start of a block of `left` central words.
+    pub(super) fn start_central_out(&mut self, left: Word12)
+        requires { self.old.state ≡ PpState.Running }
+        ensures { self.new ≡ starts self.old left (BlockKind.CentralOut left) }
+    {
+        self.start_block(u32::from(left.get()), BlockKind::CentralOut { left });
+    }
+
     /// One central word of CRM, with the answer to its need.
     #[inline(always)]
     pub(super) fn move_central_in(&mut self, left: Word12, place: Word12, answer: Answer)

@@ -47,14 +47,8 @@ impl Pp {
     {
         match op {
             Opcode::CRD | Opcode::CWD => unreachable!(),
-            Opcode::CRM => {
-                let left = self.indirect(d);
-                self.start_block(u32::from(left.get()), BlockKind::CentralIn { left });
-            }
-            Opcode::CWM => {
-                let left = self.indirect(d);
-                self.start_block(u32::from(left.get()), BlockKind::CentralOut { left });
-            }
+            Opcode::CRM => self.start_central_in(self.indirect(d)),
+            Opcode::CWM => self.start_central_out(self.indirect(d)),
             Opcode::IAM => self.start_input(d),
             Opcode::OAM => self.start_output(d),
             Opcode::AJM
@@ -79,7 +73,7 @@ impl Pp {
         ensures { self.new ≡ answered (instruction op self.old d) self.old Answer.Local }
     {
         match op {
-            Opcode::PSN | Opcode::PSN24 | Opcode::PSN25 => self.go_on(1),
+            Opcode::PSN => self.go_on(1),
             Opcode::LJM => self.go_to(self.index(d)),
             Opcode::RJM => self.call(self.index(d)),
             Opcode::UJN => self.jump_or_stop(d),
@@ -99,6 +93,8 @@ impl Pp {
             Opcode::ADC => self.add(self.constant(d), 2),
             Opcode::LPC => self.mask(self.constant(d), 2),
             Opcode::LMC => self.differ(self.constant(d), 2),
+            Opcode::PSN24 => self.go_on(1),
+            Opcode::PSN25 => self.go_on(1),
             Opcode::EXN => self.fault(EXCHANGE_JUMP),
             Opcode::RPN => self.fault(NO_CENTRAL_PROCESSOR),
             Opcode::LDD => self.load_word(Word12::from(d), 1),
