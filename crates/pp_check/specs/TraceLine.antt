@@ -104,16 +104,16 @@ parsed_state field fields =
 unfoldable pub turn_line : Field → Fields → Option TraceLine
 turn_line field fields = do
   turn ← numeral 10 19 field
-  behind ← after_processor fields
-  there ← after_channel behind
+  rest ← after_processor fields
+  there ← after_channel rest
   event ← parsed_event there.1
   Some (AtTurn turn there.0 event)
 
 -- `000001 PP00 PUT 0007` after `CH05`: event number 1 of channel 5
 unfoldable pub numbered_line : ℕ → ℕ → Fields → Option TraceLine
 numbered_line c number fields = do
-  behind ← after_processor fields
-  event ← parsed_event behind
+  rest ← after_processor fields
+  event ← parsed_event rest
   Some (Numbered number c event)
 
 -- what follows `CH05`: an event with its number, or the state of the channel

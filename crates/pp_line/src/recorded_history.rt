@@ -100,16 +100,16 @@ fn recorded_histories<T, A: Allocator + Copy>(
     others: &[(T, Vec<Entry, A>)],
     seen: &[u64; CHANNELS],
 ) -> Result<Vec<EventsByNumber<A>, A>, Memory>
-    ensures { IfOk result (λ told. (histories : List (List Event))
+    ensures { IfOk result (λ recorded. (histories : List (List Event))
         → IsRecordedBy (log.now ++ flat_map (λ other. other.1.items) others.now) seen.now histories
-        → told.items ≡ histories) }
+        → recorded.items ≡ histories) }
 {
-    let mut told = unrecorded_histories(alloc, seen)?;
-    put_log(&mut told, log);
+    let mut recorded = unrecorded_histories(alloc, seen)?;
+    put_log(&mut recorded, log);
     for other in others {
-        put_log(&mut told, other.1.as_slice());
+        put_log(&mut recorded, other.1.as_slice());
     }
-    Ok(told)
+    Ok(recorded)
 }
 
 /// Puts each event of a log at its number, in the history of its channel.

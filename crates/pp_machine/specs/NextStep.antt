@@ -1,4 +1,4 @@
--- What is known of a processor's next step before it is made. (Only private contracts cite this.)
+-- What is known of a processor's next step before it is made.
 use Rattle.std.specs.Prelude.{◌≡◌, ℕ, Bool, true, false, Option, None, Some, IsSome, nat_lt}
 use Rattle.pp_word.specs.Opcode.{code_of}
 use Rattle.pp_word.specs.declared.opcode.Opcode.{Opcode}

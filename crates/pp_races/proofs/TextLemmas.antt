@@ -8,7 +8,7 @@ use Rattle.pp_text.specs.TextWriter.{HasPrinted, Prints}
 use Rattle.pp_text.proofs.PrintingLemmas.{prints_on, prints_nothing}
 use Rattle.pp_text.specs.Written.{AppendsFront, IsReportWritten, IsWritten}
 use Rattle.pp_text.specs.declared.{report_fault.ReportFault.ReportFault, text_writer.TextWriter.TextWriter}
-use Rattle.pp_races.specs.Printing.{IsPrinted, PrintsFindings, PrintsFirst}
+use Rattle.pp_races.specs.Printing.{PrintsFindings, PrintsFirst}
 use Rattle.pp_races.specs.RacesText.{finding_line, findings_text, verdict_line, verdict_of}
 use Rattle.pp_races.specs.declared.{finding.Finding.Finding, verdict.Verdict.Verdict}
 use Rattle.pp_races.specs.declared.verdict.Verdict.TheVariants.{Same}
@@ -35,8 +35,13 @@ module _ {W : Type 0} (contents : W → Option (List ℕ)) where
   pub nothing_printed : (a b : TextWriter W) (v : Verdict) (all : List Finding) → v ≡ Same → PrintsFirst contents a b Same v all → Prints contents a b []
   nothing_printed a b v all is h = subst (λ (some : List Finding). Prints contents a b (flat_map finding_line some)) (same_none h.first (sym is ∙ h.printed.verdict [] refl)) h.printed.lines
 
+  -- of a text that a fault cuts short, a first part is printed; for lack of memory nothing
+  abbrev pub IsCutShort : (old new : TextWriter W) → List ℕ → ReportFault → Type 0
+  IsCutShort old new text ReportFault.Write = (first : List ℕ) × (others : List ℕ) × (text ≡ first ++ others) × Prints contents old new first
+  IsCutShort old new text ReportFault.Memory = Prints contents old new []
+
   -- else they are a first part of the text, and something is found
-  pub part_printed : (a b : TextWriter W) (v : Verdict) (all : List Finding) → PrintsFirst contents a b Same v all → IsPrinted contents a b (findings_text all) (Err ReportFault.Write)
+  pub part_printed : (a b : TextWriter W) (v : Verdict) (all : List Finding) → PrintsFirst contents a b Same v all → IsCutShort a b (findings_text all) ReportFault.Write
   part_printed a b v all h = (
     flat_map finding_line h.first,
     flat_map finding_line h.others ++ verdict_line (verdict_of all),
@@ -66,7 +71,7 @@ module _ {W : Type 0} (contents : W → Option (List ℕ)) where
       kept_by_none old new (subst (λ (k : ℕ). Appends old new (take k [])) zero h)
 
   -- a text of which a first part is printed, where the writer has what is printed, or a first part of it
-  pub cut_written : {E : Type 0} (a b : TextWriter W) (text : List ℕ) (f : ReportFault) (written : Result (Unit {0}) E) (old new : Option (List ℕ)) → IsPrinted contents a b text (Err f) → HasPrinted contents old [] a
+  pub cut_written : {E : Type 0} (a b : TextWriter W) (text : List ℕ) (f : ReportFault) (written : Result (Unit {0}) E) (old new : Option (List ℕ)) → IsCutShort a b text f → HasPrinted contents old [] a
       → ((start : Option (List ℕ)) (all : List ℕ) → HasPrinted contents start all b → IsWritten all written start new) → IsReportWritten text (Err f) old new
   cut_written a b text ReportFault.Write written old new (first, others, is, prints) begun ends = subst (λ (x : List ℕ). AppendsFront old new x) (sym is) (front_of first others written old new (ends old first (prints.goes_on old [] begun)))
   cut_written a b text ReportFault.Memory written old new prints begun ends = none_of written old new (ends old [] (prints.goes_on old [] begun))

@@ -1,7 +1,7 @@
 -- Findings that are printed as they come. (Private contracts alone cite this.)
-use Rattle.std.specs.Prelude.{◌≡◌, ℕ, List, [], ◌++◌, Option, Result, Ok, Err, flat_map}
+use Rattle.std.specs.Prelude.{◌≡◌, ℕ, List, ◌++◌, Option, flat_map}
 use Rattle.pp_text.specs.TextWriter.{Prints}
-use Rattle.pp_text.specs.declared.{report_fault.ReportFault.ReportFault, text_writer.TextWriter.TextWriter}
+use Rattle.pp_text.specs.declared.text_writer.TextWriter.{TextWriter}
 use Rattle.pp_races.specs.RacesText.{finding_line, verdict_of}
 use Rattle.pp_races.specs.declared.{finding.Finding.Finding, verdict.Verdict.Verdict}
 
@@ -19,11 +19,3 @@ pub record PrintsFirst {W : Type 0} (contents : W → Option (List ℕ)) (old ne
   pub others : List Finding
   pub all : findings ≡ first ++ others
   pub printed : PrintsFindings contents old new before after first
-
--- what printing a text comes to: all of it is printed, or a first part; for lack of memory nothing
-abbrev pub IsPrinted : {W : Type 0} → (W → Option (List ℕ)) → (old new : TextWriter W) → List ℕ
-    → Result (Unit {0}) ReportFault → Type 0
-IsPrinted contents old new text (Ok done) = Prints contents old new text
-IsPrinted contents old new text (Err ReportFault.Write) =
-    (first : List ℕ) × (others : List ℕ) × (text ≡ first ++ others) × Prints contents old new first
-IsPrinted contents old new text (Err ReportFault.Memory) = Prints contents old new []

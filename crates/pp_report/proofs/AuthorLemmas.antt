@@ -1,73 +1,50 @@
 -- Authors of events, log after log, and the lines that name them.
-use Rattle.std.proofs.Common.{◌≡◌, ◌∙◌, ℕ, ◌+◌, ◌<◌, ◌≤◌, Bool, true, false, cond, ◌||◌, List, [], ◌∷◌, ◌++◌, length, take, Option, Some, None, option_map, slice_index_or, refl, sym, ap, subst, arith, add-one}
+use Rattle.std.proofs.Common.{◌≡◌, ◌∙◌, ℕ, ◌+◌, ◌<◌, Bool, true, false, cond, ◌||◌, List, [], ◌∷◌, length, drop, take, Option, Some, None, option_map, slice_index_or, refl, sym, ap, subst, arith}
 use Rattle.pp_line.specs.Merge.{logs_event, times_logged}
-use Rattle.std.specs.Prelude.{IsTrue, nat_lt}
-use Rattle.std.specs.List.{count_by, position, position_from}
-use Rattle.std.proofs.Math.Seq.{take-suc}
+use Rattle.std.specs.Prelude.{IsTrue, nat_lt, if◌then◌else◌}
+use Rattle.std.specs.List.{count_by, position_from}
 use Rattle.std.proofs.lemmas.Iterator.Adapters.{position_from-zero}
 use Rattle.std.proofs.lemmas.Bool.{lt-ltb}
 use Rattle.std.proofs.Math.Bool.{or-false, or-true}
-use Rattle.std.proofs.lemmas.List.{get_or_default, length-take-le}
+use Rattle.std.proofs.lemmas.List.{drop_more, get_or_default}
 use Rattle.std.proofs.lemmas.List.Sums.{count_by_more_no, count_by_more_yes}
 use Rattle.pp_numbers.specs.ChannelNo.{channel_count, channel_index, names_channel}
 use Rattle.pp_channel.specs.History.{history_on}
 use Rattle.pp_report.specs.Types.{Entry, Event, Worker}
-use Rattle.pp_numbers.specs.PpNo.{processor_count, processor_number}
-use Rattle.pp_report.specs.Authors.{AreAuthors, AreAuthorsOn, AreMarked, authors_on, or_known}
+use Rattle.pp_numbers.specs.PpNo.{processor_number}
+use Rattle.pp_report.specs.Authors.{AreAuthors, AreAuthorsOn, AreMarked, authors_on}
 use Rattle.pp_report.specs.PrintedReport.{author_place}
 
--- where the first does not pass, the search goes on behind it
-seek_on : (passes : Bool) (i j : ℕ) (more rest : Option ℕ) (last : Bool) → more ≡ or_known rest last j
-    → cond passes (Some i) more ≡ or_known (cond passes (Some i) rest) last j
-seek_on true i j more rest last e = refl
-seek_on false i j more rest last e = e
+-- The author of an event, by the workers from a place on.
+abbrev pub author_from : {Z : Type 0} → ℕ → ℕ → ℕ → List (Worker Z) → Option ℕ
+author_from {Z} c number place workers =
+    option_map processor_number (position_from (λ (worker : Worker Z). nat_lt 0 (times_logged c number worker.log.items)) place (drop place workers))
 
-last_only : (passes : Bool) (i j : ℕ) → i ≡ j → cond passes (Some i) None ≡ or_known None passes j
-last_only true i j e = ap Some e
-last_only false i j e = refl
+mapped : (f : ℕ → ℕ) (passes : Bool) (i : ℕ) (rest : Option ℕ) → (if passes then Some (f i) else option_map f rest) ≡ option_map f (cond passes (Some i) rest)
+mapped f true i rest = refl
+mapped f false i rest = refl
 
-module _ {X : Type 0} (test : X → Bool) where
-  from_push : (i : ℕ) (xs : List X) (y : X) → position_from test i (xs ++ y ∷ []) ≡ or_known (position_from test i xs) (test y) (i + length xs)
-  from_push i [] y = last_only (test y) i (i + 0) (omega arith)
-  from_push i (x ∷ xs) y = seek_on (test x) i (i + length (x ∷ xs)) _ (position_from test (i + 1) xs) (test y)
-      (from_push (i + 1) xs y ∙ ap (or_known (position_from test (i + 1) xs) (test y)) (omega arith))
-
-  -- the first place that passes, with one element more
-  pub position_push : (xs : List X) (y : X) → position test (xs ++ y ∷ []) ≡ or_known (position test xs) (test y) (length xs)
-  position_push xs y = position_from-zero test (xs ++ y ∷ []) ∙ (from_push 0 xs y
-      ∙ (ap (or_known (position_from test 0 xs) (test y)) (omega arith) ∙ ap (λ first. or_known first (test y) (length xs)) (sym (position_from-zero test xs))))
-
-or_told_map : (f : ℕ → ℕ) (known : Option ℕ) (told : Bool) (author : ℕ) → option_map f (or_known known told author) ≡ or_known (option_map f known) told (f author)
-or_told_map f (Some n) told author = refl
-or_told_map f None true author = refl
-or_told_map f None false author = refl
-
--- the author, by one worker more
-pub author_push : {Z : Type 0} (c number place : ℕ) (workers : List (Worker Z)) (worker : Worker Z) (before after : Option ℕ) (author : ℕ)
-    → place < length workers → length workers ≤ processor_count → worker ≡ slice_index_or workers place worker → author ≡ processor_number place
-    → before ≡ option_map processor_number (author_place c (take place workers) number)
-    → after ≡ or_known before (nat_lt 0 (times_logged c number worker.log.items)) author
-    → after ≡ option_map processor_number (author_place c (take (place + 1) workers) number)
-author_push {Z} c number place workers worker before after author l few at by was now =
+-- by one worker more
+pub author_more : {Z : Type 0} (c number place : ℕ) (workers : List (Worker Z)) (worker : Worker Z) (before after : Option ℕ) (author : ℕ)
+    → place < length workers → worker ≡ slice_index_or workers place worker → author ≡ processor_number place → before ≡ author_from c number (place + 1) workers
+    → after ≡ (if nat_lt 0 (times_logged c number worker.log.items) then Some author else before) → after ≡ author_from c number place workers
+author_more {Z} c number place workers worker before after author l at by was now =
     let test : Worker Z → Bool = λ w. nat_lt 0 (times_logged c number w.log.items) in
-    let more : take (place + 1) workers ≡ take place workers ++ worker ∷ [] =
-    ap (λ n. take n workers) (add-one place) ∙ take-suc workers place worker l ∙ ap (λ w. take place workers ++ w ∷ []) (sym at) in
-    let found : author_place c (take (place + 1) workers) number ≡ or_known (author_place c (take place workers) number) (test worker) place =
-    ap (position test) more ∙ (position_push test (take place workers) worker
-    ∙ ap (or_known (position test (take place workers)) (test worker)) (length-take-le place workers (omega arith))) in
+    let more : drop place workers ≡ worker ∷ drop (place + 1) workers = drop_more workers place worker l ∙ ap (λ w. w ∷ drop (place + 1) workers) (sym at) in
     let same : author ≡ processor_number place = by in
-    now ∙ (ap (λ known. or_known known (test worker) author) was ∙ (ap (or_known (option_map processor_number (author_place c (take place workers) number)) (test worker)) same
-    ∙ (sym (or_told_map processor_number (author_place c (take place workers) number) (test worker) place) ∙ sym (ap (option_map processor_number) found))))
+    now ∙ (ap (λ (known : Option ℕ). if test worker then Some author else known) was ∙ (ap (λ (a : ℕ). if test worker then Some a else author_from c number (place + 1) workers) same
+    ∙ (mapped processor_number (test worker) place (position_from test (place + 1) (drop (place + 1) workers)) ∙ ap (λ (ws : List (Worker Z)). option_map processor_number (position_from test place ws)) (sym more))))
 
-unmarked : (known : Option ℕ) (author : ℕ) → known ≡ or_known known false author
-unmarked (Some n) author = refl
-unmarked None author = refl
+-- by all workers
+pub author_of_all : {Z : Type 0} (c number : ℕ) (workers : List (Worker Z)) → author_from c number 0 workers ≡ option_map processor_number (author_place c workers number)
+author_of_all {Z} c number workers = ap (option_map processor_number) (sym (position_from-zero (λ (worker : Worker Z). nat_lt 0 (times_logged c number worker.log.items)) workers))
 
 -- marked once more
-marked_again : (known : Option ℕ) (was told now : Bool) (author : ℕ) → now ≡ (was || told) → or_known (or_known known was author) told author ≡ or_known known now author
-marked_again (Some n) was told now author e = refl
-marked_again None true told now author e = ap (λ t. or_known None t author) (sym e)
-marked_again None false told now author e = ap (λ t. or_known None t author) (sym e)
+marked_again : (was more now : Bool) (author : ℕ) (known : Option ℕ) → now ≡ (was || more) → (if more then Some author else (if was then Some author else known)) ≡ (if now then Some author else known)
+marked_again true true now author known e = ap (λ (b : Bool). if b then Some author else known) (sym e)
+marked_again true false now author known e = ap (λ (b : Bool). if b then Some author else known) (sym e)
+marked_again false true now author known e = ap (λ (b : Bool). if b then Some author else known) (sym e)
+marked_again false false now author known e = ap (λ (b : Bool). if b then Some author else known) (sym e)
 
 -- whether a log records an event, by one entry more
 some_more : {X : Type 0} (test : X → Bool) (xs : List X) (i : ℕ) (x : X) (passes : Bool) → test x ≡ passes → i < length xs → x ≡ slice_index_or xs i x
@@ -79,7 +56,7 @@ some_more test xs i x false e inside is = ap (nat_lt 0) (count_by_more_no test x
 
 -- none marked
 pub marked_none : (author : ℕ) (authors : List (List (Option ℕ))) → length authors ≡ channel_count → AreMarked author (λ c number. nat_lt 0 (times_logged c number [])) authors authors
-marked_none author authors each = record { each_channel = each; each_event = λ c. refl; marked = λ c number names below. unmarked (slice_index_or (authors_on c authors) number None) author }
+marked_none author authors each = record { each_channel = each; each_event = λ c. refl; marked = λ c number names below. refl }
 
 -- those that a log records, by one entry more
 pub marked_more : (author : ℕ) (log : List Entry) (i : ℕ) (entry : Entry) (before mid after : List (List (Option ℕ))) → i < length log → entry ≡ slice_index_or log i entry
@@ -89,8 +66,8 @@ marked_more author log i entry before mid after inside is was more = record {
   each_channel = more.each_channel;
   each_event = λ c. more.each_event c ∙ was.each_event c;
   marked = λ c number names below. more.marked c number names (omega (arith, was.each_event c, below))
-      ∙ (ap (λ known. or_known known (logs_event c number entry) author) (was.marked c number names below)
-      ∙ marked_again (slice_index_or (authors_on c before) number None) _ (logs_event c number entry) _ author (some_more (logs_event c number) log i entry (logs_event c number entry) refl inside is));
+      ∙ (ap (λ (known : Option ℕ). if logs_event c number entry then Some author else known) (was.marked c number names below)
+      ∙ marked_again _ (logs_event c number entry) _ author (slice_index_or (authors_on c before) number None) (some_more (logs_event c number) log i entry (logs_event c number entry) refl inside is));
 }
 
 -- the authors on one channel, of those on all

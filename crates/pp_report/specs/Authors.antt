@@ -6,11 +6,6 @@ use Rattle.pp_report.specs.Types.{Event, Worker}
 use Rattle.pp_numbers.specs.PpNo.{processor_number}
 use Rattle.pp_report.specs.PrintedReport.{author_place}
 
--- the author known so far, or else this one if its log records the event
-abbrev pub or_known : Option ℕ → Bool → ℕ → Option ℕ
-or_known (Some known) recorded author = Some known
-or_known None recorded author = if recorded then Some author else None
-
 -- the authors of a channel's events while none is known
 abbrev pub no_authors : List Event → List (Option ℕ)
 no_authors history = replicate (length history) None
@@ -32,11 +27,11 @@ abbrev pub AreAuthors : {Z : Type 0} → List (Worker Z) → List (List Event)
 AreAuthors workers histories authors = (c : ℕ) → IsTrue (names_channel c)
     → AreAuthorsOn c workers (history_on c histories) (authors_on c authors)
 
--- An author has marked the events that a test tells: each that had no author has this one now.
-pub record AreMarked (author : ℕ) (tells : ℕ → ℕ → Bool) (before after : List (List (Option ℕ)))
+-- An author has marked the events that pass a test: these have it now, others what they had.
+pub record AreMarked (author : ℕ) (test : ℕ → ℕ → Bool) (before after : List (List (Option ℕ)))
     : Type 0 where
   pub each_channel : length after ≡ channel_count
   pub each_event : (c : ℕ) → length (authors_on c after) ≡ length (authors_on c before)
   pub marked : (c number : ℕ) → IsTrue (names_channel c) → number < length (authors_on c before)
       → slice_index_or (authors_on c after) number None
-      ≡ or_known (slice_index_or (authors_on c before) number None) (tells c number) author
+      ≡ (if test c number then Some author else slice_index_or (authors_on c before) number None)

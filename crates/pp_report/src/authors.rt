@@ -1,10 +1,10 @@
 //! Who made the events of the channels.
 
-ghost use Rattle.std.specs.Prelude.{◌≡◌, ◌<◌, ◌≤◌, ◌==◌, ℕ, None, length, map, replicate, slice_index_or, IfOk, nat_lt};
+ghost use Rattle.std.specs.Prelude.{◌≡◌, ◌<◌, ◌≤◌, ◌==◌, ℕ, None, Some, length, map, replicate, slice_index_or, if◌then◌else◌, IfOk, nat_lt};
 ghost use Rattle.pp_numbers.specs.ChannelNo.{channel_count};
 ghost use Rattle.pp_line.specs.Merge.{logs_event, times_logged};
 ghost use Rattle.pp_numbers.specs.PpNo.{processor_count};
-ghost use Rattle.pp_report.specs.Authors.{AreAuthors, AreMarked, no_authors, or_known};
+ghost use Rattle.pp_report.specs.Authors.{AreAuthors, AreMarked, no_authors};
 
 use pp_channel::{CHANNELS, Channel, Seen};
 use pp_line::Entry;
@@ -44,21 +44,21 @@ impl<A: Allocator> ChannelAuthors<A> {
         *self.by_number.get(number)?
     }
 
-    /// Marks an event, if it has no author yet.
+    /// Marks an event, whatever author it had.
     fn mark(&mut self, number: usize, author: PpNo)
         ensures length { length self.new ≡ length self.old }
         ensures marked { (k : ℕ) → k < length self.old
             → slice_index_or self.new k None
-            ≡ or_known (slice_index_or self.old k None) (number == k) author }
+            ≡ (if number == k then Some author else slice_index_or self.old k None) }
     {
-        if number < self.by_number.len() && self.by_number[number].is_none() {
+        if number < self.by_number.len() {
             self.by_number[number] = Some(author);
         }
     }
 }
 
 /// The authors of all events of the channels, by the logs of the workers, which stand in order: for
-/// each channel in order a list by number.
+/// each channel in order a list by number. The last worker marks its events first.
 pub(crate) fn authors<A: Allocator + Copy>(
     alloc: A,
     workers: &[Worker<A>],
@@ -69,8 +69,8 @@ pub(crate) fn authors<A: Allocator + Copy>(
     ensures authors { IfOk result (λ authors. AreAuthors workers.now channels.now authors.items) }
 {
     let mut authors = unknown_authors(alloc, channels)?;
-    for (place, worker) in workers.iter().enumerate() {
-        mark(&mut authors, worker.log.as_slice(), PpNo::at(place));
+    for place in (0..workers.len()).rev() {
+        mark(&mut authors, workers[place].log.as_slice(), PpNo::at(place));
     }
     Ok(authors)
 }
@@ -88,7 +88,7 @@ fn unknown_authors<A: Allocator + Copy>(
     Ok(authors)
 }
 
-/// Marks the events that a log records, on all channels, if they have no author yet.
+/// Marks the events that a log records, on all channels.
 fn mark<A: Allocator>(authors: &mut Vec<ChannelAuthors<A>, A>, log: &[Entry], author: PpNo)
     requires { length authors.old.items ≡ channel_count }
     ensures { AreMarked author (λ c number. nat_lt 0 (times_logged c number log.now))

@@ -96,10 +96,11 @@ impl<A: Allocator + Copy> Labour<A> {
             × (self.new.answers ≡ self.old.answers)
             × NeedsWornChannel (λ c. seen_on c self.new.line.view.seen) (need self.new.pp) }
     {
-        let told = ask(&mut self.line, self.pp.wants());
-        match &told {
+        let (next, d) = self.pp.next_instruction();
+        let answered = ask(&mut self.line, self.pp.wants_next(&next, d));
+        match &answered {
             Err(_) => Try::Worn,
-            Ok(answer) => match self.pp.give(*answer) {
+            Ok(answer) => match self.pp.give_next(&next, d, *answer) {
                 Outcome::Held => Try::Held,
                 Outcome::Moved => {
                     self.note(*answer);
@@ -140,7 +141,9 @@ impl<A: Allocator + Copy> Labour<A> {
         ensures worn { IfSome result (λ finish.
             WornWithCause (λ c. seen_on c self.new.line.view.seen) finish self.new.pp) }
     {
-        if self.answers.reserve(1).is_err() {
+        // Room for all answers at once: a list that grows is copied.
+        let left = site.limits.steps() as usize - self.answers.len();
+        if self.answers.reserve(left).is_err() {
             return Some(End::Memory);
         }
         for held in 0..site.limits.patience() {

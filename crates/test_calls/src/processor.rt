@@ -74,6 +74,34 @@ fn ends(pp: &mut Pp, need: &Need, answer: Answer) -> bool {
         && pp.block().is_none()
 }
 
+/// Whether a running processor's next step, decoded once, does with this answer what `give` does.
+fn steps_alike(pp: &Pp, answer: Answer) -> bool {
+    let PpState::Running = pp.state() else {
+        return false;
+    };
+    let (mut once, mut twice) = (pp.copy(), pp.copy());
+    let (next, d) = pp.next_instruction();
+    let need = pp.wants_next(&next, d);
+    need == pp.wants()
+        && fits(&need, &answer)
+        && once.give_next(&next, d, answer) == twice.give(answer)
+        && shown(&once) == shown(&twice)
+        && once.block() == twice.block()
+}
+
+#[test]
+fn a_step_decoded_once(rt: HostRuntime) {
+    let held = Answer::Channel(Reply::Held(INACTIVE));
+    let mut pp = started(Profile::Ten, 0o0200, &[0o7005, 0o7105, 0o0300], 2);
+    assert!(rt; steps_alike(&pp, held) && !steps_alike(&pp, Answer::Local));
+    assert!(rt; steps_alike(&pp, Answer::Channel(Reply::Word(word(2)))));
+    assert!(rt; pp.replay(&[Answer::Channel(Reply::Word(word(2)))]) == 1);
+    assert!(rt; steps_alike(&pp, Answer::Local) && !steps_alike(&pp, held));
+    assert!(rt; pp.replay(&[Answer::Local]) == 1 && pp.block().is_some());
+    assert!(rt; steps_alike(&pp, held) && !steps_alike(&pp, Answer::Local));
+    assert!(rt; steps_alike(&pp, Answer::Channel(Reply::Word(word(0o7777)))));
+}
+
 #[test]
 fn input_block_by_steps(rt: HostRuntime) -> Result<(), Fail> {
     let channel = channel(5)?;

@@ -1,12 +1,12 @@
 //! The parts of a step: the next instruction, decoded once, what it needs, and what each kind of
-//! answer does. `wants` and `give` are made of them, and so is a turn of the barrel.
+//! answer does. `wants` and `give` are made of them, a turn of the barrel, and a worker's step.
 
-ghost use Rattle.std.specs.Prelude.{◌≡◌, ℕ, None, IsTrue, false, if◌then◌else◌};
+ghost use Rattle.std.specs.Prelude.{◌≡◌, ◌↔◌, ℕ, None, IsTrue, false, if◌then◌else◌};
 ghost use Rattle.std.specs.Bool.{OnTrue, OnFalse};
 ghost use Rattle.pp_machine.specs.NextStep.{IsAtInstruction, IsNext, ends, is_internal};
 ghost use Rattle.pp_machine.specs.InstructionTable.{instruction};
-ghost use Rattle.pp_machine.specs.NeedAndEffect.{need, processor_after, outcome};
-ghost use Rattle.pp_machine.specs.Processor.{Processor};
+ghost use Rattle.pp_machine.specs.NeedAndEffect.{need, processor_after, outcome, IsHeldAnswer};
+ghost use Rattle.pp_machine.specs.Processor.{IsAtRest, Processor};
 ghost use Rattle.pp_numbers.specs.Profile.{has_channel};
 ghost use Rattle.pp_machine.specs.Replay.{fits};
 ghost use Rattle.pp_machine.specs.Step.{need_of};
@@ -62,7 +62,7 @@ impl Pp {
     /// The operation of the next instruction of a running processor and the lower six bits of its
     /// word; no operation if it is in a block.
     #[inline(always)]
-    pub(crate) fn next_instruction(&self) -> (Option<Opcode>, Word6)
+    pub fn next_instruction(&self) -> (Option<Opcode>, Word6)
         requires { self.now.state ≡ PpState.Running }
         ensures { IsNext result.0 result.1 self.now }
     {
@@ -128,10 +128,10 @@ impl Pp {
         }
     }
 
-    /// What its next step needs from outside.
+    /// What its next step, which `next_instruction` found, needs from outside.
     #[tactic(auto, unfolding(crate::specs::NeedAndEffect::need))]
     #[inline(always)]
-    pub(crate) fn wants_next(&self, next: &Option<Opcode>, d: Word6) -> Need
+    pub fn wants_next(&self, next: &Option<Opcode>, d: Word6) -> Need
         requires { IsNext next.now d self.now }
         ensures { result ≡ need self.now }
     {
@@ -141,6 +141,32 @@ impl Pp {
                 Some(block) => self.block_need(block),
                 None => Need::Nothing,
             },
+        }
+    }
+
+    /// Gives the answer to what its next step needs.
+    #[tactic(auto, using(crate::proofs::StepLemmas::answers_given))]
+    #[inline(always)]
+    pub fn give_next(&mut self, next: &Option<Opcode>, d: Word6, answer: Answer) -> Outcome
+        requires next { IsNext next.now d self.old }
+        requires fits { IsTrue (fits (need self.old) answer) }
+        ensures after { self.new ≡ processor_after self.old answer }
+        ensures outcome { result ≡ outcome self.old answer }
+        ensures held_changes_nothing { result ≡ Outcome.Held → self.new ≡ self.old }
+        ensures held_by_channel { result ≡ Outcome.Held → IsHeldAnswer answer }
+        ensures at_rest_unless_running { (result ≡ Outcome.AtRest) ↔ IsAtRest self.old }
+    {
+        match answer {
+            Answer::Local => self.give_local(next, d),
+            Answer::Channel(reply) => self.give_reply(next, d, reply),
+            Answer::Read(word) => {
+                self.give_central(next, d, word);
+                Outcome::Moved
+            }
+            Answer::Wrote(written) => {
+                self.give_written(next, d, written);
+                Outcome::Moved
+            }
         }
     }
 

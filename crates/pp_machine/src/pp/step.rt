@@ -88,7 +88,8 @@ impl Pp {
     }
 
     /// Gives the answer to the need that `wants` returns.
-    #[tactic(auto, using(crate::proofs::StepLemmas::answers_given))]
+    #[tactic(auto, unfolding(crate::specs::NeedAndEffect::processor_after, // at rest it stays
+    crate::specs::NeedAndEffect::outcome), using(crate::proofs::StepLemmas::answers_given))]
     #[inline(always)]
     pub fn give(&mut self, answer: Answer) -> Outcome
         requires fits { IsTrue (fits (need self.old) answer) }
@@ -101,35 +102,12 @@ impl Pp {
         ensures fault_keeps { self.old.state ≡ PpState.Running → IsAtFault self.new
             → KeepsMemoryAndRegisters self.old self.new }
     {
-        self.advance(answer)
-    }
-
-    /// The step by the table.
-    #[tactic(auto, unfolding(crate::specs::NeedAndEffect::need, // what it asks
-    crate::specs::NeedAndEffect::processor_after, // what the answer does
-    crate::specs::NeedAndEffect::outcome))]
-    #[inline(always)]
-    fn advance(&mut self, answer: Answer) -> Outcome
-        requires fits { IsTrue (fits (need self.old) answer) }
-        ensures after { self.new ≡ processor_after self.old answer }
-        ensures outcome { result ≡ outcome self.old answer }
-    {
         match self.state {
-            PpState::Running => {}
-            PpState::Stopped | PpState::Fault(_) => return Outcome::AtRest,
-        }
-        let (next, d) = self.next_instruction();
-        match answer {
-            Answer::Local => self.give_local(&next, d),
-            Answer::Channel(reply) => self.give_reply(&next, d, reply),
-            Answer::Read(word) => {
-                self.give_central(&next, d, word);
-                Outcome::Moved
+            PpState::Running => {
+                let (next, d) = self.next_instruction();
+                self.give_next(&next, d, answer)
             }
-            Answer::Wrote(written) => {
-                self.give_written(&next, d, written);
-                Outcome::Moved
-            }
+            PpState::Stopped | PpState::Fault(_) => Outcome::AtRest,
         }
     }
 }

@@ -9,26 +9,26 @@ use Rattle.pp_line.proofs.recorded_history.recorded_histories.Goals as goal
 
 pub loop-other-init : goal.loop-other-init
 loop-other-init g c = record {
-  each = ap length c.put_log.ensures ∙ (count-filled c.args.log.now c.in_ok-told.told.items ∙ c.in_ok-told.ensures.each_channel);
+  each = ap length c.put_log.ensures ∙ (count-filled c.args.log.now c.in_ok-recorded.recorded.items ∙ c.in_ok-recorded.ensures.each_channel);
   filled = refl;
 }
 
 pub loop-other-preserved : goal.loop-other-preserved
 loop-other-preserved g c = record {
-  each = ap length c.put_log-in-loop-other.ensures ∙ (count-filled c.as_slice.result.now c.loop-other.told.items ∙ c.loop-other.invariant.each);
+  each = ap length c.put_log-in-loop-other.ensures ∙ (count-filled c.as_slice.result.now c.loop-other.recorded.items ∙ c.loop-other.invariant.each);
   filled =
       let before = c.put_log.new.histories.items in
-      let told = flat_map (λ other. other.1.items) (take c.loop-other.other-index c.args.others.now) in
+      let recorded = flat_map (λ other. other.1.items) (take c.loop-other.other-index c.args.others.now) in
       c.put_log-in-loop-other.ensures
-      ∙ (ap (fold with_entry c.loop-other.told.items) c.as_slice.ensures.value
+      ∙ (ap (fold with_entry c.loop-other.recorded.items) c.as_slice.ensures.value
       ∙ (ap (λ hs. fold with_entry hs c.other-item.result.1.items) c.loop-other.invariant.filled
-      ∙ (sym (fold-append with_entry before told c.other-item.result.1.items)
+      ∙ (sym (fold-append with_entry before recorded c.other-item.result.1.items)
       ∙ ap (fold with_entry before) (sym (flat_map_more (λ other. other.1.items) c.args.others.now c.loop-other.other-index c.other-item.result c.loop-other-test.true c.other-item.is)))));
 }
 
 pub returns : goal.returns
-returns g c histories told =
-    let untold = c.in_ok-told.told.items in
+returns g c histories recorded =
+    let untold = c.in_ok-recorded.recorded.items in
     let log = c.args.log.now in
     let others = c.args.others.now in
     let rest = flat_map (λ other. other.1.items) others in
@@ -36,4 +36,4 @@ returns g c histories told =
     ∙ (ap (λ os. fold with_entry c.put_log.new.histories.items (flat_map (λ other. other.1.items) os)) (take_all c.loop-other.other-index others c.loop-other-test.false)
     ∙ (ap (λ hs. fold with_entry hs rest) c.put_log.ensures
     ∙ (sym (fold-append with_entry untold log rest)
-    ∙ histories_filled histories untold c.args.seen.now (log ++ rest) told c.in_ok-told.ensures.each_channel c.in_ok-told.ensures.each_event)))
+    ∙ histories_filled histories untold c.args.seen.now (log ++ rest) recorded c.in_ok-recorded.ensures.each_channel c.in_ok-recorded.ensures.each_event)))

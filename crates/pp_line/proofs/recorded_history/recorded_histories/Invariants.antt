@@ -6,6 +6,6 @@ use Rattle.pp_line.proofs.recorded_history.recorded_histories.Given as goal
 
 abbrev pub invariant-loop-other : goal.invariant-loop-other
 invariant-loop-other g l = record {
-  each : length l.told.items ≡ channel_count;
-  filled : l.told.items ≡ fold with_entry l.initial.told.items (flat_map (λ other. other.1.items) (take l.other-index l.others));
+  each : length l.recorded.items ≡ channel_count;
+  filled : l.recorded.items ≡ fold with_entry l.initial.recorded.items (flat_map (λ other. other.1.items) (take l.other-index l.others));
 }
