@@ -1,6 +1,6 @@
 // floor PROCESSORS: a bare program beside which to see what self1, self10 and self20 take by
 // threads, 100,000 steps each. Each thread makes four exchanges on the word of a channel of its own
-// in every five steps, and keeps what a report keeps: 16 bytes an event and 16 a step. Then come 4
+// in every five steps, and keeps what a report keeps: 16 bytes an event and 10 a step. Then come 4
 // bytes an event for its channel's history, one for its author, and a line as long as its line.
 // Nothing is decoded or checked.
 
@@ -20,8 +20,8 @@ typedef struct {
 } Entry;
 
 typedef struct {
-  uint64_t word;
-  uint8_t kind, active, full;
+  uint16_t word[4];
+  uint8_t kind, flags;
 } Answer;
 
 static struct {
@@ -32,11 +32,10 @@ static Entry *logs[MOST];
 static void *work(void *argument) {
   long place = (long)argument;
   Entry *log = malloc((2 * STEPS + 1) * sizeof(Entry));
-  size_t room = 4, events = 0;
-  Answer *answers = malloc(room * sizeof(Answer));
+  Answer *answers = malloc(STEPS * sizeof(Answer));
+  size_t events = 0;
   for (size_t step = 0; step < STEPS; step++) {
-    if (step == room) answers = realloc(answers, (room *= 2) * sizeof(Answer));
-    answers[step] = (Answer){step, step % 5, 1, 0};
+    answers[step] = (Answer){{step}, step % 5, 1};
     if (step % 5 == 4) continue;
     uint64_t found = atomic_load(&channels[place].word);
     if (!atomic_compare_exchange_strong(&channels[place].word, &found, found + (1 << 14))) abort();

@@ -132,8 +132,8 @@ pub record HasActivated (line : LineState) (c : ℕ) (r : Numbered) (after : Lin
   pub done : r.reply ≡ Reply.Done
   pub written : after.log ≡ appended line.log (event_entry c 0 Activate)
 
-untold_is_empty : (c : ℕ) (histories : List (List Event)) (log : List Entry) → Merges no_opening histories log → times_logged c 0 log ≡ 0 → history_on c histories ≡ []
-untold_is_empty c histories log m none =
+unlogged_is_empty : (c : ℕ) (histories : List (List Event)) (log : List Entry) → Merges no_opening histories log → times_logged c 0 log ≡ 0 → history_on c histories ≡ []
+unlogged_is_empty c histories log m none =
     nil_from_length (history_on c histories)
     (⊎_elim (λ (l : 0 < length (history_on c histories)). let one = m.once c 0 (omega arith) l in absurd (omega (arith, one, none))) (λ (l : length (history_on c histories) ≤ 0). omega arith) (cases_lt 0 (length (history_on c histories))))
 
@@ -143,7 +143,7 @@ activated line after c r named all none acted =
     let alone = acted.alone all in
     let within : channel_index c < length acted.histories = omega (arith, acted.known.sound.each_channel, named) in
     let there : history_on c (slice_set acted.histories (channel_index c) (take r.loaded h)) ≡ take r.loaded h = get_or-set_same acted.histories (channel_index c) (take r.loaded h) [] within in
-    let empty : take r.loaded h ≡ [] = sym there ∙ untold_is_empty c (slice_set acted.histories (channel_index c) (take r.loaded h)) line.log.entries alone.1 none in
+    let empty : take r.loaded h ≡ [] = sym there ∙ unlogged_is_empty c (slice_set acted.histories (channel_index c) (take r.loaded h)) line.log.entries alone.1 none in
     let answer : IsAnswer [] ChanOp.Activate r.reply h = subst (λ f. IsAnswer f ChanOp.Activate r.reply h) empty (acted.answer.at_once alone.0) in
     let made = (answer_by_table [] ChanOp.Activate r.reply h lawful_empty).0 answer in
     let done : r.reply ≡ Reply.Done = made.0 in
@@ -164,5 +164,5 @@ never_worn line after c op all none worn =
     let log : after.log.entries ≡ line.log.entries = ap (λ l. l.log.entries) worn.after_is in
     let merged = (worn.known.all_known (ap (λ l. l.view.shares) worn.after_is ∙ (all ∙ ap (λ l. l.view.whole) (sym worn.after_is)))).merged in
     let told : times_logged c 0 after.log.entries ≡ 0 = ap (λ l. times_logged c 0 l) log ∙ none in
-    let empty : length (history_on c worn.histories) ≡ 0 = ap length (untold_is_empty c worn.histories after.log.entries merged told) in
+    let empty : length (history_on c worn.histories) ≡ 0 = ap length (unlogged_is_empty c worn.histories after.log.entries merged told) in
     omega (arith, empty, worn.worn)

@@ -29,8 +29,8 @@ impl<A: Allocator> Model for EventsByNumber<A> {
 
 impl<A: Allocator> EventsByNumber<A> {
     /// `count` events, none of them placed yet.
-    fn untold(alloc: A, count: u64) -> Result<Self, Memory>
-        ensures { IfOk result (λ untold. length untold ≡ count) }
+    fn unplaced(alloc: A, count: u64) -> Result<Self, Memory>
+        ensures { IfOk result (λ unplaced. length unplaced ≡ count) }
     {
         let events = vec![in alloc; Event::Disconnect; count as usize]?;
         Ok(EventsByNumber { events })
@@ -127,15 +127,15 @@ fn unrecorded_histories<A: Allocator + Copy>(
     alloc: A,
     seen: &[u64; CHANNELS],
 ) -> Result<Vec<EventsByNumber<A>, A>, Memory>
-    ensures each_channel { IfOk result (λ untold. length untold.items ≡ channel_count) }
-    ensures each_event { IfOk result (λ untold. (place : ℕ) → place < channel_count
-        → length (slice_index_or untold.items place []) ≡ slice_index_or seen.now place 0) }
+    ensures each_channel { IfOk result (λ unplaced. length unplaced.items ≡ channel_count) }
+    ensures each_event { IfOk result (λ unplaced. (place : ℕ) → place < channel_count
+        → length (slice_index_or unplaced.items place []) ≡ slice_index_or seen.now place 0) }
 {
-    let mut untold = Vec::with_capacity(alloc, CHANNELS)?;
+    let mut unplaced = Vec::with_capacity(alloc, CHANNELS)?;
     for count in seen {
-        untold.push_reserved(EventsByNumber::untold(alloc, *count)?);
+        unplaced.push_reserved(EventsByNumber::unplaced(alloc, *count)?);
     }
-    Ok(untold)
+    Ok(unplaced)
 }
 
 /// Puts the event of an entry at its number, in the history of its channel.

@@ -1,18 +1,19 @@
 -- Authors of events, log after log, and the lines that name them.
-use Rattle.std.proofs.Common.{◌≡◌, ◌∙◌, ℕ, ◌+◌, ◌<◌, Bool, true, false, cond, ◌||◌, List, [], ◌∷◌, length, drop, take, Option, Some, None, option_map, slice_index_or, refl, sym, ap, subst, arith}
+use Rattle.std.proofs.Common.{◌≡◌, ◌∙◌, ℕ, ◌+◌, ◌<◌, Bool, true, false, cond, ◌||◌, List, [], ◌∷◌, length, drop, take, Option, Some, None, option_map, slice_index_or, slice_set, map, replicate, zero, suc, refl, sym, ap, subst, arith}
 use Rattle.pp_line.specs.Merge.{logs_event, times_logged}
 use Rattle.std.specs.Prelude.{IsTrue, nat_lt, if◌then◌else◌}
 use Rattle.std.specs.List.{count_by, position_from}
 use Rattle.std.proofs.lemmas.Iterator.Adapters.{position_from-zero}
 use Rattle.std.proofs.lemmas.Bool.{lt-ltb}
 use Rattle.std.proofs.Math.Bool.{or-false, or-true}
-use Rattle.std.proofs.lemmas.List.{drop_more, get_or_default}
+use Rattle.std.proofs.Math.ListN.{get_or-map}
+use Rattle.std.proofs.lemmas.List.{drop_more, get_or_default, map-set}
 use Rattle.std.proofs.lemmas.List.Sums.{count_by_more_no, count_by_more_yes}
 use Rattle.pp_numbers.specs.ChannelNo.{channel_count, channel_index, names_channel}
 use Rattle.pp_channel.specs.History.{history_on}
 use Rattle.pp_report.specs.Types.{Entry, Event, Worker}
-use Rattle.pp_numbers.specs.PpNo.{processor_number}
-use Rattle.pp_report.specs.Authors.{AreAuthors, AreAuthorsOn, AreMarked, authors_on}
+use Rattle.pp_numbers.specs.PpNo.{processor_count, processor_number}
+use Rattle.pp_report.specs.Authors.{AreAuthors, AreAuthorsOn, AreMarked, author_at, authors_on}
 use Rattle.pp_report.specs.PrintedReport.{author_place}
 
 -- The author of an event, by the workers from a place on.
@@ -76,3 +77,24 @@ pub authors_here : {Z : Type 0} (c place : ℕ) (workers : List (Worker Z)) (his
 authors_here {Z} c place workers histories all h here names at within is same are number below =
     ap (λ l. slice_index_or l number None) (is ∙ (get_or_default all place here [] within ∙ ap (λ i. slice_index_or all i []) at))
     ∙ are c names number (subst (λ (l : List Event). number < length l) same below)
+
+-- the author at a place of a list of places
+pub author_read : (places : List ℕ) (number : ℕ) → slice_index_or (map author_at places) number None ≡ author_at (slice_index_or places number processor_count)
+unfolding author_at
+author_read places number = get_or-map author_at places number processor_count
+
+-- nobody is known of a list that is new
+pub nobody_of : (count : ℕ) → map author_at (replicate count processor_count) ≡ replicate count None
+unfolding author_at
+nobody_of zero = refl
+nobody_of (suc count) = ap (λ rest. None ∷ rest) (nobody_of count)
+
+-- the author at a place that is given by number
+pub author_there : (place author : ℕ) → place < processor_count → author ≡ processor_number place → author_at place ≡ Some author
+unfolding author_at
+author_there place author below is = grind (arith, below, is)
+
+-- a mark: one author takes the place of what was there
+pub marked_at : (places : List ℕ) (number place author : ℕ) → place < processor_count → author ≡ processor_number place
+    → map author_at (slice_set places number place) ≡ slice_set (map author_at places) number (Some author)
+marked_at places number place author below is = map-set author_at places number place ∙ ap (λ one. slice_set (map author_at places) number one) (author_there place author below is)

@@ -23,7 +23,7 @@ use Rattle.pp_word.specs.Numeral.{decimal, digits, octal, unpadded}
 use Rattle.pp_report.specs.PrintedReport.{author_place, channel_events, end_text, line_by, named_worker_line, numbered_event_line, printed_report, worker_line}
 use Rattle.pp_text.specs.PrintedText.{channel_text, event_text, line_end, processor_line, used_channel_line}
 use Rattle.pp_text.proofs.PrintingLemmas.{channels_by_number, numbered_channel_line, processors_by_number}
-use Rattle.pp_report.specs.ReportLaw.{AgreeOnReport, FitsItsEnd, FitsItsLine, FitsItsReport, ShownEnd, PrintedEvent, end_of, shown_end, shown_of, printed_by, told_events, printed_on}
+use Rattle.pp_report.specs.ReportLaw.{AgreeOnReport, FitsItsEnd, FitsItsLine, FitsItsReport, ShownEnd, PrintedEvent, end_of, shown_end, shown_of, printed_by, printed_events, printed_on}
 use Rattle.pp_text.specs.TextLaw.{HistoryFits, ShowSameChannel}
 use Rattle.pp_report.proofs.AuthorLawLemmas.{only_openings}
 use Rattle.pp_report.proofs.EventLineLemmas.{enumerate_more}
@@ -118,7 +118,7 @@ where_true P true ls none all = all
 where_true P false ls none all = none
 
 events_lines : {Z : Type 0} → List (Worker Z) → List (List Event) → ℕ → List (List ℕ)
-events_lines {Z} workers histories c = if names_channel c then map (told_body c) (told_events c workers (history_on c histories)) else []
+events_lines {Z} workers histories c = if names_channel c then map (told_body c) (printed_events c workers (history_on c histories)) else []
 
 -- the lines of the channel with this number, if there is one
 abbrev pub numbered_channel_events : {Z : Type 0} → List (Worker Z) → List (List Event) → ℕ → List ℕ
@@ -203,7 +203,7 @@ state_key c h within =
 
 events_keyed : {Z : Type 0} (workers : List (Worker Z)) (histories : List (List Event)) → AreKeyed 1067432 (events_lines workers histories)
 unfolding events_lines
-events_keyed {Z} workers histories c within = where_true (HaveKey (1067432 + c)) (names_channel c) (map (told_body c) (told_events c workers (history_on c histories))) tt (each (told_events c workers (history_on c histories)))
+events_keyed {Z} workers histories c within = where_true (HaveKey (1067432 + c)) (names_channel c) (map (told_body c) (printed_events c workers (history_on c histories))) tt (each (printed_events c workers (history_on c histories)))
   where
     each : (ts : List PrintedEvent) → HaveKey (1067432 + c) (map (told_body c) ts)
     each [] = tt
@@ -235,7 +235,7 @@ above_told c t =
 
 plain_events : {Z : Type 0} (workers : List (Worker Z)) (histories : List (List Event)) (c : ℕ) → AreLines (events_lines workers histories c)
 unfolding events_lines
-plain_events {Z} workers histories c = where_true AreLines (names_channel c) (map (told_body c) (told_events c workers (history_on c histories))) tt (each (told_events c workers (history_on c histories)))
+plain_events {Z} workers histories c = where_true AreLines (names_channel c) (map (told_body c) (printed_events c workers (history_on c histories))) tt (each (printed_events c workers (history_on c histories)))
   where
     each : (ts : List PrintedEvent) → AreLines (map (told_body c) ts)
     each [] = tt
@@ -466,7 +466,7 @@ told_later {Z} c first n workers (e ∷ h) authors =
 
 -- they are all events after the opening, each with its number
 pub told_after : {Z : Type 0} (opening : ℕ → List Event) (histories : List (List Event)) (workers : List (Worker Z)) (c : ℕ) → (merged : Merges opening histories (logs_of workers))
-    → map with_number (told_events c workers (history_on c histories)) ≡ enumerate_from (length (opening c)) (merged.begins c).0
+    → map with_number (printed_events c workers (history_on c histories)) ≡ enumerate_from (length (opening c)) (merged.begins c).0
 told_after {Z} opening histories workers c merged =
     let h = history_on c histories in
     let begins = merged.begins c in
@@ -511,7 +511,7 @@ openings_told {Y} {Z} m k one other c merged also lawful keeps same alike =
 
 -- the events of a history that are told so far, and one more
 pub tellings_go_on : {Z : Type 0} (c i : ℕ) (workers : List (Worker Z)) (h : List Event) (e : Event) → i < length h → e ≡ slice_index_or h i e
-    → All FitsItsLine (told_events c workers (take i h)) → IfSome (printed_by i e (author_place c workers i)) FitsItsLine → All FitsItsLine (told_events c workers (take (i + 1) h))
+    → All FitsItsLine (printed_events c workers (take i h)) → IfSome (printed_by i e (author_place c workers i)) FitsItsLine → All FitsItsLine (printed_events c workers (take (i + 1) h))
 tellings_go_on {Z} c i workers h e within at so_far fits =
     let f : ℕ × Event → Option PrintedEvent = λ ((number, event) : ℕ × Event). printed_by number event (author_place c workers number) in
     let told : filter_map f (enumerate_from 0 (take (i + 1) h)) ≡ filter_map f (enumerate_from 0 (take i h)) ++ filter_map f ((i, e) ∷ []) =

@@ -1,10 +1,14 @@
 -- Finding the authors of events, log after log. (Only private contracts cite this.)
-use Rattle.std.specs.Prelude.{◌≡◌, ℕ, ◌<◌, Bool, List, [], length, replicate, slice_index_or, Option, Some, None, option_map, IsTrue, if◌then◌else◌}
+use Rattle.std.specs.Prelude.{◌≡◌, ℕ, ◌<◌, Bool, List, [], length, nat_lt, replicate, slice_index_or, Option, Some, None, option_map, IsTrue, if◌then◌else◌}
 use Rattle.pp_numbers.specs.ChannelNo.{channel_count, channel_index, names_channel}
 use Rattle.pp_channel.specs.History.{history_on}
 use Rattle.pp_report.specs.Types.{Event, Worker}
-use Rattle.pp_numbers.specs.PpNo.{processor_number}
+use Rattle.pp_numbers.specs.PpNo.{processor_count, processor_number}
 use Rattle.pp_report.specs.PrintedReport.{author_place}
+
+-- the author at a place; past the last processor none is known
+unfoldable pub author_at : ℕ → Option ℕ
+author_at place = if nat_lt place processor_count then Some (processor_number place) else None
 
 -- the authors of a channel's events while none is known
 abbrev pub no_authors : List Event → List (Option ℕ)

@@ -21,8 +21,8 @@ printed_by number event (Some place) =
     Some (record { number = number; author = processor_number place; event = event })
 
 -- the events of channel c that the text shows, in order
-abbrev pub told_events : {Z : Type 0} → ℕ → List (Worker Z) → List Event → List PrintedEvent
-told_events {Z} c workers history = filter_map
+abbrev pub printed_events : {Z : Type 0} → ℕ → List (Worker Z) → List Event → List PrintedEvent
+printed_events {Z} c workers history = filter_map
     (λ ((number, event) : ℕ × Event). printed_by number event (author_place c workers number))
     (enumerate_from 0 history)
 
@@ -52,7 +52,7 @@ end_of n report = option_map shown_end (slice_get report.ends.items (processor_i
 
 -- the events that the report has of channel c
 abbrev pub printed_on : {Z : Type 0} → ℕ → Report Z → List PrintedEvent
-printed_on c report = told_events c report.ends.items (history_on c report.channels)
+printed_on c report = printed_events c report.ends.items (history_on c report.channels)
 
 -- a report fits its text
 pub record FitsItsReport {Z : Type 0} (named : List Bool) (report : Report Z) : Type 0 where

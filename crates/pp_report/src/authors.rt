@@ -1,6 +1,6 @@
 //! Who made the events of the channels.
 
-ghost use Rattle.std.specs.Prelude.{◌≡◌, ◌<◌, ◌≤◌, ◌==◌, ℕ, None, Some, length, map, replicate, slice_index_or, if◌then◌else◌, IfOk, nat_lt};
+ghost use Rattle.std.specs.Prelude.{◌≡◌, ◌<◌, ◌≤◌, ◌==◌, ℕ, None, Some, length, map, replicate, slice_index_or, slice_set, if◌then◌else◌, IfOk, nat_lt};
 ghost use Rattle.pp_numbers.specs.ChannelNo.{channel_count};
 ghost use Rattle.pp_line.specs.Merge.{logs_event, times_logged};
 ghost use Rattle.pp_numbers.specs.PpNo.{processor_count};
@@ -8,51 +8,61 @@ ghost use Rattle.pp_report.specs.Authors.{AreAuthors, AreMarked, no_authors};
 
 use pp_channel::{CHANNELS, Channel, Seen};
 use pp_line::Entry;
-use pp_machine::PpNo;
+use pp_machine::{PROCESSORS, PpNo};
 use pp_runner::Worker;
 use std::alloc::{AllocError, Allocator};
 use std::marker::Model;
 
-/// The authors of a channel's events, by number, as far as they are known. Contracts see their
-/// list.
+/// No place of a processor: that of an author who is not known.
+const UNKNOWN: u8 = PROCESSORS as u8;
+
+/// The authors of a channel's events, by number, as far as they are known: the place of each, in
+/// one byte. Contracts see their list.
 #[derive(Drop)]
 pub(crate) struct ChannelAuthors<A: Allocator> {
-    by_number: Vec<Option<PpNo>, A>,
+    places: Vec<u8, A>,
 }
 
 impl<A: Allocator> Model for ChannelAuthors<A> {
-    ghost use Rattle.std.specs.Prelude.{ℕ, List, Option};
+    ghost use Rattle.std.specs.Prelude.{ℕ, List, Option, map};
+    ghost use Rattle.pp_report.specs.Authors.{author_at};
 
     ghost Value = { List (Option ℕ) };
 
-    ghost view = { λ a. a.by_number.items };
+    ghost view = { λ a. map author_at a.places.items };
 }
 
 impl<A: Allocator> ChannelAuthors<A> {
     /// The authors of `count` events, none of them known.
+    #[tactic(auto, using(crate::proofs::AuthorLemmas::nobody_of))]
     fn unknown(alloc: A, count: usize) -> Result<Self, AllocError>
         ensures { IfOk result (λ authors. authors ≡ replicate count None) }
     {
-        let by_number = vec![in alloc; None; count]?;
-        Ok(ChannelAuthors { by_number })
+        let places = vec![in alloc; UNKNOWN; count]?;
+        Ok(ChannelAuthors { places })
     }
 
     /// The author of the event with this number, if it is known.
+    #[tactic(auto, using(crate::proofs::AuthorLemmas::author_read), // the place of each
+    unfolding(crate::specs::Authors::author_at))]
     pub(crate) fn of(&self, number: usize) -> Option<PpNo>
         ensures { result ≡ slice_index_or self.now number None }
     {
-        *self.by_number.get(number)?
+        let place = usize::from(*self.places.get(number)?);
+        if place < PROCESSORS {
+            Some(PpNo::at(place))
+        } else {
+            None
+        }
     }
 
     /// Marks an event, whatever author it had.
+    #[tactic(auto, using(crate::proofs::AuthorLemmas::marked_at))]
     fn mark(&mut self, number: usize, author: PpNo)
-        ensures length { length self.new ≡ length self.old }
-        ensures marked { (k : ℕ) → k < length self.old
-            → slice_index_or self.new k None
-            ≡ (if number == k then Some author else slice_index_or self.old k None) }
+        ensures { self.new ≡ slice_set self.old number (Some author) }
     {
-        if number < self.by_number.len() {
-            self.by_number[number] = Some(author);
+        if number < self.places.len() {
+            self.places[number] = author.index() as u8;
         }
     }
 }

@@ -10,7 +10,7 @@ ghost use Rattle.pp_report.specs.Authors.{AreAuthors, AreAuthorsOn};
 ghost use Rattle.pp_text.specs.TextWriter.{Prints};
 ghost use Rattle.pp_text.specs.PrintedText.{used_channel_line};
 ghost use Rattle.pp_report.specs.PrintedReport.{channel_events, line_by, named_worker_line, numbered_event_line, printed_report};
-ghost use Rattle.pp_report.specs.ReportLaw.{FitsItsEnd, FitsItsLine, FitsItsReport, shown_end, printed_by, told_events};
+ghost use Rattle.pp_report.specs.ReportLaw.{FitsItsEnd, FitsItsLine, FitsItsReport, shown_end, printed_by, printed_events};
 ghost use Rattle.pp_text.specs.TextLaw.{HistoryFits};
 ghost use Rattle.pp_text.specs.Written.{IsReportWritten, IsWritten};
 
@@ -78,7 +78,7 @@ fn print_events<A: Allocator, W: Write>(
         (flat_map (channel_events workers channels.now) all_channels) }
     ensures fits { (workers : List (Worker A)) → AreAuthors workers channels.now authors.now
         → (c : ℕ) → IsTrue (names_channel c)
-        → All FitsItsLine (told_events c workers (history_on c channels.now)) }
+        → All FitsItsLine (printed_events c workers (history_on c channels.now)) }
 {
     for place in 0..CHANNELS {
         let c = ChannelNo::at(place);
@@ -96,7 +96,7 @@ fn print_history<A: Allocator, W: Write>(
         → Prints W.contents text.old text.new
         (flat_map (numbered_event_line c workers) (enumerate_from 0 channel.now)) }
     ensures fits { (workers : List (Worker A)) → AreAuthorsOn c workers channel.now authors.now
-        → All FitsItsLine (told_events c workers channel.now) }
+        → All FitsItsLine (printed_events c workers channel.now) }
 {
     for (number, event) in channel.history().iter().enumerate() {
         print_event_by(text, c, number, &authors.of(number), event);

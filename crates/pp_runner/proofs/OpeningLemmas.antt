@@ -40,8 +40,8 @@ same_before place m c below other =
     not_before_it (place + 1) m c (omega (arith, l, apart)) ∙ sym (not_before_it place m c l)) (cases_lt (channel_index c) place)
 
 -- the channel at a place has not been told of before
-pub untold : (place : ℕ) (m : MachineState) (log : List Entry) → place < channel_count → IsOpeningLog (opened_before place m) log → times_logged (channel_number place) 0 log ≡ 0
-untold place m log below is =
+pub unlogged : (place : ℕ) (m : MachineState) (log : List Entry) → place < channel_count → IsOpeningLog (opened_before place m) log → times_logged (channel_number place) 0 log ≡ 0
+unlogged place m log below is =
     let here = channel_places.place_of_number place below in
     let none : length (opened_before place m (channel_number place)) ≡ 0 = ap length (not_before_it place m (channel_number place) (omega (arith, here))) in
     is.no_other (channel_number place) 0 (omega (arith, none))

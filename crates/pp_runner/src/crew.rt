@@ -85,7 +85,7 @@ fn begin<'s, 'e: 's, G: Gate + Sync, A: Allocator + Copy + Send + Sync>(
     Ok(Begun::Apart(child))
 }
 
-/// Runs a worker that is to run here, or waits for its thread, and puts it behind the others.
+/// Runs a worker that is to run here, or waits for its thread, and puts it after the others.
 #[inline(never)]
 fn finish<R: Threads, G: Gate, A: Allocator + Copy>(
     rt: &R,

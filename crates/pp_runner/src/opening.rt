@@ -39,7 +39,7 @@ pub fn opening_line<A: Allocator + Copy>(
 fn activate<A: Allocator + Copy>(line: &mut Line<A>, channel: ChannelNo)
     requires room { 1 ≤ line.old.log.room }
     requires alone { line.old.view.shares ≡ line.old.view.whole }
-    requires untold { times_logged channel 0 line.old.log.entries ≡ 0 }
+    requires unlogged { times_logged channel 0 line.old.log.entries ≡ 0 }
     ensures written { line.new.log ≡ appended line.old.log
         (record { channel = channel; number = 0; what = Did Activate }) }
     ensures within { IsWithin line.new.view.seen line.new.log.entries }

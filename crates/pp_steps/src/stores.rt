@@ -8,7 +8,7 @@ ghost use Rattle.pp_steps.specs.Stores.{KeepsOthers, block_stores, five_places, 
 use pp_machine::{Block, BlockKind, Pp};
 use pp_word::{Opcode, Word6, Word12, decode, index_address, next};
 
-/// Some places of a processor's memory, one behind another; 0000 follows 7777 (octal).
+/// Some places of a processor's memory, one after another; 0000 follows 7777 (octal).
 #[derive(Clone, Copy)]
 pub(crate) struct Stores {
     pub(crate) first: u32,

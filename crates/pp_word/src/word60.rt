@@ -5,34 +5,35 @@ ghost use Rattle.std.specs.Prelude.{◌≡◌, ◌%◌, ◌^◌, ◌<◌, ◌↔
 use std::marker::Model;
 
 /// A word of 60 bits, 0 to 2^60 - 1, twenty octal digits. Contracts see it as that number.
-#[derive(Clone, Copy, PartialEq, Eq)]
+#[derive(Clone, Copy)]
 pub struct Word60 {
-    // In halves, so that a type that holds a word is aligned to 4 bytes, not 8: an answer to a
-    // processor, one of which is kept for each step of a run by threads, takes 16 bytes, not 24.
-    upper: u32,
-    lower: u32,
+    // In bytes, the least first, so that a type that holds a word is not aligned to 8: an answer to
+    // a processor, one of which is kept for each step of a run by threads, takes 10 bytes, not 24.
+    bytes: [u8; 8],
 }
 
 impl Model for Word60 {
-    ghost use Rattle.std.specs.Prelude.{ℕ, ◌+◌, ◌*◌, ◌/◌, ◌%◌, ◌^◌, ◌<◌};
-    ghost use Rattle.std.proofs.Common.{ap₂};
-    ghost use Rattle.std.proofs.lemmas.Nat.{div-mul-add, mod-mul-add};
+    ghost use Rattle.std.specs.Prelude.{◌≡◌, ℕ, ◌^◌, ◌<◌, length, slice_index};
+    ghost use Rattle.std.specs.Int.{from_le_bytes, to_le_bytes, w64};
+    ghost use Rattle.std.proofs.Common.{ap, refl};
+    ghost use Rattle.std.proofs.lemmas.Nat.{le_bytes_8};
 
     ghost Value = { ℕ };
 
-    ghost view = { λ w. w.upper * 2 ^ 32 + w.lower };
+    ghost view = { λ w. from_le_bytes w64 w.bytes };
 
-    ghost invariant = { λ w. (w.upper < 2 ^ 28) × (w.lower < 2 ^ 32) };
+    ghost invariant = { λ w. (length w.bytes ≡ 8)
+        × ((i : ℕ) → slice_index w.bytes i < 256) × (from_le_bytes w64 w.bytes < 2 ^ 60) };
 
-    ghost inverse = { λ n. record { upper = n / 2 ^ 32; lower = n % 2 ^ 32 } };
+    ghost inverse = { λ n. record { bytes = to_le_bytes w64 n } };
 
-    ghost inverse_ok = { λ w is. ap₂ (λ u l. record { upper = u; lower = l })
-        (div-mul-add w.upper (2 ^ 32) w.lower is.1) (mod-mul-add w.upper (2 ^ 32) w.lower is.1) };
+    ghost inverse_ok = { λ w is. ap (λ b. record { bytes = b })
+        (le_bytes_8 w.bytes (from_le_bytes w64 w.bytes) is.0 is.1 refl) };
 }
 
 impl Word60 {
     /// The word 0.
-    pub const ZERO: Word60 = Word60 { upper: 0, lower: 0 };
+    pub const ZERO: Word60 = Word60 { bytes: [0; 8] };
 
     /// The word of this number, or nothing if it needs more than 60 bits.
     pub fn new(value: u64) -> Option<Self>
@@ -52,7 +53,7 @@ impl Word60 {
         ensures value { result ≡ self }
         ensures small { result < 2 ^ 60 }
     {
-        u64::from(self.upper) * (1 << 32) + u64::from(self.lower)
+        u64::from_le_bytes(self.bytes)
     }
 
     /// The low 60 bits of a number.
@@ -62,8 +63,28 @@ impl Word60 {
     {
         let bits = number % (1 << 60);
         Word60 {
-            upper: (bits >> 32) as u32,
-            lower: (bits % (1 << 32)) as u32,
+            bytes: bits.to_le_bytes(),
         }
     }
+}
+
+impl PartialEq for Word60 {
+    ghost use Rattle.std.specs.Prelude.{nat_eq};
+    ghost use Rattle.std.specs.Cmp.Rules.{comparing};
+    ghost use Rattle.std.proofs.Common.{rules};
+
+    ghost eq = { nat_eq };
+
+    ghost laws = { Prim.search (comparing, rules) };
+
+    fn eq(&self, other: &Word60) -> bool {
+        self.get() == other.get()
+    }
+}
+
+impl Eq for Word60 {
+    ghost use Rattle.std.specs.Cmp.Rules.{comparing};
+    ghost use Rattle.std.proofs.Common.{rules};
+
+    ghost laws = { Prim.search (comparing, rules) };
 }

@@ -28,12 +28,12 @@ loop-other-preserved g c = record {
 
 pub returns : goal.returns
 returns g c histories recorded =
-    let untold = c.in_ok-recorded.recorded.items in
+    let unplaced = c.in_ok-recorded.recorded.items in
     let log = c.args.log.now in
     let others = c.args.others.now in
     let rest = flat_map (λ other. other.1.items) others in
     c.loop-other.invariant.filled
     ∙ (ap (λ os. fold with_entry c.put_log.new.histories.items (flat_map (λ other. other.1.items) os)) (take_all c.loop-other.other-index others c.loop-other-test.false)
     ∙ (ap (λ hs. fold with_entry hs rest) c.put_log.ensures
-    ∙ (sym (fold-append with_entry untold log rest)
-    ∙ histories_filled histories untold c.args.seen.now (log ++ rest) recorded c.in_ok-recorded.ensures.each_channel c.in_ok-recorded.ensures.each_event)))
+    ∙ (sym (fold-append with_entry unplaced log rest)
+    ∙ histories_filled histories unplaced c.args.seen.now (log ++ rest) recorded c.in_ok-recorded.ensures.each_channel c.in_ok-recorded.ensures.each_event)))

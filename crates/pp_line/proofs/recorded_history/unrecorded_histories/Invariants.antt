@@ -4,7 +4,7 @@ use Rattle.pp_line.proofs.recorded_history.unrecorded_histories.Given as goal
 
 abbrev pub invariant-loop-count : goal.invariant-loop-count
 invariant-loop-count g l = record {
-  each : length l.untold.items ≡ l.count-index;
-  room : vec_capacity l.untold ≡ channel_count;
-  events : (p : ℕ) → p < l.count-index → length (get_or l.untold.items p []) ≡ get_or l.seen p 0;
+  each : length l.unplaced.items ≡ l.count-index;
+  room : vec_capacity l.unplaced ≡ channel_count;
+  events : (p : ℕ) → p < l.count-index → length (get_or l.unplaced.items p []) ≡ get_or l.seen p 0;
 }

@@ -6,7 +6,7 @@ use Rattle.pp_numbers.specs.ChannelNo.{all_channels, channel_count, channel_inde
 use Rattle.pp_channel.specs.History.{history_on}
 use Rattle.pp_text.specs.TextWriter.{Prints}
 use Rattle.pp_report.specs.PrintedReport.{channel_events}
-use Rattle.pp_report.specs.ReportLaw.{FitsItsLine, told_events}
+use Rattle.pp_report.specs.ReportLaw.{FitsItsLine, printed_events}
 use Rattle.pp_text.proofs.PrintingLemmas.{prints_nothing, prints_on, walk_zero, walk_more}
 use Rattle.pp_report.proofs.AuthorLemmas.{authors_here}
 use Rattle.pp_report.proofs.report_text.print_events.Goals as goal
@@ -24,7 +24,7 @@ loop-place-preserved g c workers are =
     c.index.ensures.place (omega (arith, c.index.ensures.below, c.requires)) c.index-authors-index.is c.channel_of.ensures are in (
       prints_on _ _ _ _ _ _ _ so_far.0 (rw (c.channel_of.ensures, number) at (c.print_history.ensures.text workers here))
           (walk_more (channel_events workers c.args.channels.now) channel_number c.loop-place.place),
-      below_more (λ (k : ℕ). All FitsItsLine (told_events (channel_number k) workers (history_on (channel_number k) c.args.channels.now)))
+      below_more (λ (k : ℕ). All FitsItsLine (printed_events (channel_number k) workers (history_on (channel_number k) c.args.channels.now)))
           c.loop-place.place so_far.1 (rw (c.channel_of.ensures, number) at (c.print_history.ensures.fits workers here)),
     )
 
@@ -35,6 +35,6 @@ returns g c =
       text = λ workers are. subst (λ (k : ℕ). Prints g.W.Write.contents c.args.text.now c.loop-place.text (flat_map (channel_events workers c.args.channels.now) (tabulate k channel_number))) all (c.loop-place.invariant workers are).0;
       fits = λ workers are n is.
           let within : channel_index n < c.loop-place.place = omega (arith, channel_places.place_below n is) in
-          subst (λ (k : ℕ). All FitsItsLine (told_events k workers (history_on k c.args.channels.now))) (channel_places.number_of_place n is)
+          subst (λ (k : ℕ). All FitsItsLine (printed_events k workers (history_on k c.args.channels.now))) (channel_places.number_of_place n is)
           ((c.loop-place.invariant workers are).1 (channel_index n) within);
     }

@@ -7,7 +7,7 @@ use Rattle.pp_text.specs.TextWriter.{Prints}
 use Rattle.pp_report.proofs.EventLineLemmas.{lines_go_on}
 use Rattle.pp_report.proofs.ReportLawLemmas.{tellings_go_on}
 use Rattle.pp_report.specs.PrintedReport.{author_place, numbered_event_line}
-use Rattle.pp_report.specs.ReportLaw.{FitsItsLine, told_events}
+use Rattle.pp_report.specs.ReportLaw.{FitsItsLine, printed_events}
 use Rattle.pp_report.proofs.report_text.print_history.Goals as goal
 
 pub loop-number-init : goal.loop-number-init
@@ -30,7 +30,7 @@ loop-number-preserved g c workers are =
 
 pub returns-clause-fits : goal.returns-clause-fits
 returns-clause-fits g c workers are =
-    subst (λ (h : List Event). All FitsItsLine (told_events c.args.c workers h))
+    subst (λ (h : List Event). All FitsItsLine (printed_events c.args.c workers h))
     (take_all c.loop-number.number c.args.channel.now (rw c.history-event-items.ensures.value at c.loop-number-test.false))
     (c.loop-number.invariant workers are).1
 

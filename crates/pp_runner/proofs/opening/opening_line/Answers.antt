@@ -6,15 +6,15 @@ use Rattle.pp_line.specs.LineLog.{IsWithin, event_entry}
 use Rattle.pp_line.specs.declared.entry.Entry.{Entry}
 use Rattle.pp_channel.specs.declared.event.Event.TheVariants.{Activate}
 use Rattle.pp_machine.specs.MachineState.{is_opened}
-use Rattle.pp_runner.proofs.OpeningLemmas.{opened_before, untold, one_opened, one_not_opened, all_opened, opened_seen}
+use Rattle.pp_runner.proofs.OpeningLemmas.{opened_before, unlogged, one_opened, one_not_opened, all_opened, opened_seen}
 use Rattle.pp_runner.proofs.opening.opening_line.Goals.{then-opened, else-opened}
 use Rattle.pp_runner.proofs.opening.opening_line.Goals as goal
 
-pub activate-requires-clause-untold : goal.activate-requires-clause-untold
-activate-requires-clause-untold g c =
+pub activate-requires-clause-unlogged : goal.activate-requires-clause-unlogged
+activate-requires-clause-unlogged g c =
     let log = c.loop-place.line.log.entries in
     ap (λ n. times_logged n 0 log) c.at-channel.ensures.number
-    ∙ untold c.loop-place.place c.args.machine.now log (omega (arith, c.loop-place-test.true)) c.loop-place.invariant.opened
+    ∙ unlogged c.loop-place.place c.args.machine.now log (omega (arith, c.loop-place-test.true)) c.loop-place.invariant.opened
 
 pub loop-place-preserved : goal.loop-place-preserved
 loop-place-preserved g c =
