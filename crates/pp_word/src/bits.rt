@@ -3,11 +3,9 @@
 ghost use Rattle.std.specs.Prelude.{ℕ, ◌≡◌, ◌+◌, ◌-◌, ◌%◌, ◌<◌, ◌≤◌, not, ◌&&◌, if◌then◌else◌};
 ghost use Rattle.pp_word.specs.Bits.{bit, shift, complement, logical_product, logical_difference, selective_clear};
 
+use crate::ones_complement::ALL_ONES;
 use crate::word6::Word6;
 use crate::word18::Word18;
-
-/// A word of 18 ones.
-const ALL_ONES: u32 = 0o777_777;
 
 /// Each bit inverted.
 pub fn complement18(a: Word18) -> Word18

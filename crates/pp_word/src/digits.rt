@@ -17,10 +17,7 @@ pub fn numeral(base: u64, most: usize, field: &[u8]) -> Option<u64>
     }
     let mut value = 0;
     for character in field {
-        if *character < b'0' {
-            return None;
-        }
-        let digit = u64::from(*character - b'0');
+        let digit = u64::from(character.checked_sub(b'0')?);
         if digit >= base {
             return None;
         }

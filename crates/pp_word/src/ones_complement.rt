@@ -5,8 +5,8 @@ ghost use Rattle.pp_word.specs.OnesComplement.{sum, difference, IsSum, IsDiffere
 
 use crate::word18::Word18;
 
-/// 777777: the other zero.
-const ALL_ONES: u32 = 0o777_777;
+/// 777777, a word of 18 ones: the other zero.
+pub(crate) const ALL_ONES: u32 = 0o777_777;
 
 /// The ones' complement sum; 777777 results only from 777777 + 777777.
 pub fn add18(a: Word18, b: Word18) -> Word18
@@ -26,8 +26,7 @@ pub fn sub18(a: Word18, b: Word18) -> Word18
     ensures congruence { IsDifference a b result }
     ensures value { result ≡ difference a b }
 {
-    let minuend = a.get();
-    let subtrahend = b.get();
+    let (minuend, subtrahend) = (a.get(), b.get());
     if subtrahend <= minuend {
         Word18::fitting(minuend - subtrahend)
     } else {

@@ -49,9 +49,8 @@ impl Word12 {
     pub fn truncated(number: u32) -> Self
         ensures { result ≡ number % 2 ^ 12 }
     {
-        Word12 {
-            value: (number & 0o7777) as u16,
-        }
+        let value = (number & 0o7777) as u16;
+        Word12 { value }
     }
 }
 
@@ -60,8 +59,7 @@ impl From<Word6> for Word12 {
     ghost from_gives = { λ word result. result ≡ word };
 
     fn from(word: Word6) -> Word12 {
-        Word12 {
-            value: u16::from(word.get()),
-        }
+        let value = u16::from(word.get());
+        Word12 { value }
     }
 }

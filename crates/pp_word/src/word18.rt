@@ -34,11 +34,7 @@ impl Word18 {
         ensures fits { IsSome result ↔ (value < 2 ^ 18) }
         ensures value { IfSome result (λ w. w ≡ value) }
     {
-        if value < 1 << 18 {
-            Some(Word18 { value })
-        } else {
-            None
-        }
+        (value < 1 << 18).then_some(Word18::truncated(value))
     }
 
     /// The number of this word.
@@ -61,9 +57,8 @@ impl Word18 {
     pub fn truncated(number: u32) -> Self
         ensures { result ≡ number % 2 ^ 18 }
     {
-        Word18 {
-            value: number & 0o777_777,
-        }
+        let value = number & 0o777_777;
+        Word18 { value }
     }
 
     /// The low twelve bits of this word.
@@ -79,9 +74,8 @@ impl From<Word6> for Word18 {
     ghost from_gives = { λ word result. result ≡ word };
 
     fn from(word: Word6) -> Word18 {
-        Word18 {
-            value: u32::from(word.get()),
-        }
+        let value = u32::from(word.get());
+        Word18 { value }
     }
 }
 

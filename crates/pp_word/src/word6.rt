@@ -26,11 +26,7 @@ impl Word6 {
         ensures fits { IsSome result ↔ (value < 2 ^ 6) }
         ensures value { IfSome result (λ w. w ≡ value) }
     {
-        if value < 1 << 6 {
-            Some(Word6 { value })
-        } else {
-            None
-        }
+        (value < 1 << 6).then_some(Word6::truncated(value))
     }
 
     /// The number of this word.
@@ -45,8 +41,7 @@ impl Word6 {
     pub fn truncated(number: u8) -> Self
         ensures { result ≡ number % 2 ^ 6 }
     {
-        Word6 {
-            value: number & 0o77,
-        }
+        let value = number & 0o77;
+        Word6 { value }
     }
 }

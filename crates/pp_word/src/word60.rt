@@ -40,11 +40,7 @@ impl Word60 {
         ensures fits { IsSome result ↔ (value < 2 ^ 60) }
         ensures value { IfSome result (λ w. w ≡ value) }
     {
-        if value < 1 << 60 {
-            Some(Word60::truncated(value))
-        } else {
-            None
-        }
+        (value < 1 << 60).then_some(Word60::truncated(value))
     }
 
     /// The number of this word.
@@ -61,10 +57,8 @@ impl Word60 {
     pub fn truncated(number: u64) -> Self
         ensures { result ≡ number % 2 ^ 60 }
     {
-        let bits = number % (1 << 60);
-        Word60 {
-            bytes: bits.to_le_bytes(),
-        }
+        let bytes = (number % (1 << 60)).to_le_bytes();
+        Word60 { bytes }
     }
 }
 
