@@ -32,12 +32,11 @@ impl Model for ChannelNo {
         ap (λ k. record { place = k }) (channel_places.place_again c.place names) };
 }
 
+#[tactic(auto, using(crate::specs::ChannelNo::channel_places), // numbers and places
+unfolding(crate::specs::ChannelNo::names_channel, crate::specs::ChannelNo::channel_number, // with a gap
+crate::specs::GappedNumbers::is_number, crate::specs::GappedNumbers::number_of))]
 impl ChannelNo {
     /// The channel of this number, or nothing from 14 to 17 (octal) and from 34 on.
-    #[tactic(auto, unfolding(crate::specs::ChannelNo::names_channel, // which numbers there are
-    crate::specs::ChannelNo::channel_number, // in order
-    crate::specs::GappedNumbers::is_number, // with a gap
-    crate::specs::GappedNumbers::number_of))]
     pub fn new(number: u8) -> Option<Self>
         ensures exists { IsSome result ↔ IsTrue (names_channel number) }
         ensures value { IfSome result (λ c. c ≡ number) }
@@ -51,10 +50,6 @@ impl ChannelNo {
     }
 
     /// Its number.
-    #[tactic(auto, unfolding(crate::specs::ChannelNo::names_channel, // which numbers there are
-    crate::specs::ChannelNo::channel_number, // in order
-    crate::specs::GappedNumbers::is_number, // with a gap
-    crate::specs::GappedNumbers::number_of))]
     pub fn get(self) -> u8
         ensures value { result ≡ self }
         ensures names { IsTrue (names_channel result) }
@@ -67,7 +62,6 @@ impl ChannelNo {
     }
 
     /// Its place in a list of all channels in order of number.
-    #[tactic(auto, using(crate::specs::ChannelNo::channel_places))]
     pub fn index(self) -> usize
         ensures place { result ≡ channel_index self }
         ensures below { result < channel_count }
@@ -78,7 +72,6 @@ impl ChannelNo {
     }
 
     /// The channel at a place of that list.
-    #[tactic(auto, using(crate::specs::ChannelNo::channel_places))]
     pub fn at(place: usize) -> Self
         requires { place < channel_count }
         ensures number { result ≡ channel_number place }

@@ -5,9 +5,6 @@ ghost use Rattle.pp_numbers.specs.Limits.{RunLimits, AreLimits};
 
 use std::marker::Model;
 
-/// The greatest number of steps of a worker (decimal).
-const MOST_STEPS: u32 = 100_000;
-
 /// How many steps a worker makes at most, and how often in a row it tries one at which it is held.
 #[derive(Clone, Copy)]
 pub struct Limits {
@@ -34,7 +31,7 @@ impl Limits {
         ensures exists { IsSome result ↔ AreLimits (record { steps = steps; patience = patience }) }
         ensures value { IfSome result (λ l. l ≡ record { steps = steps; patience = patience }) }
     {
-        if steps == 0 || steps > MOST_STEPS || patience == 0 {
+        if steps == 0 || steps > 100_000 || patience == 0 {
             return None;
         }
         Some(Limits { steps, patience })

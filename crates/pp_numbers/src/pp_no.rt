@@ -32,12 +32,11 @@ impl Model for PpNo {
         ap (λ k. record { place = k }) (processor_places.place_again n.place names) };
 }
 
+#[tactic(auto, using(crate::specs::PpNo::processor_places), // numbers and places
+unfolding(crate::specs::PpNo::names_processor, crate::specs::PpNo::processor_number, // with a gap
+crate::specs::GappedNumbers::is_number, crate::specs::GappedNumbers::number_of))]
 impl PpNo {
     /// The processor of this number, or nothing from 12 to 17 (octal) and from 32 on.
-    #[tactic(auto, unfolding(crate::specs::PpNo::names_processor, // which numbers there are
-    crate::specs::PpNo::processor_number, // in order
-    crate::specs::GappedNumbers::is_number, // with a gap
-    crate::specs::GappedNumbers::number_of))]
     pub fn new(number: u8) -> Option<Self>
         ensures exists { IsSome result ↔ IsTrue (names_processor number) }
         ensures value { IfSome result (λ n. n ≡ number) }
@@ -51,10 +50,6 @@ impl PpNo {
     }
 
     /// Its number.
-    #[tactic(auto, unfolding(crate::specs::PpNo::names_processor, // which numbers there are
-    crate::specs::PpNo::processor_number, // in order
-    crate::specs::GappedNumbers::is_number, // with a gap
-    crate::specs::GappedNumbers::number_of))]
     pub fn get(self) -> u8
         ensures value { result ≡ self }
         ensures names { IsTrue (names_processor result) }
@@ -67,7 +62,6 @@ impl PpNo {
     }
 
     /// Its place in a list of all processors in the barrel's order.
-    #[tactic(auto, using(crate::specs::PpNo::processor_places))]
     pub fn index(self) -> usize
         ensures place { result ≡ processor_index self }
         ensures below { result < processor_count }
@@ -78,7 +72,6 @@ impl PpNo {
     }
 
     /// The processor at a place in the barrel's order.
-    #[tactic(auto, using(crate::specs::PpNo::processor_places))]
     pub fn at(place: usize) -> Self
         requires { place < processor_count }
         ensures number { result ≡ processor_number place }
@@ -88,15 +81,9 @@ impl PpNo {
     }
 
     /// The processor at the next place of twenty; after the last comes the first.
-    #[tactic(auto, using(crate::specs::PpNo::processor_places))]
     pub fn next(self) -> Self
         ensures { result ≡ processor_number ((processor_index self + 1) % processor_count) }
     {
-        let place = self.index() + 1;
-        if place < PROCESSORS {
-            PpNo::at(place)
-        } else {
-            PpNo::at(0)
-        }
+        PpNo::at((self.index() + 1) % PROCESSORS)
     }
 }

@@ -17,19 +17,13 @@ pub enum Profile {
     Twenty,
 }
 
-/// The number of processors of the smaller machine (decimal).
-const TEN: usize = 10;
-
-/// The number of channels of the smaller machine (decimal).
-const TWELVE: usize = 12;
-
 impl Profile {
     /// The number of its processors, 10 or 20 (decimal), and of the turns in a round of the barrel.
     pub fn processors(self) -> usize
         ensures { result ≡ processors_in self }
     {
         match self {
-            Profile::Ten => TEN,
+            Profile::Ten => 10,
             Profile::Twenty => PROCESSORS,
         }
     }
@@ -39,7 +33,7 @@ impl Profile {
         ensures { result ≡ channels_in self }
     {
         match self {
-            Profile::Ten => TWELVE,
+            Profile::Ten => 12,
             Profile::Twenty => CHANNELS,
         }
     }
@@ -53,11 +47,7 @@ impl Profile {
         ensures value { IfSome result (λ n. n ≡ number) }
     {
         let n = PpNo::new(number)?;
-        if n.index() < self.processors() {
-            Some(n)
-        } else {
-            None
-        }
+        (n.index() < self.processors()).then_some(n)
     }
 
     /// Its channel of this number, or nothing from 14 (octal) on under `Ten`, from 14 to 17 and
@@ -67,12 +57,9 @@ impl Profile {
         ensures exists { IsSome result ↔ IsTrue (has_channel self number) }
         ensures value { IfSome result (λ c. c ≡ number) }
     {
-        if usize::from(number) < TWELVE {
-            return ChannelNo::new(number);
+        if number >= 0o14 && matches!(self, Profile::Ten) {
+            return None;
         }
-        match self {
-            Profile::Ten => None,
-            Profile::Twenty => ChannelNo::new(number),
-        }
+        ChannelNo::new(number)
     }
 }
