@@ -1,10 +1,10 @@
-//! What a channel answers: the table of operations, and the law that it is the answer by the
-//! history.
+//! What a channel answers: the table of operations, and the laws of histories.
 
 ghost use Rattle.std.specs.Prelude.{◌≡◌, ◌↔◌, List, [], ◌∷◌, ◌++◌, Some, IfSome};
 ghost use Rattle.pp_channel.specs.declared.{chan_op.ChanOp.ChanOp, event.Event.Event, reply.Reply.Reply};
 ghost use Rattle.pp_channel.specs.History.{IsLawful, HasTwelveBitWord};
 ghost use Rattle.pp_channel.specs.Answer.{IsReady, IsAnswer, event_by, event_of, reply_made, reply_shown, reply_to, history_after, flags_of, flags_after};
+ghost use Rattle.pp_channel.specs.Law.{KeepsLaw};
 ghost use Rattle.pp_channel.specs.Session.{word_put};
 
 use crate::chan_op::ChanOp;
@@ -24,6 +24,11 @@ pub fn answer_law()
         → IsAnswer h op reply after ↔ ((reply ≡ reply_to op h) × (after ≡ history_after op h)) }
     ensures flags { (h : List Event) (e : Event) → IsLawful h → IsLawful (h ++ e ∷ [])
         → flags_of (h ++ e ∷ []) ≡ flags_after e }
+{}
+
+/// Every lawful history keeps the law of the words that pass.
+pub fn session_law()
+    ensures { (h : List Event) → IsLawful h → KeepsLaw h }
 {}
 
 /// The event that an operation makes, by the flags and the word in the register; nothing if it only
@@ -82,20 +87,12 @@ pub fn reply_shown(op: &ChanOp, state: &ChannelState) -> Reply
 pub fn flags_after(event: &Event) -> Flags
     ensures { result ≡ flags_after event.now }
 {
-    match event {
-        Event::Activate | Event::Take(_) => Flags {
-            active: true,
-            full: false,
-        },
-        Event::Put(_) => Flags {
-            active: true,
-            full: true,
-        },
-        Event::Disconnect | Event::Function(_) => Flags {
-            active: false,
-            full: false,
-        },
-    }
+    let (active, full) = match event {
+        Event::Activate | Event::Take(_) => (true, false),
+        Event::Put(_) => (true, true),
+        Event::Disconnect | Event::Function(_) => (false, false),
+    };
+    Flags { active, full }
 }
 
 /// The word in the register after an event.

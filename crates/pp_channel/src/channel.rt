@@ -45,10 +45,7 @@ impl<A: Allocator> Channel<A> {
         ensures { result ≡ [] }
     {
         Channel {
-            flags: Flags {
-                active: false,
-                full: false,
-            },
+            flags: ChannelState::INACTIVE.flags,
             register: None,
             events: Vec::new(alloc),
         }
@@ -60,10 +57,7 @@ impl<A: Allocator> Channel<A> {
         requires twelve_bits { HasTwelveBitWords events.items }
         ensures { result ≡ events.items }
     {
-        let mut flags = Flags {
-            active: false,
-            full: false,
-        };
+        let mut flags = ChannelState::INACTIVE.flags;
         let mut register = None;
         if let Some(last) = events.last() {
             flags = flags_after(last);

@@ -47,8 +47,7 @@ impl<A: Allocator> Locked<A> {
         ensures lawful { IsLawful result }
         ensures twelve_bits { HasTwelveBitWords result }
     {
-        let Locked { channel } = self;
-        let channel = channel.into_inner();
+        let channel = self.channel.into_inner();
         // Reveals to the proof that the history is lawful.
         let _history = channel.history();
         channel
