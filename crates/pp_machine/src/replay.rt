@@ -17,10 +17,7 @@ fn reply_fits(operation: &ChanOp, reply: &Reply) -> bool
     match reply {
         Reply::Flags(_) => operation.only_looks(),
         Reply::Held(_) => !operation.only_looks(),
-        Reply::Done => match operation {
-            ChanOp::Probe | ChanOp::Take => false,
-            ChanOp::Activate | ChanOp::Disconnect | ChanOp::Put(_) | ChanOp::Function(_) => true,
-        },
+        Reply::Done => !matches!(operation, ChanOp::Probe | ChanOp::Take),
         Reply::Word(_) => matches!(operation, ChanOp::Take),
     }
 }

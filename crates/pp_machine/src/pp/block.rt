@@ -41,10 +41,7 @@ fn following_place(place: Word12) -> Word12
     requires { place < 0o7777 }
     ensures { result ≡ next_place place }
 {
-    match Word12::new(place.get() + 1) {
-        Some(following) => following,
-        None => place,
-    }
+    Word12::new(place.get() + 1).unwrap_or(place)
 }
 
 impl Pp {
@@ -171,76 +168,57 @@ impl Pp {
         }
     }
 
-    /// CRM: the start of a block of `left` central words.
-    pub(super) fn start_central_in(&mut self, left: Word12)
-        requires { self.old.state ≡ PpState.Running }
-        ensures { self.new ≡ starts self.old left (BlockKind.CentralIn left) }
-    {
-        self.start_block(u32::from(left.get()), BlockKind::CentralIn { left });
-    }
-
-    /// CWM: the start of a block of `left` central words.
-    pub(super) fn start_central_out(&mut self, left: Word12)
-        requires { self.old.state ≡ PpState.Running }
-        ensures { self.new ≡ starts self.old left (BlockKind.CentralOut left) }
-    {
-        self.start_block(u32::from(left.get()), BlockKind::CentralOut { left });
-    }
-
     /// One central word of CRM, with the answer to its need.
     #[inline(always)]
-    pub(super) fn move_central_in(&mut self, left: Word12, place: Word12, answer: Answer)
+    pub(super) fn move_central_in(&mut self, left: Word12, place: Word12, word: Option<Word60>)
         requires running { self.old.state ≡ PpState.Running }
         requires block { self.old.block ≡ Some
             (record { kind = BlockKind.CentralIn left; place = place }) }
         ensures { self.new ≡ answered (block_word
-            (BlockKind.CentralIn left) place self.old) self.old answer }
+            (BlockKind.CentralIn left) place self.old) self.old (Answer.Read word) }
     {
-        match answer {
-            Answer::Read(Some(central)) => {
+        match word {
+            Some(central) => {
                 self.receive(place, central);
                 let left = one_less(left);
                 self.count_up(left, BlockKind::CentralIn { left }, place);
             }
-            Answer::Read(None) => self.fault(PAST_CENTRAL_MEMORY),
-            _ => {}
+            None => self.fault(PAST_CENTRAL_MEMORY),
         }
     }
 
     /// One central word of CWM, with the answer to its need.
     #[inline(always)]
-    pub(super) fn move_central_out(&mut self, left: Word12, place: Word12, answer: Answer)
+    pub(super) fn move_central_out(&mut self, left: Word12, place: Word12, written: bool)
         requires running { self.old.state ≡ PpState.Running }
         requires block { self.old.block ≡ Some
             (record { kind = BlockKind.CentralOut left; place = place }) }
         ensures { self.new ≡ answered (block_word
-            (BlockKind.CentralOut left) place self.old) self.old answer }
+            (BlockKind.CentralOut left) place self.old) self.old (Answer.Wrote written) }
     {
-        match answer {
-            Answer::Wrote(true) => {
-                let left = one_less(left);
-                self.count_up(left, BlockKind::CentralOut { left }, place);
-            }
-            Answer::Wrote(false) => self.fault(PAST_CENTRAL_MEMORY),
-            _ => {}
+        if written {
+            let left = one_less(left);
+            self.count_up(left, BlockKind::CentralOut { left }, place);
+        } else {
+            self.fault(PAST_CENTRAL_MEMORY);
         }
     }
 
     /// One word of IAM, with the answer to its need: an inactive channel closes it with a word 0.
     #[inline(always)]
-    pub(super) fn move_input(&mut self, channel: ChannelNo, place: Word12, answer: Answer)
+    pub(super) fn move_input(&mut self, channel: ChannelNo, place: Word12, reply: Reply)
         requires running { self.old.state ≡ PpState.Running }
         requires block { self.old.block ≡ Some
             (record { kind = BlockKind.Input channel; place = place }) }
         ensures { self.new ≡ answered (block_word
-            (BlockKind.Input channel) place self.old) self.old answer }
+            (BlockKind.Input channel) place self.old) self.old (Answer.Channel reply) }
     {
-        match &answer {
-            Answer::Channel(Reply::Word(word)) => {
+        match &reply {
+            Reply::Word(word) => {
                 self.set(place, *word);
                 self.count_down(BlockKind::Input { channel }, place);
             }
-            Answer::Channel(Reply::Held(flags)) => {
+            Reply::Held(flags) => {
                 if !flags.active {
                     self.set(place, Word12::ZERO);
                     self.end();
@@ -252,16 +230,16 @@ impl Pp {
 
     /// One word of OAM, with the answer to its need: an inactive channel ends it.
     #[inline(always)]
-    pub(super) fn move_output(&mut self, channel: ChannelNo, place: Word12, answer: Answer)
+    pub(super) fn move_output(&mut self, channel: ChannelNo, place: Word12, reply: Reply)
         requires running { self.old.state ≡ PpState.Running }
         requires block { self.old.block ≡ Some
             (record { kind = BlockKind.Output channel; place = place }) }
         ensures { self.new ≡ answered (block_word
-            (BlockKind.Output channel) place self.old) self.old answer }
+            (BlockKind.Output channel) place self.old) self.old (Answer.Channel reply) }
     {
-        match answer {
-            Answer::Channel(Reply::Done) => self.count_down(BlockKind::Output { channel }, place),
-            Answer::Channel(Reply::Held(flags)) => {
+        match reply {
+            Reply::Done => self.count_down(BlockKind::Output { channel }, place),
+            Reply::Held(flags) => {
                 if !flags.active {
                     self.end();
                 }

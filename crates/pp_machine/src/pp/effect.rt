@@ -1,16 +1,14 @@
 //! What single instructions do.
 
-ghost use Rattle.std.specs.Prelude.{◌≡◌, ◌==◌, None};
-ghost use Rattle.pp_word.specs.Bits.{logical_difference, logical_product, selective_clear, shift};
+ghost use Rattle.std.specs.Prelude.{◌≡◌, None};
+ghost use Rattle.pp_word.specs.Bits.{logical_difference, logical_product};
 ghost use Rattle.pp_word.specs.OnesComplement.{sum, difference};
 ghost use Rattle.pp_machine.specs.Processor.{IsFaultNumber};
-ghost use Rattle.pp_machine.specs.Effect.{goes_on, goes_to, faults, jumps_or_stops, jumps_where, branches_where, calls, is_negative, leads_to_itself, loads, loads_word, adds_word, subtracts_word, differs_from_word, stores_word, replaces, replaces_by_sum, replaces_by_one_more, replaces_by_one_less};
+ghost use Rattle.pp_machine.specs.Effect.{goes_on, faults, jumps_or_stops, jumps_where, branches_where, calls, is_negative, leads_to_itself, loads, loads_word, adds_word, subtracts_word, differs_from_word, stores_word, replaces, replaces_by_sum, replaces_by_one_more, replaces_by_one_less};
 
 use crate::pp::Pp;
 use crate::pp_state::PpState;
-use pp_word::{
-    Word6, Word12, Word18, add18, and18, clear18, next, relative, shift18, sub18, xor18,
-};
+use pp_word::{Word6, Word12, Word18, add18, and18, next, relative, sub18, xor18};
 
 /// The uppermost bit of A: 1 in a negative number.
 const SIGN: u32 = 0o400_000;
@@ -29,13 +27,6 @@ impl Pp {
         ensures { self.new ≡ goes_on self.old words }
     {
         self.p = self.place_after_p(words);
-    }
-
-    /// P becomes a place.
-    pub(super) fn go_to(&mut self, place: Word12)
-        ensures { self.new ≡ goes_to self.old place }
-    {
-        self.p = place;
     }
 
     pub(super) fn fault(&mut self, number: u8)
@@ -89,13 +80,6 @@ impl Pp {
         self.p = next(target);
     }
 
-    /// A is zero; negative zero is not.
-    pub(super) fn is_zero(&self) -> bool
-        ensures { result ≡ (self.now.a == 0) }
-    {
-        self.a.get() == 0
-    }
-
     #[tactic(auto, using(crate::proofs::SignLemmas::uppermost_place))]
     pub(super) fn is_negative(&self) -> bool
         ensures { result ≡ is_negative self.now }
@@ -137,20 +121,6 @@ impl Pp {
         ensures { self.new ≡ loads self.old (logical_product self.old.a value) words }
     {
         self.load(and18(self.a, value), words);
-    }
-
-    /// SCN.
-    pub(super) fn clear(&mut self, d: Word6)
-        ensures { self.new ≡ loads self.old (selective_clear self.old.a d) 1 }
-    {
-        self.load(clear18(self.a, Word18::from(d)), 1);
-    }
-
-    /// SHN.
-    pub(super) fn shift(&mut self, d: Word6)
-        ensures { self.new ≡ loads self.old (shift self.old.a d) 1 }
-    {
-        self.load(shift18(self.a, d), 1);
     }
 
     /// A becomes the word at a place.

@@ -11,31 +11,9 @@ use crate::answer::Answer;
 use crate::block::BlockKind;
 use crate::pp::Pp;
 use crate::pp_state::{EXCHANGE_JUMP, NO_CENTRAL_PROCESSOR, NO_SUCH_CHANNEL, PpState};
-use pp_word::{Opcode, Word6, Word12, Word18, complement18};
+use pp_word::{Opcode, Word6, Word12, Word18, clear18, complement18, shift18};
 
 impl Pp {
-    /// IAM: the start of a block that comes in from channel d.
-    fn start_input(&mut self, d: Word6)
-        requires { self.old.state ≡ PpState.Running }
-        ensures { self.new ≡ answered (instruction Opcode.IAM self.old d) self.old Answer.Local }
-    {
-        match self.channel(d) {
-            Some(channel) => self.start_block(self.a.get(), BlockKind::Input { channel }),
-            None => self.fault(NO_SUCH_CHANNEL),
-        }
-    }
-
-    /// OAM: the start of a block that goes out on channel d.
-    fn start_output(&mut self, d: Word6)
-        requires { self.old.state ≡ PpState.Running }
-        ensures { self.new ≡ answered (instruction Opcode.OAM self.old d) self.old Answer.Local }
-    {
-        match self.channel(d) {
-            Some(channel) => self.start_block(self.a.get(), BlockKind::Output { channel }),
-            None => self.fault(NO_SUCH_CHANNEL),
-        }
-    }
-
     /// An instruction that needs nothing from outside, whatever its kind. It is compiled once, and
     /// what the barrel knows of a step need not be in memory for it.
     #[inline(never)]
@@ -47,10 +25,22 @@ impl Pp {
     {
         match op {
             Opcode::CRD | Opcode::CWD => unreachable!(),
-            Opcode::CRM => self.start_central_in(self.indirect(d)),
-            Opcode::CWM => self.start_central_out(self.indirect(d)),
-            Opcode::IAM => self.start_input(d),
-            Opcode::OAM => self.start_output(d),
+            Opcode::CRM => {
+                let left = self.indirect(d);
+                self.start_block(u32::from(left.get()), BlockKind::CentralIn { left });
+            }
+            Opcode::CWM => {
+                let left = self.indirect(d);
+                self.start_block(u32::from(left.get()), BlockKind::CentralOut { left });
+            }
+            Opcode::IAM => match self.channel(d) {
+                Some(channel) => self.start_block(self.a.get(), BlockKind::Input { channel }),
+                None => self.fault(NO_SUCH_CHANNEL),
+            },
+            Opcode::OAM => match self.channel(d) {
+                Some(channel) => self.start_block(self.a.get(), BlockKind::Output { channel }),
+                None => self.fault(NO_SUCH_CHANNEL),
+            },
             Opcode::AJM
             | Opcode::IJM
             | Opcode::FJM
@@ -74,17 +64,17 @@ impl Pp {
     {
         match op {
             Opcode::PSN => self.go_on(1),
-            Opcode::LJM => self.go_to(self.index(d)),
+            Opcode::LJM => self.p = self.index(d),
             Opcode::RJM => self.call(self.index(d)),
             Opcode::UJN => self.jump_or_stop(d),
-            Opcode::ZJN => self.jump_where(self.is_zero(), d),
-            Opcode::NJN => self.jump_where(!self.is_zero(), d),
+            Opcode::ZJN => self.jump_where(self.a.get() == 0, d),
+            Opcode::NJN => self.jump_where(self.a.get() != 0, d),
             Opcode::PJN => self.jump_where(!self.is_negative(), d),
             Opcode::MJN => self.jump_where(self.is_negative(), d),
-            Opcode::SHN => self.shift(d),
+            Opcode::SHN => self.load(shift18(self.a, d), 1),
             Opcode::LMN => self.differ(Word18::from(d), 1),
             Opcode::LPN => self.mask(Word18::from(d), 1),
-            Opcode::SCN => self.clear(d),
+            Opcode::SCN => self.load(clear18(self.a, Word18::from(d)), 1),
             Opcode::LDN => self.load(Word18::from(d), 1),
             Opcode::LCN => self.load(complement18(Word18::from(d)), 1),
             Opcode::ADN => self.add(Word18::from(d), 1),

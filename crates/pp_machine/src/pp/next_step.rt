@@ -41,6 +41,9 @@ pub(crate) fn ends(op: Opcode, d: Word6) -> bool
     }
 }
 
+#[tactic(auto, unfolding(crate::specs::NeedAndEffect::need, // what it asks
+crate::specs::NeedAndEffect::processor_after, // what the answer does
+crate::specs::NeedAndEffect::outcome))]
 impl Pp {
     /// Whether it is running and in no block, so that its next step is the instruction at P.
     pub(crate) fn is_at_instruction(&self) -> bool
@@ -75,9 +78,6 @@ impl Pp {
 
     /// Makes its next step if that is an instruction of the codes 00 to 57 (octal), and returns
     /// whether it was.
-    #[tactic(auto, unfolding(crate::specs::NeedAndEffect::need, // what it asks
-    crate::specs::NeedAndEffect::processor_after, // what the answer does
-    crate::specs::NeedAndEffect::outcome))]
     #[inline(always)]
     pub(crate) fn step_internal(&mut self, op: Opcode, d: Word6) -> bool
         requires { IsAtInstruction op d self.old }
@@ -96,7 +96,6 @@ impl Pp {
     }
 
     /// Whether its next step tests the flags of a channel: AJM, IJM, FJM or EJM.
-    #[tactic(auto, unfolding(crate::specs::NeedAndEffect::need))]
     pub(crate) fn tests_flags(&self, op: Opcode, d: Word6) -> bool
         requires { IsAtInstruction op d self.now }
         ensures { OnTrue result (need self.now
@@ -107,9 +106,6 @@ impl Pp {
     }
 
     /// Makes its next step, a test of a channel with these flags.
-    #[tactic(auto, unfolding(crate::specs::NeedAndEffect::need, // what it asks
-    crate::specs::NeedAndEffect::processor_after, // what the answer does
-    crate::specs::NeedAndEffect::outcome))]
     #[inline(always)]
     pub(crate) fn test_flags(&mut self, op: Opcode, d: Word6, flags: Flags)
         requires next { IsAtInstruction op d self.old }
@@ -119,17 +115,10 @@ impl Pp {
         ensures running { self.new.state ≡ PpState.Running }
         ensures free { self.new.block ≡ None }
     {
-        match op {
-            Opcode::AJM => self.branch_where(flags.active),
-            Opcode::IJM => self.branch_where(!flags.active),
-            Opcode::FJM => self.branch_where(flags.full),
-            Opcode::EJM => self.branch_where(!flags.full),
-            _ => {}
-        }
+        self.take_reply(op, d, Reply::Flags(flags));
     }
 
     /// What its next step, which `next_instruction` found, needs from outside.
-    #[tactic(auto, unfolding(crate::specs::NeedAndEffect::need))]
     #[inline(always)]
     pub fn wants_next(&self, next: &Option<Opcode>, d: Word6) -> Need
         requires { IsNext next.now d self.now }
@@ -171,9 +160,6 @@ impl Pp {
     }
 
     /// Makes its next step if that needs nothing from outside.
-    #[tactic(auto, unfolding(crate::specs::NeedAndEffect::need, // what it asks
-    crate::specs::NeedAndEffect::processor_after, // what the answer does
-    crate::specs::NeedAndEffect::outcome))]
     #[inline(always)]
     pub(crate) fn give_local(&mut self, next: &Option<Opcode>, d: Word6) -> Outcome
         requires next { IsNext next.now d self.old }
@@ -198,9 +184,6 @@ impl Pp {
     }
 
     /// Gives the reply of the channel that its next step needs.
-    #[tactic(auto, unfolding(crate::specs::NeedAndEffect::need, // what it asks
-    crate::specs::NeedAndEffect::processor_after, // what the answer does
-    crate::specs::NeedAndEffect::outcome))]
     #[inline(always)]
     pub(crate) fn give_reply(&mut self, next: &Option<Opcode>, d: Word6, reply: Reply) -> Outcome
         requires next { IsNext next.now d self.old }
@@ -221,9 +204,6 @@ impl Pp {
     }
 
     /// Gives the reply of the channel of its block.
-    #[tactic(auto, unfolding(crate::specs::NeedAndEffect::need, // what it asks
-    crate::specs::NeedAndEffect::processor_after, // what the answer does
-    crate::specs::NeedAndEffect::outcome))]
     #[inline(always)]
     fn move_by_reply(&mut self, reply: Reply) -> Outcome
         requires next { IsNext None 0 self.old }
@@ -235,16 +215,8 @@ impl Pp {
         match self.block {
             None => {}
             Some(Block { kind, place }) => match &kind {
-                BlockKind::Input { channel } => self.move_input(
-                    *channel,
-                    place,
-                    Answer::Channel(reply),
-                ),
-                BlockKind::Output { channel } => self.move_output(
-                    *channel,
-                    place,
-                    Answer::Channel(reply),
-                ),
+                BlockKind::Input { channel } => self.move_input(*channel, place, reply),
+                BlockKind::Output { channel } => self.move_output(*channel, place, reply),
                 BlockKind::CentralIn { .. } | BlockKind::CentralOut { .. } => {}
             },
         }
@@ -256,9 +228,6 @@ impl Pp {
     }
 
     /// Gives the central word that its next step needs, or none past the size.
-    #[tactic(auto, unfolding(crate::specs::NeedAndEffect::need, // what it asks
-    crate::specs::NeedAndEffect::processor_after, // what the answer does
-    crate::specs::NeedAndEffect::outcome))]
     #[inline(always)]
     pub(crate) fn give_central(&mut self, next: &Option<Opcode>, d: Word6, word: Option<Word60>)
         requires next { IsNext next.now d self.old }
@@ -271,11 +240,7 @@ impl Pp {
             None => match self.block {
                 None => {}
                 Some(Block { kind, place }) => match kind {
-                    BlockKind::CentralIn { left } => self.move_central_in(
-                        left,
-                        place,
-                        Answer::Read(word),
-                    ),
+                    BlockKind::CentralIn { left } => self.move_central_in(left, place, word),
                     BlockKind::CentralOut { .. }
                     | BlockKind::Input { .. }
                     | BlockKind::Output { .. } => {}
@@ -285,9 +250,6 @@ impl Pp {
     }
 
     /// Gives whether the central word that its next step writes was written.
-    #[tactic(auto, unfolding(crate::specs::NeedAndEffect::need, // what it asks
-    crate::specs::NeedAndEffect::processor_after, // what the answer does
-    crate::specs::NeedAndEffect::outcome))]
     #[inline(always)]
     pub(crate) fn give_written(&mut self, next: &Option<Opcode>, d: Word6, written: bool)
         requires next { IsNext next.now d self.old }
@@ -300,11 +262,7 @@ impl Pp {
             None => match self.block {
                 None => {}
                 Some(Block { kind, place }) => match kind {
-                    BlockKind::CentralOut { left } => self.move_central_out(
-                        left,
-                        place,
-                        Answer::Wrote(written),
-                    ),
+                    BlockKind::CentralOut { left } => self.move_central_out(left, place, written),
                     BlockKind::CentralIn { .. }
                     | BlockKind::Input { .. }
                     | BlockKind::Output { .. } => {}
