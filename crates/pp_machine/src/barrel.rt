@@ -8,7 +8,6 @@ ghost use Rattle.pp_machine.specs.Rounds.{RestBetween, PassesOverRest};
 use crate::cut::Cut;
 use crate::machine::Machine;
 use crate::pp::Pp;
-use crate::pp_state::PpState;
 use crate::quiet::run_ahead;
 use pp_numbers::{PROCESSORS, PpNo};
 use std::alloc::Allocator;
@@ -236,9 +235,8 @@ fn next_running<A: Allocator>(processors: &Vec<Pp, A>) -> [usize; PROCESSORS + 1
     let mut next = [PROCESSORS; PROCESSORS + 1];
     let mut running = PROCESSORS;
     for place in (0..PROCESSORS).rev() {
-        match processors[place].state() {
-            PpState::Running => running = place,
-            PpState::Stopped | PpState::Fault(_) => {}
+        if processors[place].state().is_running() {
+            running = place;
         }
         next[place] = running;
     }

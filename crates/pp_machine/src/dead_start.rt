@@ -75,7 +75,7 @@ impl<A: Allocator> Machine<A> {
         // Reveals to the proof that the history is lawful.
         let _history = channel.history();
         self.processors[n.index()].wait_load(own);
-        put_channel(&mut self.channels, i, channel);
+        self.channels[i] = channel;
         self.opened[i] = true;
     }
 }
@@ -100,12 +100,4 @@ fn opened_channel<A: Allocator + Clone>(channel: &Channel<A>) -> Result<Channel<
     let mut opened = channel.copy()?;
     let _done = opened.act(ChanOp::Activate)?;
     Ok(opened)
-}
-
-/// Puts a channel at a place.
-fn put_channel<A: Allocator>(channels: &mut Vec<Channel<A>, A>, place: usize, channel: Channel<A>)
-    requires { place < vec_len channels.old }
-    ensures { channels.new.items ≡ slice_set channels.old.items place channel }
-{
-    channels[place] = channel;
 }

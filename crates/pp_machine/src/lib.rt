@@ -7,7 +7,6 @@ mod block;
 mod central;
 mod cut;
 mod dead_start;
-mod laws;
 mod machine;
 mod need;
 mod outcome;
@@ -24,7 +23,6 @@ pub use answer::Answer;
 pub use block::{Block, BlockKind};
 pub use central::{Central, CentralFault};
 pub use cut::Cut;
-pub use laws::run_law;
 pub use machine::Machine;
 pub use need::Need;
 pub use outcome::Outcome;
@@ -34,4 +32,5 @@ pub use pp_state::{
     EXCHANGE_JUMP, NO_CENTRAL_PROCESSOR, NO_SUCH_CHANNEL, PAST_CENTRAL_MEMORY, PpState,
 };
 pub use replay::fits;
+pub use run::run_law;
 pub use trace::Trace;

@@ -58,6 +58,8 @@ impl<A: Allocator> Model for Machine<A> {
 }
 
 impl<A: Allocator> Machine<A> {
+    ghost use Rattle.std.specs.Borrow.{sem};
+    ghost use Rattle.pp_machine.specs.Lending.{LendsProcessor};
     ghost use Rattle.pp_machine.specs.Central.{IsCentralSize};
     ghost use Rattle.pp_machine.specs.Headline.{events_on, opening_history, IsMachine};
     ghost use Rattle.pp_machine.specs.MachineState.{history_of, new_machine, processor_of};
@@ -168,13 +170,6 @@ impl<A: Allocator> Machine<A> {
     {
         self.central.write(a, w)
     }
-}
-
-impl<A: Allocator> Machine<A> {
-    ghost use Rattle.std.specs.Prelude.{◌≡◌};
-    ghost use Rattle.std.specs.Borrow.{sem};
-    ghost use Rattle.pp_machine.specs.Lending.{LendsProcessor};
-    ghost use Rattle.pp_machine.specs.MachineState.{processor_of};
 
     /// Lends a processor, to be loaded and started.
     pub fn pp_mut(&mut self, n: PpNo) -> &mut Pp
@@ -225,21 +220,8 @@ fn reserve_each<A: Allocator>(
     let mut all: usize = 0;
     for place in 0..CHANNELS {
         let more = events[place];
-        reserve_at(channels, place, more)?;
+        channels[place].reserve(more)?;
         all = all.saturating_add(more);
     }
     Ok(all)
-}
-
-/// The same of the channel at a place.
-fn reserve_at<A: Allocator>(
-    channels: &mut Vec<Channel<A>, A>,
-    place: usize,
-    events: usize,
-) -> Result<(), Memory>
-    requires { place < vec_len channels.old }
-    ensures items { channels.new.items ≡ channels.old.items }
-    ensures all { vec_len channels.new ≡ vec_len channels.old }
-{
-    channels[place].reserve(events)
 }

@@ -1,7 +1,6 @@
 //! A peripheral processor.
 
 mod block;
-mod block_law;
 mod effect;
 mod load;
 mod local;
@@ -17,7 +16,6 @@ ghost use Rattle.pp_numbers.specs.Profile.{has_channel};
 use crate::block::Block;
 use crate::pp_memory::PpMemory;
 use crate::pp_state::PpState;
-pub(crate) use block_law::block_results;
 pub(crate) use next_step::ends;
 use pp_channel::ChannelNo;
 use pp_numbers::Profile;
@@ -91,6 +89,16 @@ impl Pp {
     {
         self.has_widths();
         self.memory.get(place)
+    }
+
+    /// What is true of each processor.
+    pub(crate) fn has_widths(&self)
+        ensures { IsProcessor self.now }
+    {
+        self.memory.has_widths();
+        // Reveals to the proof that A has 18 bits and P twelve.
+        let _a = self.a.get();
+        let _p = self.p.get();
     }
 
     /// The program address.

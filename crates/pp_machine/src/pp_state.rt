@@ -20,10 +20,7 @@ impl PpState {
     pub fn is_running(self) -> bool
         ensures { result ≡ is_running self }
     {
-        match self {
-            PpState::Running => true,
-            PpState::Stopped | PpState::Fault(_) => false,
-        }
+        matches!(self, PpState::Running)
     }
 }
 

@@ -13,7 +13,6 @@ use crate::answer::Answer;
 use crate::need::Need;
 use crate::outcome::Outcome;
 use crate::pp::{Pp, ends};
-use crate::pp_state::PpState;
 use pp_channel::{ChanOp, Channel, ChannelNo, Reply};
 use std::alloc::Allocator;
 
@@ -41,11 +40,8 @@ pub(crate) fn run_ahead<A: Allocator>(
     if place == round {
         return most;
     }
-    match processors[place].state() {
-        PpState::Running => {}
-        PpState::Stopped | PpState::Fault(_) => {
-            return run_ahead(processors, channels, round, place + 1, most);
-        }
+    if !processors[place].state().is_running() {
+        return run_ahead(processors, channels, round, place + 1, most);
     }
     let before = processors[place].copy();
     let made = run_quiet_steps(&mut processors[place], channels, most);

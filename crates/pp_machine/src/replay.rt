@@ -7,7 +7,7 @@ ghost use Rattle.pp_machine.specs.Processor.{IsAtRest};
 
 use crate::answer::Answer;
 use crate::need::Need;
-use crate::pp::{Pp, block_results};
+use crate::pp::Pp;
 use pp_channel::{ChanOp, Reply};
 
 /// Whether a reply fits an operation.
@@ -36,6 +36,18 @@ pub fn fits(need: &Need, answer: &Answer) -> bool
         Need::Read(_) => matches!(answer, Answer::Read(_)),
         Need::Write(_, _) => matches!(answer, Answer::Wrote(_)),
     }
+}
+
+/// What a whole block transfer leaves, without its single steps.
+fn block_results(pp: &Pp)
+    ensures complete_input { CompleteInput pp.now }
+    ensures short_input { ShortInput pp.now }
+    ensures complete_output { CompleteOutput pp.now }
+    ensures short_output { ShortOutput pp.now }
+    ensures central_read { CentralRead pp.now }
+    ensures central_write { CentralWrite pp.now }
+{
+    pp.has_widths();
 }
 
 impl Pp {

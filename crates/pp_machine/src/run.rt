@@ -1,6 +1,11 @@
 //! Lists of steps.
 
-ghost use Rattle.std.specs.Prelude.{◌≡◌, ◌<◌, length, take, slice_index, IfErr, IsSome, OnOk};
+ghost use Rattle.std.specs.Prelude.{◌≡◌, ℕ, ◌<◌, List, length, take, slice_index, IfErr, IsSome, OnOk};
+ghost use Rattle.pp_numbers.specs.ChannelNo.{channel_count};
+ghost use Rattle.pp_machine.specs.Headline.{HoldsOnEachChannel};
+ghost use Rattle.pp_machine.specs.MachineState.{MachineState};
+ghost use Rattle.pp_machine.specs.MachineStep.{step_event};
+ghost use Rattle.pp_machine.specs.Run.{run};
 
 use crate::cut::Cut;
 use crate::machine::Machine;
@@ -8,10 +13,6 @@ use pp_numbers::PpNo;
 use std::alloc::Allocator;
 
 impl<A: Allocator> Machine<A> {
-    ghost use Rattle.pp_machine.specs.Headline.{HoldsOnEachChannel};
-    ghost use Rattle.pp_machine.specs.MachineStep.{step_event};
-    ghost use Rattle.pp_machine.specs.Run.{run};
-
     /// Makes one step of each processor of a list, in order, with any repeats.
     #[tactic(auto, using(crate::proofs::RunLemmas::run_more, crate::proofs::RunLemmas::some_event))]
     pub fn run_turns(&mut self, turns: &[PpNo]) -> Result<(), Cut>
@@ -32,3 +33,11 @@ impl<A: Allocator> Machine<A> {
         Ok(())
     }
 }
+
+/// After any list of steps of a machine, whichever processors its numbers name, every channel has
+/// its opening history followed by the events of the trace on it, and keeps the law of sessions.
+#[tactic(auto, using(crate::proofs::RunLemmas::run_keeps))]
+pub fn run_law()
+    ensures { (ns : List ℕ) (m : MachineState) → length m.histories ≡ channel_count
+        → HoldsOnEachChannel m → HoldsOnEachChannel (run ns m) }
+{}

@@ -67,6 +67,7 @@ impl Pp {
             Opcode::LJM => self.p = self.index(d),
             Opcode::RJM => self.call(self.index(d)),
             Opcode::UJN => self.jump_or_stop(d),
+            // Negative zero is not zero.
             Opcode::ZJN => self.jump_where(self.a.get() == 0, d),
             Opcode::NJN => self.jump_where(self.a.get() != 0, d),
             Opcode::PJN => self.jump_where(!self.is_negative(), d),

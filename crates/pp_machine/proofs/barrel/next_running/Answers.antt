@@ -1,10 +1,10 @@
-use Rattle.std.proofs.Common.{arith, ℕ, ◌≡◌, ◌+◌, ◌-◌, ◌<◌, length, ap, get_or, subst, inl, inr, ◌∙◌}
+use Rattle.std.proofs.Common.{arith, ℕ, ◌≡◌, ◌+◌, ◌-◌, ◌<◌, length, ap, get_or, subst, ◌∙◌}
 use Rattle.std.proofs.lemmas.List.{length-set, get_or_read}
-use Rattle.pp_machine.specs.Processor.{Processor, no_processor, IsAtRest}
+use Rattle.pp_machine.specs.Processor.{Processor, no_processor, is_running, IsAtRest}
 use Rattle.pp_numbers.specs.PpNo.{processor_count}
 use Rattle.pp_machine.proofs.RoundLemmas.{PassesFrom, passes_from_running, passes_from_rest}
 use Rattle.pp_machine.proofs.barrel.next_running.Goals as goal
-use Rattle.pp_machine.proofs.barrel.next_running.Goals.{in-Running, in-Stopped}
+use Rattle.pp_machine.proofs.barrel.next_running.Goals.{then-is_running, else-is_running}
 
 pub loop-place-preserved : goal.loop-place-preserved
 loop-place-preserved g c =
@@ -20,13 +20,12 @@ loop-place-preserved g c =
     let named : place < processor_count = omega arith in
     record {
       long = simp length-set long;
-      so_far = elim c.match-state.branch [
-        | in-Running w ↦ rw w.running-is (passes_from_running next place c.loop-place.running processors inside named so_far)
-        | in-Stopped w ↦
-            let rests : IsAtRest (get_or processors place no_processor) =
+      so_far = elim c.if-is_running.branch [
+        | then-is_running w ↦ rw w.running-is (passes_from_running next place c.loop-place.running processors inside named so_far)
+        | else-is_running w ↦
             let here = get_or_read processors place c.index.result.now (omega arith) c.index.ensures no_processor in
             let state : c.state.result ≡ (get_or processors place no_processor).state = c.state.ensures.value ∙ ap (λ (pp : Processor). pp.state) here in
-            λ running. elim w.in-Stopped.is [ inl stopped ↦ cc | inr fault ↦ let is = fault.1 in cc ] in
+            let rests : IsAtRest (get_or processors place no_processor) = λ running. let on = ap is_running (state ∙ running) in let off = w.if-is_running.false in cc in
             rw w.running-is (passes_from_rest next place c.loop-place.running processors inside rests so_far)
       ];
     }

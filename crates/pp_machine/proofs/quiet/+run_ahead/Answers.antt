@@ -1,6 +1,6 @@
-use Rattle.std.proofs.Common.{◌≡◌, ◌<◌, ◌∙◌, ap, sym, subst, arith, get_or, slice_set, get_or-set_same, inl, inr, length}
+use Rattle.std.proofs.Common.{◌≡◌, ◌<◌, ◌∙◌, ap, sym, subst, arith, get_or, slice_set, get_or-set_same, length}
 use Rattle.std.proofs.lemmas.List.{get_or_read, length-set}
-use Rattle.pp_machine.specs.Processor.{Processor, no_processor, IsAtRest}
+use Rattle.pp_machine.specs.Processor.{Processor, no_processor, is_running, IsAtRest}
 use Rattle.pp_machine.specs.Quiet.{IsAhead}
 use Rattle.pp_machine.proofs.QuietLemmas.{none_are_ahead, ahead_with_rest, ahead_together, ahead_again}
 use Rattle.pp_machine.proofs.quiet.+run_ahead.Goals as goal
@@ -8,20 +8,15 @@ use Rattle.pp_machine.proofs.quiet.+run_ahead.Goals as goal
 pub returns-then-most-eq0-clause-ahead : goal.returns-then-most-eq0-clause-ahead
 returns-then-most-eq0-clause-ahead g t c = λ m same. none_are_ahead c.args.round c.args.place m c.args.processors.now.items
 
-pub returns-in-Stopped : goal.returns-in-Stopped
-returns-in-Stopped g t c = record {
-  most = c.run_ahead.ensures.most;
-  as_many = c.run_ahead.ensures.as_many;
-  ahead = λ m beside.
-      let ps = c.args.processors.now.items in
-      let place = c.args.place in
-      let inside : place < length ps = omega arith in
-      let rests : IsAtRest (get_or ps place no_processor) =
-      let read = get_or_read ps place c.index.result.now inside c.index.ensures no_processor in
-      let state : c.state.result ≡ (get_or ps place no_processor).state = c.state.ensures.value ∙ ap (λ (pp : Processor). pp.state) read in
-      λ running. elim c.in-Stopped.is [ inl stopped ↦ cc | inr fault ↦ let is = fault.1 in cc ] in
-      ahead_with_rest c.run_ahead.result c.args.round place m ps c.run_ahead.new.processors.items rests (c.run_ahead.ensures.ahead m beside);
-}
+pub returns-then-not-is_running-clause-ahead : goal.returns-then-not-is_running-clause-ahead
+returns-then-not-is_running-clause-ahead g t c = λ m beside.
+    let ps = c.args.processors.now.items in
+    let place = c.args.place in
+    let inside : place < length ps = omega arith in
+    let read = get_or_read ps place c.index.result.now inside c.index.ensures no_processor in
+    let state : c.state.result ≡ (get_or ps place no_processor).state = c.state.ensures.value ∙ ap (λ (pp : Processor). pp.state) read in
+    let rests : IsAtRest (get_or ps place no_processor) = λ running. let on = ap is_running (state ∙ running) in cc in
+    ahead_with_rest c.run_ahead.result c.args.round place m ps c.run_ahead.new.processors.items rests (c.run_ahead.ensures.ahead m beside)
 
 pub returns-then-all-made-clause-ahead : goal.returns-then-all-made-clause-ahead
 returns-then-all-made-clause-ahead g t c = λ m beside.

@@ -14,8 +14,8 @@ invariant_of-self g c =
     let m : MachineState = record { profile = inside.profile; processors = inside.processors.items; histories = inside.channels.items; central = inside.central; turns = inside.turns; trace = inside.trace.items; opened = inside.opened } in
     let n = c.args.n in
     let place : c.index-i.result ≡ channel_index n = c.index-i.ensures.place ∙ ap channel_index c.own_channel-own.ensures.value in
-    let histories : c.put_channel.new.channels.items ≡ slice_set inside.channels.items (channel_index n) (Activate ∷ []) =
-    c.put_channel.ensures ∙ (ap (λ k. slice_set inside.channels.items k c.args.channel) place ∙ ap (λ h. slice_set inside.channels.items (channel_index n) h) c.requires.opened) in
+    let histories : slice_set inside.channels.items c.index-i.result c.args.channel ≡ slice_set inside.channels.items (channel_index n) (Activate ∷ []) =
+    ap (λ k. slice_set inside.channels.items k c.args.channel) place ∙ ap (λ h. slice_set inside.channels.items (channel_index n) h) c.requires.opened in
     let opened : slice_set inside.opened c.index-i.result true ≡ slice_set inside.opened (channel_index n) true = ap (λ k. slice_set inside.opened k true) place in
     let unused : history_of n m ≡ [] = ap (history_of n) c.self.view_is ∙ c.requires.unused in
     let headline = headline_after_opening m n c.args.channel c.own_channel-own.ensures.named unused c.requires.opened c.history-history.ensures.lawful c.history-history.ensures.law c.self.invariant in

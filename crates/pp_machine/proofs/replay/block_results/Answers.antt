@@ -1,5 +1,5 @@
 use Rattle.pp_machine.proofs.BlockResultLemmas.{complete_input, short_input, complete_output, short_output, central_read, central_write}
-use Rattle.pp_machine.proofs.pp.block_law.block_results.Goals as goal
+use Rattle.pp_machine.proofs.replay.block_results.Goals as goal
 
 pub returns-clause-complete_input : goal.returns-clause-complete_input
 returns-clause-complete_input c = complete_input c.args.pp.now c.has_widths.ensures
