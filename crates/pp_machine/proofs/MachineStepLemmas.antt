@@ -146,6 +146,4 @@ pub ruleset steps_at_rest = (stepped_at_rest, outcome_at_rest)
 
 pub ruleset steps = (steps_at_rest, held_step, fault_step)
 
-pub ruleset steps_alone = (stepped_alone, outcome_alone)
-
-pub ruleset steps_by_probe = (stepped_by_probe, outcome_by_probe, steps_alone)
+pub ruleset steps_by_probe = (stepped_by_probe, outcome_by_probe, stepped_alone, outcome_alone)

@@ -164,12 +164,10 @@ impl<A: Allocator> Machine<A> {
         ensures cut { IfErr result (λ done. IsCut (rounds * turns) done self.old self.new) }
         ensures headline { HoldsOnEachChannel self.new }
     {
-        let mut left = rounds;
-        while left > 0 {
+        for done in 0..rounds {
             if let Err(before) = self.run_round(turns as usize, next) {
-                return Err(u64::from(rounds - left) * u64::from(turns) + before as u64);
+                return Err(u64::from(done) * u64::from(turns) + before as u64);
             }
-            left -= 1;
         }
         Ok(())
     }

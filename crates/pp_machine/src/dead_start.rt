@@ -58,7 +58,8 @@ impl<A: Allocator> Machine<A> {
             return self.open_below(waiting, place);
         }
         let n = PpNo::at(place);
-        let channel = opened_channel(self.channel(own_channel(n)))?;
+        let mut channel = self.channel(own_channel(n)).copy()?;
+        let _done = channel.act(ChanOp::Activate)?;
         self.open_below(waiting, place)?;
         self.let_wait(n, channel);
         Ok(())
@@ -90,14 +91,4 @@ fn own_channel(n: PpNo) -> ChannelNo
         unreachable!()
     };
     channel
-}
-
-/// A channel like this one, which has no history, on which an Activate has happened.
-fn opened_channel<A: Allocator + Clone>(channel: &Channel<A>) -> Result<Channel<A>, Memory>
-    requires { channel.now ≡ [] }
-    ensures { IfOk result (λ c. c ≡ Activate ∷ []) }
-{
-    let mut opened = channel.copy()?;
-    let _done = opened.act(ChanOp::Activate)?;
-    Ok(opened)
 }

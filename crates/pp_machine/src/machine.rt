@@ -192,18 +192,17 @@ fn new_processors<A: Allocator>(alloc: A, profile: Profile) -> Result<Vec<Pp, A>
 }
 
 /// Channels on which nothing has happened.
-fn new_channels<A: Allocator + Copy>(alloc: A) -> Result<Vec<Channel<A>, A>, CentralFault>
+fn new_channels<A: Allocator + Copy>(alloc: A) -> Result<Vec<Channel<A>, A>, AllocError>
     ensures items { IfOk result (λ v. v.items ≡ replicate channel_count []) }
     ensures headline { IfOk result (λ v. (k : ℕ) → k < channel_count
         → HoldsOnChannel [] [] (slice_index_or v.items k [])) }
-    ensures memory { OnErr result (result ≡ Err CentralFault.Memory) }
 {
     let mut channels = Vec::with_capacity(alloc, CHANNELS)?;
     for _ in 0..CHANNELS {
         let channel = Channel::new(alloc);
         // Reveals to the proof that the history is lawful.
         let _history = channel.history();
-        channels.push(channel)?;
+        channels.push_reserved(channel);
     }
     Ok(channels)
 }

@@ -77,10 +77,11 @@ fn run_quiet_steps<A: Allocator>(pp: &mut Pp, channels: &Vec<Channel<A>, A>, mos
                 made += 1;
             }
             Need::Channel(channel, op) => {
-                let Some(reply) = shown(channels, channel, &op) else {
+                let channel = &channels[channel.index()];
+                if channel.next_event(&op).is_some() {
                     return made;
-                };
-                match pp.give(Answer::Channel(reply)) {
+                }
+                match pp.give(Answer::Channel(channel.shown(&op))) {
                     // The channels stay as they are, so it is held in all further steps too.
                     Outcome::Held => return most,
                     Outcome::Moved | Outcome::AtRest => made += 1,
@@ -125,27 +126,4 @@ fn run_free_steps<A: Allocator>(pp: &mut Pp, channels: &Vec<Channel<A>, A>, most
         left -= 1;
     }
     left
-}
-
-/// What a channel answers to an operation that makes no event.
-fn shown<A: Allocator>(
-    channels: &Vec<Channel<A>, A>,
-    channel: ChannelNo,
-    op: &ChanOp,
-) -> Option<Reply>
-    requires { vec_len channels.now ≡ channel_count }
-    ensures no_event { IsSome result → event_of op.now
-        (slice_index_or channels.now.items (channel_index channel) []) ≡ None }
-    ensures reply { IfSome result (λ reply. reply
-        ≡ reply_to op.now (slice_index_or channels.now.items (channel_index channel) [])) }
-    ensures fits { IfSome result (λ reply. IsTrue (reply_fits op.now reply)) }
-    ensures event { IsNone result → IsSome (event_of op.now
-        (slice_index_or channels.now.items (channel_index channel) [])) }
-{
-    let channel = &channels[channel.index()];
-    let made = channel.next_event(op);
-    match &made {
-        Some(_event) => None,
-        None => Some(channel.shown(op)),
-    }
 }

@@ -60,31 +60,11 @@ impl<A: Allocator> Machine<A> {
         ensures step { IsStep n result self.old self.new }
         ensures headline { HoldsOnEachChannel self.new }
     {
-        match self.processors[n.index()].state() {
-            PpState::Running => self.go_on(n),
-            PpState::Stopped | PpState::Fault(_) => {
-                self.count_turn();
-                Ok(Outcome::AtRest)
-            }
-        }
-    }
-
-    /// One more turn; the greatest count stays.
-    fn count_turn(&mut self)
-        ensures turn { self.new ≡ record self.old { turns = counted self.old.turns } }
-        ensures headline { HoldsOnEachChannel self.new }
-    {
-        self.turns = self.turns.saturating_add(1);
-    }
-
-    /// The step of a processor that is running.
-    #[tactic(auto, using(crate::proofs::MachineStepLemmas::steps_alone))]
-    fn go_on(&mut self, n: PpNo) -> Result<Outcome, Memory>
-        requires { (processor_of n self.old).state ≡ PpState.Running }
-        ensures step { IsStep n result self.old self.new }
-        ensures headline { HoldsOnEachChannel self.new }
-    {
         let i = n.index();
+        if !matches!(self.processors[i].state(), PpState::Running) {
+            self.count_turn();
+            return Ok(Outcome::AtRest);
+        }
         let (next, d) = self.processors[i].next_instruction();
         if let Some(op) = &next {
             if self.processors[i].step_internal(*op, d) {
@@ -98,6 +78,14 @@ impl<A: Allocator> Machine<A> {
             }
         }
         self.step_external(n, &next, d)
+    }
+
+    /// One more turn; the greatest count stays.
+    fn count_turn(&mut self)
+        ensures turn { self.new ≡ record self.old { turns = counted self.old.turns } }
+        ensures headline { HoldsOnEachChannel self.new }
+    {
+        self.turns = self.turns.saturating_add(1);
     }
 
     /// The step of a processor that tests the flags of a channel, a fault if there is no such

@@ -167,18 +167,9 @@ impl Pp {
         ensures after { self.new ≡ processor_after self.old Answer.Local }
         ensures outcome { result ≡ outcome self.old Answer.Local }
     {
-        match next {
-            Some(op) => self.run_local(*op, d),
-            // Each word of a block needs a channel or central memory.
-            None => match self.block {
-                None => {}
-                Some(Block { kind, .. }) => match kind {
-                    BlockKind::CentralIn { .. }
-                    | BlockKind::CentralOut { .. }
-                    | BlockKind::Input { .. }
-                    | BlockKind::Output { .. } => {}
-                },
-            },
+        // Each word of a block needs a channel or central memory.
+        if let Some(op) = next {
+            self.run_local(*op, d);
         }
         Outcome::Moved
     }
@@ -217,7 +208,7 @@ impl Pp {
             Some(Block { kind, place }) => match &kind {
                 BlockKind::Input { channel } => self.move_input(*channel, place, reply),
                 BlockKind::Output { channel } => self.move_output(*channel, place, reply),
-                BlockKind::CentralIn { .. } | BlockKind::CentralOut { .. } => {}
+                _ => {}
             },
         }
         if is_held {
@@ -241,9 +232,7 @@ impl Pp {
                 None => {}
                 Some(Block { kind, place }) => match kind {
                     BlockKind::CentralIn { left } => self.move_central_in(left, place, word),
-                    BlockKind::CentralOut { .. }
-                    | BlockKind::Input { .. }
-                    | BlockKind::Output { .. } => {}
+                    _ => {}
                 },
             },
         }
@@ -263,9 +252,7 @@ impl Pp {
                 None => {}
                 Some(Block { kind, place }) => match kind {
                     BlockKind::CentralOut { left } => self.move_central_out(left, place, written),
-                    BlockKind::CentralIn { .. }
-                    | BlockKind::Input { .. }
-                    | BlockKind::Output { .. } => {}
+                    _ => {}
                 },
             },
         }

@@ -1,11 +1,19 @@
-use Rattle.std.proofs.Common.{◌≡◌, ◌≤◌, ◌+◌, ◌-◌, refl, List, [], get_or, sym, subst, arith}
-use Rattle.std.specs.Prelude.{None}
-use Rattle.pp_channel.specs.Answer.{event_of, reply_to}
+use Rattle.std.proofs.Common.{◌≡◌, ◌<◌, ◌≤◌, ◌+◌, ◌-◌, refl, List, [], ap, get_or, length, sym, subst, ◌∙◌, arith}
+use Rattle.std.proofs.lemmas.List.{get_or_read}
+use Rattle.std.specs.Prelude.{None, Option, Some, false, is_some}
+use Rattle.pp_channel.specs.Answer.{channel_state, event_of, reply_by, reply_shown, reply_to}
 use Rattle.pp_numbers.specs.ChannelNo.{channel_index}
-use Rattle.pp_channel.specs.declared.event.Event.{Event}
+use Rattle.pp_channel.specs.declared.{chan_op.ChanOp.ChanOp, event.Event.Event}
 use Rattle.pp_machine.specs.MachineState.{history_of}
 use Rattle.pp_machine.proofs.QuietLemmas.{none_ahead, ahead_more, local_ahead, shown_ahead, ahead_at_rest, ahead_held}
 use Rattle.pp_machine.proofs.quiet.run_quiet_steps.Goals as goal
+
+no_event : (made : Option Event) → is_some made ≡ false → made ≡ None
+no_event None none = refl
+no_event (Some e) none = cc
+
+shown_reply : (op : ChanOp) (h : List Event) → event_of op h ≡ None → reply_shown op (channel_state h) ≡ reply_to op h
+shown_reply op h none = sym (ap (reply_by op (channel_state h)) none)
 
 pub loop-made-init : goal.loop-made-init
 loop-made-init g c = record { within = omega arith; ahead = λ m same. none_ahead m c.args.pp.now }
@@ -30,8 +38,8 @@ loop-made-preserved-in-Local g c = record {
       local_ahead made m c.args.pp.now c.run_free_steps-left.new.pp c.give-moved.new.self ahead (sym c.in-Local.ensures.need) c.give-moved.ensures.after;
 }
 
-pub returns-in_default-clause-ahead : goal.returns-in_default-clause-ahead
-returns-in_default-clause-ahead g c = λ m same.
+pub returns-then-is_some-clause-ahead : goal.returns-then-is_some-clause-ahead
+returns-then-is_some-clause-ahead g c = λ m same.
     ahead_more c.loop-made.made (c.args.most - c.loop-made.made - c.run_free_steps-left.result) m c.args.pp.now c.loop-made.pp c.run_free_steps-left.new.pp (c.loop-made.invariant.ahead m same) (c.run_free_steps-left.ensures.ahead m same)
 
 pub returns-in-Held-clause-ahead : goal.returns-in-Held-clause-ahead
@@ -41,9 +49,14 @@ returns-in-Held-clause-ahead g c = λ m same.
     let ahead = ahead_more c.loop-made.made (c.args.most - c.loop-made.made - c.run_free_steps-left.result) m c.args.pp.now c.loop-made.pp c.run_free_steps-left.new.pp (c.loop-made.invariant.ahead m same) (c.run_free_steps-left.ensures.ahead m same) in
     let channel = c.in-Channel.channel in
     let op = c.in-Channel.op in
-    let none : event_of op (history_of channel m) ≡ None = subst (λ (hs : List (List Event)). event_of op (get_or hs (channel_index channel) []) ≡ None) (sym same) (c.in-Some.ensures.no_event refl) in
-    let reply : c.in-Some.reply ≡ reply_to op (history_of channel m) = subst (λ (hs : List (List Event)). c.in-Some.reply ≡ reply_to op (get_or hs (channel_index channel) [])) (sym same) c.in-Some.ensures.reply in
-    ahead_held made c.args.most channel op c.in-Some.reply m c.args.pp.now c.run_free_steps-left.new.pp c.give.new.self ahead (sym c.in-Channel.ensures.need) none reply c.give.ensures.after (c.in-Held.ensures.held_changes_nothing refl) within
+    let inside : c.index.result < length c.args.channels.now.items = omega (arith, c.index.ensures.below, c.requires.channels, c.args.channels.now.ok.0) in
+    let here : c.index-channel.result.now ≡ history_of channel m =
+    get_or_read c.args.channels.now.items c.index.result c.index-channel.result.now inside c.index-channel.ensures []
+    ∙ ap (λ i. get_or c.args.channels.now.items i []) c.index.ensures.place
+    ∙ ap (λ (hs : List (List Event)). get_or hs (channel_index channel) []) (sym same) in
+    let none : event_of op (history_of channel m) ≡ None = subst (λ (h : List Event). event_of op h ≡ None) here (sym c.next_event.ensures.event ∙ no_event c.next_event.result (sym c.is_some.ensures ∙ c.if-is_some.false)) in
+    let reply = c.shown.ensures ∙ ap (λ (h : List Event). reply_shown op (channel_state h)) here ∙ shown_reply op (history_of channel m) none in
+    ahead_held made c.args.most channel op c.shown.result m c.args.pp.now c.run_free_steps-left.new.pp c.give.new.self ahead (sym c.in-Channel.ensures.need) none reply c.give.ensures.after (c.in-Held.ensures.held_changes_nothing refl) within
 
 pub loop-made-preserved : goal.loop-made-preserved
 loop-made-preserved g c = record {
@@ -53,9 +66,14 @@ loop-made-preserved g c = record {
       let ahead = ahead_more c.loop-made.made (c.args.most - c.loop-made.made - c.run_free_steps-left.result) m c.args.pp.now c.loop-made.pp c.run_free_steps-left.new.pp (c.loop-made.invariant.ahead m same) (c.run_free_steps-left.ensures.ahead m same) in
       let channel = c.in-Channel.channel in
       let op = c.in-Channel.op in
-      let none : event_of op (history_of channel m) ≡ None = subst (λ (hs : List (List Event)). event_of op (get_or hs (channel_index channel) []) ≡ None) (sym same) (c.in-Some.ensures.no_event refl) in
-      let reply : c.in-Some.reply ≡ reply_to op (history_of channel m) = subst (λ (hs : List (List Event)). c.in-Some.reply ≡ reply_to op (get_or hs (channel_index channel) [])) (sym same) c.in-Some.ensures.reply in
-      shown_ahead made channel op c.in-Some.reply m c.args.pp.now c.run_free_steps-left.new.pp c.give.new.self ahead (sym c.in-Channel.ensures.need) none reply c.give.ensures.after;
+      let inside : c.index.result < length c.args.channels.now.items = omega (arith, c.index.ensures.below, c.requires.channels, c.args.channels.now.ok.0) in
+      let here : c.index-channel.result.now ≡ history_of channel m =
+      get_or_read c.args.channels.now.items c.index.result c.index-channel.result.now inside c.index-channel.ensures []
+      ∙ ap (λ i. get_or c.args.channels.now.items i []) c.index.ensures.place
+      ∙ ap (λ (hs : List (List Event)). get_or hs (channel_index channel) []) (sym same) in
+      let none : event_of op (history_of channel m) ≡ None = subst (λ (h : List Event). event_of op h ≡ None) here (sym c.next_event.ensures.event ∙ no_event c.next_event.result (sym c.is_some.ensures ∙ c.if-is_some.false)) in
+      let reply = c.shown.ensures ∙ ap (λ (h : List Event). reply_shown op (channel_state h)) here ∙ shown_reply op (history_of channel m) none in
+      shown_ahead made channel op c.shown.result m c.args.pp.now c.run_free_steps-left.new.pp c.give.new.self ahead (sym c.in-Channel.ensures.need) none reply c.give.ensures.after;
 }
 
 pub returns-in-Read-clause-ahead : goal.returns-in-Read-clause-ahead
