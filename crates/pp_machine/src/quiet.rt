@@ -1,19 +1,17 @@
 //! Rounds of the barrel in which each step is quiet: it makes no event and uses no central word.
 
-ghost use Rattle.std.specs.Prelude.{◌≡◌, ◌-◌, ◌<◌, ◌≤◌, [], None, IfSome, IsNone, IsSome, IsTrue, false, length, slice_index_or, vec_len};
-ghost use Rattle.pp_channel.specs.Answer.{event_of, reply_to};
-ghost use Rattle.pp_numbers.specs.ChannelNo.{channel_count, channel_index};
+ghost use Rattle.std.specs.Prelude.{◌≡◌, ◌-◌, ◌<◌, ◌≤◌, false, length, vec_len};
+ghost use Rattle.pp_numbers.specs.ChannelNo.{channel_count};
 ghost use Rattle.pp_machine.specs.MachineState.{MachineState};
 ghost use Rattle.pp_machine.specs.NeedAndEffect.{need};
 ghost use Rattle.pp_numbers.specs.PpNo.{processor_count};
 ghost use Rattle.pp_machine.specs.Quiet.{is_quiet, IsAhead, AreAhead};
-ghost use Rattle.pp_machine.specs.Replay.{reply_fits};
 
 use crate::answer::Answer;
 use crate::need::Need;
 use crate::outcome::Outcome;
 use crate::pp::{Pp, ends};
-use pp_channel::{ChanOp, Channel, ChannelNo, Reply};
+use pp_channel::Channel;
 use std::alloc::Allocator;
 
 /// Runs the processors of a round from a place of the barrel on, each by the same number of quiet
