@@ -82,7 +82,10 @@ impl<A: Allocator> Machine<A> {
         let mut held: u32 = 0;
         let mut pause = SHORTEST_PAUSE;
         while done < rounds {
-            let window = window_after(held).min(rounds - done);
+            // Half as many as were quiet since a window failed, within bounds.
+            let window = (held / 2)
+                .clamp(SHORTEST_WINDOW, LONGEST_WINDOW)
+                .min(rounds - done);
             let quiet = self.run_quiet_rounds(window);
             done += quiet;
             held = held.saturating_add(quiet);
@@ -213,14 +216,6 @@ impl<A: Allocator> Machine<A> {
             self.turns = turns.saturating_add((running - place) as u64);
         }
     }
-}
-
-/// The next window after `held` quiet rounds since a window failed: half as many, within bounds.
-fn window_after(held: u32) -> u32
-    ensures some { 1 ≤ result }
-    ensures most { result ≤ 8192 }
-{
-    (held / 2).max(SHORTEST_WINDOW).min(LONGEST_WINDOW)
 }
 
 /// For each place of the barrel, and for its end, the first place from there on whose processor is

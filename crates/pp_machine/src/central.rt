@@ -84,13 +84,11 @@ impl<A: Allocator> Central<A> {
     {
         // Reveals to the proof that the word has sixty bits.
         let _small = w.get();
-        match self.words.get_mut(a.get() as usize) {
-            Some(word) => {
-                *word = w;
-                true
-            }
-            None => false,
-        }
+        let Some(word) = self.words.get_mut(a.get() as usize) else {
+            return false;
+        };
+        *word = w;
+        true
     }
 
     /// Its words, by address.

@@ -39,17 +39,13 @@ impl<A: Allocator> Machine<A> {
             → KeepsMemoryAndRegisters (processor_of n self.old) (processor_of n self.new) }
         ensures headline { HoldsOnEachChannel self.new }
     {
-        let i = n.index();
-        match self.processors[i].state() {
-            PpState::Running => {
-                let (next, d) = self.processors[i].next_instruction();
-                self.step_external(n, &next, d)
-            }
-            PpState::Stopped | PpState::Fault(_) => {
-                self.count_turn();
-                Ok(Outcome::AtRest)
-            }
+        let pp = &self.processors[n.index()];
+        if !matches!(pp.state(), PpState::Running) {
+            self.count_turn();
+            return Ok(Outcome::AtRest);
         }
+        let (next, d) = pp.next_instruction();
+        self.step_external(n, &next, d)
     }
 
     /// One step of a processor in the barrel, as `step` makes it, but that what needs nothing from

@@ -178,21 +178,15 @@ impl Pp {
     pub(super) fn replace_by_one_more(&mut self, place: Word12, words: u8)
         ensures { self.new ≡ replaces_by_one_more self.old place words }
     {
-        self.replace(
-            place,
-            add18(Word18::from(self.get(place)), Word18::ONE),
-            words,
-        );
+        let sum = add18(Word18::from(self.get(place)), Word18::ONE);
+        self.replace(place, sum, words);
     }
 
     /// Replace subtract one.
     pub(super) fn replace_by_one_less(&mut self, place: Word12, words: u8)
         ensures { self.new ≡ replaces_by_one_less self.old place words }
     {
-        self.replace(
-            place,
-            sub18(Word18::from(self.get(place)), Word18::ONE),
-            words,
-        );
+        let difference = sub18(Word18::from(self.get(place)), Word18::ONE);
+        self.replace(place, difference, words);
     }
 }

@@ -19,7 +19,7 @@ use crate::pp::Pp;
 use crate::pp::effect::leads_to_itself;
 use crate::pp_state::PpState;
 use pp_channel::{ChanOp, Flags, Reply};
-use pp_word::{Opcode, Word6, Word60};
+use pp_word::{Opcode, Word6, Word60, decode};
 
 /// Whether an operation needs nothing from outside, whatever its operands: codes 00 to 57 (octal).
 fn is_internal(op: Opcode) -> bool
@@ -59,7 +59,7 @@ impl Pp {
         requires free { self.now.block ≡ None }
         ensures { IsAtInstruction result.0 result.1 self.now }
     {
-        self.instruction()
+        decode(self.get(self.p))
     }
 
     /// The operation of the next instruction of a running processor and the lower six bits of its

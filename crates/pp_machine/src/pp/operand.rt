@@ -1,12 +1,12 @@
-//! The instruction at P, and the places and constants that it means.
+//! The places and constants that the instruction at P means.
 
 ghost use Rattle.std.specs.Prelude.{◌≡◌};
 ghost use Rattle.pp_word.specs.Address.{place_after};
-ghost use Rattle.pp_machine.specs.Operand.{operation, lower_six, second_word, index, constant};
+ghost use Rattle.pp_machine.specs.Operand.{second_word, index, constant};
 ghost use Rattle.pp_machine.specs.Processor.{word_at};
 
 use crate::pp::Pp;
-use pp_word::{Opcode, Word6, Word12, Word18, decode, index_address};
+use pp_word::{Word6, Word12, Word18, index_address};
 
 impl Pp {
     /// The place `words` places after P.
@@ -14,14 +14,6 @@ impl Pp {
         ensures { result ≡ place_after self.now.p words }
     {
         Word12::truncated(u32::from(self.p.get()) + u32::from(words))
-    }
-
-    /// The operation of the instruction at P, and the lower six bits of its word.
-    pub(super) fn instruction(&self) -> (Opcode, Word6)
-        ensures operation { result.0 ≡ operation self.now }
-        ensures lower_six { result.1 ≡ lower_six self.now }
-    {
-        decode(self.get(self.p))
     }
 
     /// The second word of a long instruction.

@@ -37,10 +37,9 @@ impl Pp {
         match op {
             Opcode::CRD => Need::Read(self.a),
             Opcode::CWD => Need::Write(self.a, self.central_from(Word12::from(d))),
-            Opcode::AJM | Opcode::IJM | Opcode::FJM | Opcode::EJM => self.channel_need(
-                d,
-                ChanOp::Probe,
-            ),
+            Opcode::AJM | Opcode::IJM | Opcode::FJM | Opcode::EJM => {
+                self.channel_need(d, ChanOp::Probe)
+            }
             Opcode::IAN => self.channel_need(d, ChanOp::Take),
             Opcode::OAN => self.channel_need(d, ChanOp::Put(self.a.low())),
             Opcode::ACN => self.channel_need(d, ChanOp::Activate),
@@ -56,17 +55,12 @@ impl Pp {
     pub(super) fn block_need(&self, block: Block) -> Need
         ensures { result ≡ need_of (block_word block.kind block.place self.now) }
     {
-        match &block.kind {
-            BlockKind::CentralIn { left: _ } => Need::Read(self.a),
-            BlockKind::CentralOut { left: _ } => Need::Write(
-                self.a,
-                self.central_from(block.place),
-            ),
+        let Block { kind, place } = block;
+        match &kind {
+            BlockKind::CentralIn { .. } => Need::Read(self.a),
+            BlockKind::CentralOut { .. } => Need::Write(self.a, self.central_from(place)),
             BlockKind::Input { channel } => Need::Channel(*channel, ChanOp::Take),
-            BlockKind::Output { channel } => Need::Channel(
-                *channel,
-                ChanOp::Put(self.get(block.place)),
-            ),
+            BlockKind::Output { channel } => Need::Channel(*channel, ChanOp::Put(self.get(place))),
         }
     }
 
