@@ -1,6 +1,6 @@
 //! Dead start: processors that wait for their programs on channels of their own.
 
-ghost use Rattle.std.specs.Prelude.{◌≡◌, ◌≤◌, ◌<◌, [], ◌∷◌, take, IsTrue, OnOk, OnErr};
+ghost use Rattle.std.specs.Prelude.{◌≡◌, ◌≤◌, [], ◌∷◌, take, IsTrue, OnOk, OnErr};
 ghost use Rattle.pp_channel.specs.declared.event.Event.TheVariants.{Activate};
 ghost use Rattle.pp_numbers.specs.PpNo.{processor_count, names_processor};
 

@@ -1,10 +1,6 @@
 //! One step of a machine.
 
-ghost use Rattle.std.specs.Prelude.{◌≡◌, ◌<◌, [], None, Some, vec_len, slice_set, slice_index_or, if◌then◌else◌, IfOk, IsOk, IsNone, OnOk, OnErr};
-ghost use Rattle.pp_channel.specs.Answer.{event_of, reply_to, history_after};
-ghost use Rattle.pp_numbers.specs.ChannelNo.{channel_count, channel_index};
-ghost use Rattle.pp_channel.specs.History.{IsLawful, HasTwelveBitWord};
-ghost use Rattle.pp_channel.specs.Law.{KeepsLaw};
+ghost use Rattle.std.specs.Prelude.{◌≡◌, if◌then◌else◌, IfOk, IsOk, IsNone, OnOk, OnErr};
 ghost use Rattle.pp_machine.specs.NextStep.{IsAtInstruction, IsNext};
 ghost use Rattle.pp_machine.specs.NeedAndEffect.{need};
 ghost use Rattle.pp_numbers.specs.Profile.{has_channel};
@@ -16,7 +12,7 @@ use crate::need::Need;
 use crate::outcome::Outcome;
 use crate::pp_state::PpState;
 use crate::trace::Trace;
-use pp_channel::{ChanOp, Channel, ChannelNo, Event, Memory, Reply};
+use pp_channel::{ChanOp, ChannelNo, Memory, Reply};
 use pp_numbers::{PpNo, Profile};
 use pp_word::{Opcode, Word6};
 use std::alloc::Allocator;
@@ -187,7 +183,11 @@ impl<A: Allocator> Machine<A> {
                     channel,
                     event: *event,
                 })?;
-                match apply_event(&mut self.channels, channel, op, *event) {
+                let lent = &mut self.channels[i];
+                let reply = lent.make(op, *event);
+                // Reveals to the proof that the history is lawful.
+                let _history = lent.history();
+                match reply {
                     Ok(reply) => Ok(reply),
                     Err(memory) => {
                         let _ = self.trace.pop();
@@ -197,32 +197,4 @@ impl<A: Allocator> Machine<A> {
             }
         }
     }
-}
-
-/// One operation, whose event is known, on one of the channels.
-#[inline(always)]
-fn apply_event<A: Allocator>(
-    channels: &mut Vec<Channel<A>, A>,
-    channel: ChannelNo,
-    op: ChanOp,
-    event: Event,
-) -> Result<Reply, Memory>
-    requires channels { vec_len channels.old ≡ channel_count }
-    requires event { event_of op (slice_index_or channels.old.items (channel_index channel) [])
-        ≡ Some event }
-    requires twelve_bits { HasTwelveBitWord event }
-    ensures reply { IfOk result (λ r. r ≡ reply_to op
-        (slice_index_or channels.old.items (channel_index channel) [])) }
-    ensures ok { OnOk result (channels.new.items
-        ≡ slice_set channels.old.items (channel_index channel)
-        (history_after op (slice_index_or channels.old.items (channel_index channel) []))) }
-    ensures unchanged_after_memory { OnErr result (channels.new.items ≡ channels.old.items) }
-    ensures lawful { IsLawful (slice_index_or channels.new.items (channel_index channel) []) }
-    ensures law { KeepsLaw (slice_index_or channels.new.items (channel_index channel) []) }
-{
-    let channel = &mut channels[channel.index()];
-    let reply = channel.make(op, event);
-    // Reveals to the proof that the history is lawful.
-    let _history = channel.history();
-    reply
 }

@@ -1,8 +1,11 @@
-use Rattle.std.proofs.Common.{◌≡◌, List, Option, map, ◌++◌, ◌∷◌, [], arith, get_or, slice_set, ap, sym, subst, ◌∙◌, rules}
+use Rattle.std.proofs.Common.{◌≡◌, List, Option, map, ◌++◌, ◌∷◌, [], arith, ℕ, get_or, get_or-set_same, slice_set, refl, ap, sym, subst, ◌∙◌, rules}
 use Rattle.std.specs.Prelude.{None, Some, length, IsTrue, ◌<◌}
 use Rattle.std.specs.Option.{option_to_list}
 use Rattle.std.proofs.lemmas.Grind.{common_steps}
-use Rattle.pp_channel.specs.Answer.{event_of, reply_to}
+use Rattle.std.proofs.lemmas.List.{get_or_read, set-get_or}
+use Rattle.pp_channel.specs.Answer.{event_of, history_after, reply_to}
+use Rattle.pp_channel.specs.History.{IsLawful}
+use Rattle.pp_channel.specs.Law.{KeepsLaw}
 use Rattle.pp_channel.specs.declared.event.Event.{Event}
 use Rattle.pp_numbers.specs.ChannelNo.{channel_index, names_channel}
 use Rattle.pp_machine.specs.declared.{trace.Trace.Trace, need.Need.Need}
@@ -15,6 +18,10 @@ use Rattle.pp_machine.proofs.TakenLemmas.{own_history, popped, some_is_made}
 use Rattle.pp_machine.proofs.MachineStepLemmas.{served_without_event}
 use Rattle.pp_machine.proofs.HeadlineLemmas.{headline_after_event}
 use Rattle.pp_machine.proofs.machine.Machine.operate.Goals as goal
+
+-- what is written back unchanged changes nothing
+same_histories : {histories : List (List Event)} {h after : List Event} (i : ℕ) → h ≡ get_or histories i h → after ≡ h → slice_set histories i after ≡ histories
+same_histories {histories} {h} i read same = ap (slice_set histories i) (same ∙ read) ∙ set-get_or histories i h
 
 pub returns-in-None-clause-ok : goal.returns-in-None-clause-ok
 returns-in-None-clause-ok g c =
@@ -32,7 +39,7 @@ invariant_of-self-in-Err g c =
     let inside = c.self.inside in
     let before : MachineState = record { profile = inside.profile; processors = inside.processors.items; histories = inside.channels.items; central = inside.central; turns = inside.turns; trace = inside.trace.items; opened = inside.opened } in
     let trace = popped _ c.in_ok-push-in-Some.ensures.items (omega (arith, c.push.new.self.ok.0)) c.pop.ensures.rest in
-    subst (λ (hs : List (List Event)). IsMachine (record before { histories = hs; trace = c.pop.new.self.items })) (sym c.in-Err.ensures.unchanged_after_memory)
+    subst (λ (hs : List (List Event)). IsMachine (record before { histories = hs; trace = c.pop.new.self.items })) (sym (same_histories c.index-i.result c.index_mut-lent.ensures.value c.in-Err.ensures.unchanged_after_memory))
     (subst (λ (t : List Trace). IsMachine (record before { trace = t })) (sym trace) c.self.invariant)
 
 pub returns-in-Err-clause-unchanged_after_memory : goal.returns-in-Err-clause-unchanged_after_memory
@@ -40,7 +47,7 @@ returns-in-Err-clause-unchanged_after_memory g c =
     let inside = c.self.inside in
     let before : MachineState = record { profile = inside.profile; processors = inside.processors.items; histories = inside.channels.items; central = inside.central; turns = inside.turns; trace = inside.trace.items; opened = inside.opened } in
     let trace = popped _ c.in_ok-push-in-Some.ensures.items (omega (arith, c.push.new.self.ok.0)) c.pop.ensures.rest in
-    ap (λ (hs : List (List Event)). record before { histories = hs; trace = c.pop.new.self.items }) c.in-Err.ensures.unchanged_after_memory
+    ap (λ (hs : List (List Event)). record before { histories = hs; trace = c.pop.new.self.items }) (same_histories c.index-i.result c.index_mut-lent.ensures.value c.in-Err.ensures.unchanged_after_memory)
     ∙ (ap (λ (t : List Trace). record before { trace = t }) trace ∙ c.self.view_is)
 
 pub invariant_of-self-in-Ok : goal.invariant_of-self-in-Ok
@@ -50,7 +57,13 @@ invariant_of-self-in-Ok g c =
     let history = get_or inside.channels.items i [] in
     let made : event_of c.args.op history ≡ Some c.in-Some.event = grind (arith, common_steps) in
     let entry : Trace = record { turn = inside.turns; pp = c.args.n; channel = c.args.channel; event = c.in-Some.event } in
-    let grown : c.apply_event.new.channels.items ≡ slice_set inside.channels.items i (history ++ c.in-Some.event ∷ []) = c.in-Ok.ensures.ok ∙ ap (λ o. slice_set inside.channels.items i (history ++ option_to_list o)) made in
+    let place = c.index-i.ensures.place in
+    let below : c.index-i.result < length inside.channels.items = omega (arith, c.index-i.ensures.below, c.self.invariant.channels) in
+    let new = c.make-reply.new.self in
+    let read : c.index_mut-lent.result.now ≡ history = get_or_read inside.channels.items c.index-i.result c.index_mut-lent.result.now below c.index_mut-lent.ensures.value [] ∙ ap (λ k. get_or inside.channels.items k []) place in
+    let longer : new ≡ history ++ c.in-Some.event ∷ [] = c.in-Ok.ensures.history ∙ ap (history_after c.args.op) read ∙ ap (λ o. history ++ option_to_list o) made in
+    let grown = ap (λ k. slice_set inside.channels.items k new) place ∙ ap (slice_set inside.channels.items i) longer in
+    let there : get_or (slice_set inside.channels.items c.index-i.result new) i [] ≡ new = ap (λ k. get_or (slice_set inside.channels.items c.index-i.result new) k []) (sym place) ∙ get_or-set_same inside.channels.items c.index-i.result new [] below in
     let traced = c.in_ok-push-in-Some.ensures.items in
     let within : i < length inside.channels.items = omega arith in
     let named : IsTrue (names_channel c.args.channel) = search rules in
@@ -59,19 +72,16 @@ invariant_of-self-in-Ok g c =
       opened = c.self.invariant.opened;
       channels = grind (arith, common_steps, c.self.invariant.channels);
       central = c.self.invariant.central;
-      headline = rw traced (headline_after_event (λ d. opening_history d (record c.args.self.now { opened = inside.opened })) inside.channels.items c.apply_event.new.channels.items inside.trace.items entry grown within named (λ d names same. c.index-i.ensures.own d names (same ∙ sym c.index-i.ensures.place)) c.self.invariant.headline c.apply_event.ensures.lawful c.apply_event.ensures.law);
+      headline = rw traced (headline_after_event (λ d. opening_history d (record c.args.self.now { opened = inside.opened })) inside.channels.items (slice_set inside.channels.items c.index-i.result new) inside.trace.items entry grown within named (λ d names same. c.index-i.ensures.own d names (same ∙ sym c.index-i.ensures.place)) c.self.invariant.headline (subst (λ (h : List Event). IsLawful h) (sym there) c.history-history.ensures.lawful) (subst (λ (h : List Event). KeepsLaw h) (sym there) c.history-history.ensures.law));
     }
 
-pub apply_event-requires-clause-channels : goal.apply_event-requires-clause-channels
-apply_event-requires-clause-channels g c = omega (arith, c.self.inside.channels.ok.0, c.self.invariant.channels)
+pub make-reply-requires-clause-event : goal.make-reply-requires-clause-event
+make-reply-requires-clause-event g c =
+    ap (event_of c.args.op) (own_history c.args.channel c.self.view_is c.index-i.ensures.place (omega (arith, c.index-i.ensures.below, c.self.invariant.channels)) c.index_mut-lent.ensures.value
+    ∙ sym (own_history c.args.channel c.self.view_is c.index-i.ensures.place (omega (arith, c.index-i.ensures.below, c.self.invariant.channels)) c.index.ensures)) ∙ (sym c.next_event-made.ensures.event ∙ c.in-Some.is)
 
-pub apply_event-requires-clause-event : goal.apply_event-requires-clause-event
-apply_event-requires-clause-event g c =
-    let made : event_of c.args.op (history_of c.args.channel c.args.self.now) ≡ Some c.in-Some.event = ap (event_of c.args.op) (sym (own_history c.args.channel c.self.view_is c.index-i.ensures.place (omega (arith, c.index-i.ensures.below, c.self.invariant.channels)) c.index.ensures)) ∙ (sym c.next_event-made.ensures.event ∙ c.in-Some.is) in
-    ap (λ (m : MachineState). event_of c.args.op (history_of c.args.channel m)) c.self.view_is ∙ made
-
-pub apply_event-requires-clause-twelve_bits : goal.apply_event-requires-clause-twelve_bits
-apply_event-requires-clause-twelve_bits g c = rw c.in-Some.is at c.next_event-made.ensures.twelve_bits
+pub make-reply-requires-clause-twelve_bits : goal.make-reply-requires-clause-twelve_bits
+make-reply-requires-clause-twelve_bits g c = rw c.in-Some.is at c.next_event-made.ensures.twelve_bits
 
 pub returns-in_err-push-in-Some-clause-no_event : goal.returns-in_err-push-in-Some-clause-no_event
 returns-in_err-push-in-Some-clause-no_event g c = λ none.
@@ -85,7 +95,7 @@ returns-in-Err-clause-no_event g c = λ none.
 
 pub returns-in-Ok-clause-reply : goal.returns-in-Ok-clause-reply
 returns-in-Ok-clause-reply g c =
-    ap answers.Channel (c.in-Ok.ensures.reply ∙ ap (λ (m : MachineState). reply_to c.args.op (history_of c.args.channel m)) c.self.view_is)
+    ap answers.Channel (c.in-Ok.ensures.reply ∙ ap (reply_to c.args.op) (own_history c.args.channel c.self.view_is c.index-i.ensures.place (omega (arith, c.index-i.ensures.below, c.self.invariant.channels)) c.index_mut-lent.ensures.value))
 
 pub returns-in-Ok-clause-ok : goal.returns-in-Ok-clause-ok
 returns-in-Ok-clause-ok g c =
@@ -96,7 +106,10 @@ returns-in-Ok-clause-ok g c =
     let entry : Trace = record { turn = inside.turns; pp = n; channel = c.args.channel; event = c.in-Some.event } in
     let before : MachineState = record { profile = inside.profile; processors = inside.processors.items; histories = inside.channels.items; central = inside.central; turns = inside.turns; trace = inside.trace.items; opened = inside.opened } in
     let one : event_of c.args.op (history_of c.args.channel before) ≡ Some c.in-Some.event = ap (λ (m : MachineState). event_of c.args.op (history_of c.args.channel m)) c.self.view_is ∙ made in
-    ap (λ (hs : List (List Event)). record before { histories = hs; trace = c.push.new.self.items }) c.in-Ok.ensures.ok
+    let below : c.index-i.result < length inside.channels.items = omega (arith, c.index-i.ensures.below, c.self.invariant.channels) in
+    let read : c.index_mut-lent.result.now ≡ history_of c.args.channel before = own_history {before = before} c.args.channel refl c.index-i.ensures.place below c.index_mut-lent.ensures.value in
+    let histories = ap (λ k. slice_set inside.channels.items k c.make-reply.new.self) c.index-i.ensures.place ∙ ap (slice_set inside.channels.items (channel_index c.args.channel)) (c.in-Ok.ensures.history ∙ ap (history_after c.args.op) read) in
+    ap (λ (hs : List (List Event)). record before { histories = hs; trace = c.push.new.self.items }) histories
     ∙ ap (λ (t : List Trace). record before { histories = histories_after x before; trace = t }) c.in_ok-push-in-Some.ensures.items
     ∙ ap (λ (e : Option Event). record before { histories = histories_after x before; trace = before.trace ++ map (λ v. record { turn = before.turns; pp = n; channel = c.args.channel; event = v }) (option_to_list e) }) (sym one)
     ∙ ap (served n x) c.self.view_is
