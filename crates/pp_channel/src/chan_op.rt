@@ -1,12 +1,10 @@
-//! What a processor asks of a channel.
-
 ghost use Rattle.std.specs.Prelude.{◌≡◌, List, None, IsTrue};
 ghost use Rattle.pp_channel.specs.Answer.{event_of, only_looks};
 ghost use Rattle.pp_channel.specs.declared.event.Event.{Event};
 
 use pp_word::Word12;
 
-/// One operation on a channel.
+/// One operation that a processor asks of a channel.
 #[derive(Clone, Copy, PartialEq, Eq)]
 pub enum ChanOp {
     /// Looks at the flags.

@@ -1,5 +1,3 @@
-//! A data channel.
-
 ghost use Rattle.std.specs.Prelude.{◌≡◌, [], ◌∷◌, ◌++◌, ◌↔◌, IsTrue, None, IsSome, IfSome, IsOk, IfOk, OnOk, OnErr};
 ghost use Rattle.pp_channel.specs.History.{IsLawful, HasTwelveBitWord, HasTwelveBitWords, full, waiting};
 ghost use Rattle.pp_channel.specs.Answer.{IsAnswer, channel_state, event_of, reply_shown, reply_to, history_after, flags_of};

@@ -1,5 +1,3 @@
-//! The state of a channel, without its history.
-
 ghost use Rattle.std.specs.Prelude.{◌≡◌, [], ◌∷◌, ◌++◌, List, IfSome, IfNone};
 ghost use Rattle.pp_channel.specs.Answer.{channel_state, event_by, event_of, history_after, operation_of, reply_to, state_reply};
 ghost use Rattle.pp_channel.specs.History.{HasTwelveBitWord, IsLawful};

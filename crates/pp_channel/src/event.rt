@@ -1,5 +1,3 @@
-//! What happens on a channel.
-
 use pp_word::Word12;
 
 /// One event of a channel's history.

@@ -1,5 +1,3 @@
-//! The flags of a channel.
-
 /// The two flags of a channel.
 #[derive(Clone, Copy, Debug, PartialEq, Eq)]
 pub struct Flags {

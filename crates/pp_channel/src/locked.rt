@@ -1,5 +1,3 @@
-//! A channel that threads share under a lock.
-
 ghost use Rattle.std.specs.Prelude.{◌≡◌, true, IfOk, IsOk};
 ghost use Rattle.pp_channel.specs.Answer.{IsLockedAnswer, only_looks};
 ghost use Rattle.pp_channel.specs.History.{IsLawful, HasTwelveBitWords};

@@ -1,5 +1,3 @@
-//! The refusal for lack of memory.
-
 use std::alloc::{AllocError, AllocFailed};
 use thiserror::Error;
 

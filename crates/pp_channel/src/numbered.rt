@@ -1,5 +1,3 @@
-//! Answers with their place in a channel's history.
-
 use crate::reply::Reply;
 
 /// An answer, and its place in the history of its channel.

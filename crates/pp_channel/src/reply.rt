@@ -1,5 +1,3 @@
-//! What a channel answers.
-
 use crate::flags::Flags;
 use pp_word::Word12;
 

@@ -1,9 +1,7 @@
-//! What is done to a channel, or seen of it.
-
 use crate::event::Event;
 use crate::flags::Flags;
 
-/// What was done or seen.
+/// What was done to a channel, or seen of it.
 #[derive(Clone, Copy, PartialEq, Eq)]
 pub enum Seen {
     /// An event, which the writer of the log made.

@@ -1,9 +1,7 @@
-//! What the outside answers to a need.
-
 use pp_channel::Reply;
 use pp_word::Word60;
 
-/// The answer to a need.
+/// What the outside answers to a need.
 #[derive(Clone, Copy)]
 pub enum Answer {
     /// Nothing was needed from outside.

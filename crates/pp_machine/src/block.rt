@@ -1,5 +1,3 @@
-//! A block transfer in progress.
-
 use pp_channel::ChannelNo;
 use pp_word::Word12;
 

@@ -1,5 +1,3 @@
-//! Central memory.
-
 ghost use Rattle.std.specs.Prelude.{◌≡◌, ◌<◌, ◌↔◌, length, replicate, slice_set, IsTrue, IsErrOf, IfOk, OnOk, slice_get};
 ghost use Rattle.std.specs.Bool.{OnFalse};
 

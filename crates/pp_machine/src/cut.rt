@@ -1,5 +1,3 @@
-//! The refusal of a run for lack of memory.
-
 use thiserror::Error;
 
 /// A run ended early: the step after these was refused memory.

@@ -1,5 +1,3 @@
-//! The machine: processors, channels, central memory, turns and events.
-
 ghost use Rattle.std.specs.Prelude.{◌≡◌, ◌<◌, ℕ, ◌++◌, [], length, replicate, slice_index_or, slice_set, IfOk, OnOk, IsErrOf, IsTrue, ◌↔◌, vec_len};
 ghost use Rattle.std.specs.Bool.{OnFalse};
 ghost use Rattle.pp_numbers.specs.ChannelNo.{channel_count, channel_index, names_channel};

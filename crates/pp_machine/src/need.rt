@@ -1,9 +1,7 @@
-//! What a processor's next step needs from outside.
-
 use pp_channel::{ChanOp, ChannelNo};
 use pp_word::{Word18, Word60};
 
-/// The need of a next step.
+/// What a processor's next step needs from outside.
 #[derive(Clone, Copy, PartialEq, Eq)]
 pub enum Need {
     /// The processor is at rest and has no next step.

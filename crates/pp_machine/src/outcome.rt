@@ -1,5 +1,3 @@
-//! What a step did to its processor.
-
 /// The outcome of one step.
 #[derive(Clone, Copy, PartialEq, Eq)]
 pub enum Outcome {

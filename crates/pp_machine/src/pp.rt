@@ -1,5 +1,3 @@
-//! A peripheral processor.
-
 mod block;
 mod effect;
 mod load;

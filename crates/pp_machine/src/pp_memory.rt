@@ -1,5 +1,3 @@
-//! The memory of a peripheral processor.
-
 ghost use Rattle.std.specs.Prelude.{◌≡◌, slice_index, slice_set};
 ghost use Rattle.pp_machine.specs.PpMemory.{IsMemory, empty_memory};
 

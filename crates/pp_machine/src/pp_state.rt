@@ -1,5 +1,3 @@
-//! Whether a processor is running.
-
 /// The state of a peripheral processor.
 #[derive(Clone, Copy, PartialEq, Eq)]
 pub enum PpState {

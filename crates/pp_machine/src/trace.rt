@@ -1,5 +1,3 @@
-//! The record of the events that a machine's steps made.
-
 use pp_channel::{ChannelNo, Event};
 use pp_numbers::PpNo;
 

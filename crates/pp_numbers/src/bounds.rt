@@ -1,5 +1,3 @@
-//! Which words of memory are shown.
-
 ghost use Rattle.std.specs.Prelude.{◌≡◌, ◌<◌, ◌≤◌, ◌↔◌, IsSome, IfSome};
 ghost use Rattle.pp_numbers.specs.Bounds.{meets};
 

@@ -1,5 +1,3 @@
-//! The number of a data channel.
-
 ghost use Rattle.std.specs.Prelude.{◌≡◌, ℕ, ◌<◌, ◌↔◌, IsTrue, IsSome, IfSome};
 ghost use Rattle.pp_numbers.specs.ChannelNo.{channel_count, names_channel, channel_index, channel_number};
 

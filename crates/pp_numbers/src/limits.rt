@@ -1,5 +1,3 @@
-//! How long each worker runs.
-
 ghost use Rattle.std.specs.Prelude.{◌≡◌, ◌↔◌, IsSome, IfSome};
 ghost use Rattle.pp_numbers.specs.Limits.{RunLimits, AreLimits};
 

@@ -1,5 +1,3 @@
-//! The number of a peripheral processor.
-
 ghost use Rattle.std.specs.Prelude.{◌≡◌, ℕ, ◌+◌, ◌%◌, ◌<◌, ◌↔◌, IsTrue, IsSome, IfSome};
 ghost use Rattle.pp_numbers.specs.PpNo.{processor_count, names_processor, processor_index, processor_number};
 

@@ -1,5 +1,3 @@
-//! Which processors and channels a machine has.
-
 ghost use Rattle.std.specs.Prelude.{◌≡◌, ◌↔◌, IsTrue, IsSome, IfSome};
 ghost use Rattle.pp_numbers.specs.Profile.{processors_in, channels_in, has_processor, has_channel};
 

@@ -1,5 +1,3 @@
-//! The turns that are drawn.
-
 /// How many turns a picture has at most, to be readable (decimal).
 pub const MOST_TURNS: u32 = 2000;
 

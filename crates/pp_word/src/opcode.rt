@@ -1,5 +1,3 @@
-//! The operation codes.
-
 ghost use Rattle.std.specs.Prelude.{◌≡◌, ◌/◌, ◌%◌, ◌^◌, ◌<◌};
 ghost use Rattle.pp_word.specs.Opcode.{code_of, row_of, opcode_at};
 

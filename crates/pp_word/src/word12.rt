@@ -1,5 +1,3 @@
-//! Words of 12 bits.
-
 ghost use Rattle.std.specs.Prelude.{ℕ, ◌≡◌, ◌%◌, ◌^◌, ◌<◌, ◌↔◌, IsSome, IfSome};
 
 use crate::word6::Word6;

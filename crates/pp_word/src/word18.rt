@@ -1,5 +1,3 @@
-//! Words of 18 bits.
-
 ghost use Rattle.std.specs.Prelude.{ℕ, ◌≡◌, ◌%◌, ◌^◌, ◌<◌, ◌↔◌, IsSome, IfSome};
 
 use crate::word6::Word6;

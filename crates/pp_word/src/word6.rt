@@ -1,5 +1,3 @@
-//! Words of 6 bits.
-
 ghost use Rattle.std.specs.Prelude.{ℕ, ◌≡◌, ◌%◌, ◌^◌, ◌<◌, ◌↔◌, IsSome, IfSome};
 
 use std::marker::Model;

@@ -1,5 +1,3 @@
-//! Words of 60 bits.
-
 ghost use Rattle.std.specs.Prelude.{◌≡◌, ◌%◌, ◌^◌, ◌<◌, ◌↔◌, IsSome, IfSome};
 
 use std::marker::Model;
