@@ -31,8 +31,7 @@ pub fn session_law()
     ensures { (h : List Event) → IsLawful h → KeepsLaw h }
 {}
 
-/// The event that an operation makes, by the flags and the word in the register; nothing if it only
-/// looks or is not ready.
+/// The event of an operation, by flags and register; nothing if it only looks or is not ready.
 #[inline(always)]
 pub fn event_by(op: &ChanOp, flags: Flags, register: Option<Word12>) -> Option<Event>
     ensures event { result ≡ event_by op.now flags register }

@@ -127,8 +127,7 @@ impl<A: Allocator> Channel<A> {
         event_by(op, self.flags, self.register)
     }
 
-    /// The reply to an operation that makes no event now: one that only looks is answered, any
-    /// other is held.
+    /// The reply if no event is made now: an operation that only looks is answered, others held.
     #[inline(always)]
     pub fn shown(&self, op: &ChanOp) -> Reply
         ensures { result ≡ reply_shown op.now (channel_state self.now) }

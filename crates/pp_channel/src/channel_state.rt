@@ -26,8 +26,7 @@ pub struct ChannelState {
 }
 
 impl ChannelState {
-    /// An inactive channel, like one on which nothing has happened. Example: it is printed as
-    /// `INACTIVE`.
+    /// An inactive channel, like a new one. Example: it is printed as `INACTIVE`.
     pub const INACTIVE: ChannelState = ChannelState {
         flags: Flags {
             active: false,
@@ -60,8 +59,7 @@ impl ChannelState {
     /// `Event::Take(word)` if that word waits, and none on an empty channel.
     pub fn next_event(&self, op: &ChanOp) -> Option<Event>
         ensures table { result ≡ event_by op.now self.now.flags self.now.register }
-        ensures event { (h : List Event) → self.now ≡ channel_state h
-            → result ≡ event_of op.now h }
+        ensures event { (h : List Event) → self.now ≡ channel_state h → result ≡ event_of op.now h }
         ensures twelve_bits { IfSome result HasTwelveBitWord }
     {
         event_by(op, self.flags, self.register)

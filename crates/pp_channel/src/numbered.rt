@@ -5,8 +5,7 @@ use crate::reply::Reply;
 pub struct Numbered {
     /// The answer.
     pub reply: Reply,
-    /// How many events the channel had had when its word was loaded; behind a lock, before the
-    /// call.
+    /// How many events the channel had had when its word was loaded, or before a call under a lock.
     pub loaded: u64,
     /// For an event its place in the history, counted from 0; for a look how many events the
     /// channel had had.

@@ -13,8 +13,7 @@ use pp_numbers::{PROCESSORS, PpNo};
 use std::alloc::Allocator;
 
 /// The fewest and the most rounds that the barrel tries to make quietly at once (decimal). A window
-/// costs a copy of each running processor's memory, and one that fails also costs the steps that
-/// processors made in vain.
+/// costs a copy of each running processor's memory, and, if it fails, steps made in vain.
 const SHORTEST_WINDOW: u32 = 64;
 
 const LONGEST_WINDOW: u32 = 8192;
@@ -23,9 +22,8 @@ const LONGEST_WINDOW: u32 = 8192;
 /// a look costs as much as several turns.
 const LOOK_AFTER: u32 = 512;
 
-/// The fewest and the most rounds that it makes turn by turn after a window failed, before it tries
-/// another (decimal): twice as many each time, but the fewest again once `LONG_QUIET` quiet rounds
-/// have paid for a window.
+/// The fewest and the most rounds turn by turn after a window failed (decimal): twice as many each
+/// time, but the fewest again once `LONG_QUIET` quiet rounds have paid for a window.
 const SHORTEST_PAUSE: u32 = 64;
 
 const LONGEST_PAUSE: u32 = 8192;
@@ -148,9 +146,8 @@ impl<A: Allocator> Machine<A> {
         Ok(())
     }
 
-    /// Makes `rounds` whole rounds of the barrel, or the first `turns` turns of one, and passes
-    /// over the processors at rest that `next` gives. If memory is refused, returns how many steps
-    /// were done.
+    /// Makes `rounds` whole rounds of the barrel, or the first `turns` turns of one, past the
+    /// processors at rest that `next` gives. If memory is refused, returns how many steps it made.
     #[inline(never)]
     fn run_passing(
         &mut self,

@@ -31,8 +31,7 @@ impl From<AllocError> for CentralFault {
     }
 }
 
-/// The shared central memory: words of 60 bits. Contracts see it as the list of its words, by
-/// address.
+/// The shared central memory: words of 60 bits. Contracts see the list of its words, by address.
 #[derive(Drop)]
 pub struct Central<A: Allocator> {
     words: Vec<Word60, A>,

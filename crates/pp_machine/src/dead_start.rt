@@ -39,8 +39,7 @@ impl<A: Allocator> Machine<A> {
         answer
     }
 
-    /// The same for the first `count` processors alone. All channels are there before the first is
-    /// put in.
+    /// The same for the first `count` processors alone. All channels are made before one is put in.
     fn open_below(&mut self, waiting: &[bool; PROCESSORS], count: usize) -> Result<(), Memory>
     where
         A: Clone,

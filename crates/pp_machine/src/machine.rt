@@ -162,8 +162,7 @@ impl<A: Allocator> Machine<A> {
     /// Writes a central word, as `Central::write` does.
     pub fn write_central(&mut self, a: Word18, w: Word60) -> bool
         ensures within { IsTrue result ↔ (a < length self.old.central) }
-        ensures written { self.new
-            ≡ record self.old { central = slice_set self.old.central a w } }
+        ensures written { self.new ≡ record self.old { central = slice_set self.old.central a w } }
         ensures refused { OnFalse result (self.new ≡ self.old) }
     {
         self.central.write(a, w)
@@ -205,8 +204,7 @@ fn new_channels<A: Allocator + Copy>(alloc: A) -> Result<Vec<Channel<A>, A>, All
     Ok(channels)
 }
 
-/// Makes room for these numbers of further events, by the places of the channels, and returns their
-/// sum.
+/// Makes room for these numbers of further events, by place of the channel, and returns their sum.
 fn reserve_each<A: Allocator>(
     channels: &mut Vec<Channel<A>, A>,
     events: &[usize; CHANNELS],

@@ -20,9 +20,8 @@ use pp_numbers::Profile;
 use pp_word::{Word6, Word12, Word18};
 use std::marker::Model;
 
-/// A peripheral processor: its memory, the accumulator A, the program address P, its state, and the
-/// block transfer in progress, if there is one. By its profile it knows which channels there are.
-/// Contracts see it as a `Processor`.
+/// A peripheral processor: its memory, the accumulator A, the program address P, its state, a block
+/// transfer, if one is in progress, and its machine's profile. Contracts see it as a `Processor`.
 #[derive(Drop)]
 pub struct Pp {
     memory: PpMemory,

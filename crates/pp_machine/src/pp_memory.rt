@@ -7,8 +7,7 @@ use std::marker::Model;
 /// The number of its words.
 const WORDS: usize = 0o10000;
 
-/// The 4096 (decimal) words of a processor's memory. Contracts see the list of their numbers, from
-/// place 0000 on.
+/// The 4096 (decimal) words of a processor's memory. Contracts see a list of numbers, from 0000 on.
 #[derive(Drop)]
 pub struct PpMemory {
     words: [Word12; WORDS],

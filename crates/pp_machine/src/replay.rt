@@ -51,8 +51,7 @@ fn block_results(pp: &Pp)
 }
 
 impl Pp {
-    /// Gives the answers in order, up to the first that does not fit, and returns how many were
-    /// given.
+    /// Gives the answers in order, up to the first that does not fit; returns how many were given.
     #[tactic(auto, using(crate::proofs::ReplayLemmas::replays))]
     pub fn replay(&mut self, answers: &[Answer]) -> usize
         ensures after { self.new ≡ replayed self.old answers.now }

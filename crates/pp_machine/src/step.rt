@@ -80,8 +80,7 @@ impl<A: Allocator> Machine<A> {
         self.turns = self.turns.saturating_add(1);
     }
 
-    /// The step of a processor that tests the flags of a channel, a fault if there is no such
-    /// channel.
+    /// The step of a test of the flags of a channel, a fault if there is no such channel.
     #[tactic(auto, using(crate::proofs::MachineStepLemmas::steps_by_probe))]
     fn test_flags(&mut self, n: PpNo, op: Opcode, d: Word6, profile: Profile)
         requires next { IsAtInstruction op d (processor_of n self.old) }
@@ -101,8 +100,7 @@ impl<A: Allocator> Machine<A> {
         self.count_turn();
     }
 
-    /// The step of a processor that asks for its need, whatever that is. It is compiled in place
-    /// where the barrel calls it.
+    /// The step of a processor that asks for any need, compiled in place where the barrel calls it.
     #[tactic(auto, unfolding(crate::specs::MachineStep::stepped, // the machine after it
     crate::specs::MachineStep::step_event, // its event
     crate::specs::MachineStep::step_outcome))]
@@ -132,8 +130,7 @@ impl<A: Allocator> Machine<A> {
                 Ok(Outcome::Moved)
             }
             Need::Write(address, word) => {
-                // The processor first, since no store then comes between its two looks at its
-                // block.
+                // The processor first: no store then comes between its two looks at its block.
                 let is_within = address.get() < self.central.size();
                 self.processors[i].give_written(next, d, is_within);
                 let _written = self.central.write(address, word);
@@ -143,8 +140,7 @@ impl<A: Allocator> Machine<A> {
         }
     }
 
-    /// One operation of a processor on a channel. Most of them move a word: these are each compiled
-    /// by themselves.
+    /// One operation of a processor on a channel; one that moves a word is compiled by itself.
     #[inline(always)]
     fn exchange(&mut self, n: PpNo, channel: ChannelNo, op: ChanOp) -> Result<Reply, Memory>
         ensures reply { IfOk result (λ r. Answer.Channel r

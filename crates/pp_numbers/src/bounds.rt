@@ -12,8 +12,7 @@ impl Bounds {
     /// From first to last, or nothing where last comes before first, or is at or past the size.
     pub fn new(first: u32, last: u32, size: u32) -> Option<Bounds>
         ensures fits { IsSome result ↔ ((first ≤ last) × (last < size)) }
-        ensures value { IfSome result (λ bounds.
-            bounds ≡ record { first = first; last = last }) }
+        ensures value { IfSome result (λ bounds. bounds ≡ record { first = first; last = last }) }
     {
         (first <= last && last < size).then_some(Bounds { first, last })
     }

@@ -23,8 +23,7 @@ impl Model for Limits {
 }
 
 impl Limits {
-    /// Limits of 1 to 100,000 steps and a patience of 1 or more (decimal), or nothing for other
-    /// numbers.
+    /// 1 to 100,000 steps and a patience of 1 or more (decimal), or nothing for other numbers.
     pub fn new(steps: u32, patience: u32) -> Option<Self>
         ensures exists { IsSome result ↔ AreLimits (record { steps = steps; patience = patience }) }
         ensures value { IfSome result (λ l. l ≡ record { steps = steps; patience = patience }) }

@@ -4,8 +4,7 @@ ghost use Rattle.pp_numbers.specs.Profile.{processors_in, channels_in, has_proce
 use crate::channel_no::{CHANNELS, ChannelNo};
 use crate::pp_no::{PROCESSORS, PpNo};
 
-/// How many processors and channels a machine has. The first have the same numbers in both
-/// profiles.
+/// How many processors and channels a machine has. Both profiles number the first ones alike.
 #[derive(Clone, Copy)]
 pub enum Profile {
     /// The 6600: ten processors, 0 to 11 (octal), and twelve channels, 0 to 13.

@@ -1,6 +1,5 @@
-//! The words of a peripheral processor and of central memory: their ranges, ones' complement
-//! arithmetic, shifts and logic, addresses, operation codes, the five parts of a central word, and
-//! numbers in digits.
+//! The words of a peripheral processor and of central memory: ranges, ones' complement arithmetic,
+//! shifts and logic, addresses, operation codes, parts of a central word, and numbers in digits.
 #![tactic(auto)]
 
 mod address;

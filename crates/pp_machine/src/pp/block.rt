@@ -32,8 +32,7 @@ fn one_more(a: Word18) -> Word18
     }
 }
 
-/// The last place (octal) from which five words fit before the end of memory: five words from
-/// there on do not wrap to place 0000.
+/// The last place (octal) from which five words fit before the end of memory, with no wrap to 0000.
 const LAST_OF_FIVE: u16 = 0o7773;
 
 /// The place after one that is not the last.

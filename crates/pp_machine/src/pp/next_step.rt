@@ -76,8 +76,7 @@ impl Pp {
         (Some(op), d)
     }
 
-    /// Makes its next step if that is an instruction of the codes 00 to 57 (octal), and returns
-    /// whether it was.
+    /// Makes its next step if that is of the codes 00 to 57 (octal), and returns whether it was.
     #[inline(always)]
     pub(crate) fn step_internal(&mut self, op: Opcode, d: Word6) -> bool
         requires { IsAtInstruction op d self.old }
