@@ -43,7 +43,7 @@ pub(crate) fn ends(op: Opcode, d: Word6) -> bool
 
 #[tactic(auto, unfolding(crate::specs::NeedAndEffect::need, // what it asks
 crate::specs::NeedAndEffect::processor_after, // what the answer does
-crate::specs::NeedAndEffect::outcome))]
+crate::specs::NeedAndEffect::outcome), using(crate::proofs::TakenLemmas::taken_by_row))]
 impl Pp {
     /// Whether it is running and in no block, so that its next step is the instruction at P.
     pub(crate) fn is_at_instruction(&self) -> bool
