@@ -31,7 +31,7 @@ impl Model for ChannelNo {
 }
 
 #[tactic(auto, using(crate::specs::ChannelNo::channel_places), // numbers and places
-unfolding(crate::specs::ChannelNo::names_channel, crate::specs::ChannelNo::channel_number, // with a gap
+unfolding(crate::specs::ChannelNo::names_channel, crate::specs::ChannelNo::channel_number, // gap
 crate::specs::GappedNumbers::is_number, crate::specs::GappedNumbers::number_of))]
 impl ChannelNo {
     /// The channel of this number, or nothing from 14 to 17 (octal) and from 34 on.

@@ -31,7 +31,7 @@ impl Model for PpNo {
 }
 
 #[tactic(auto, using(crate::specs::PpNo::processor_places), // numbers and places
-unfolding(crate::specs::PpNo::names_processor, crate::specs::PpNo::processor_number, // with a gap
+unfolding(crate::specs::PpNo::names_processor, crate::specs::PpNo::processor_number, // gap
 crate::specs::GappedNumbers::is_number, crate::specs::GappedNumbers::number_of))]
 impl PpNo {
     /// The processor of this number, or nothing from 12 to 17 (octal) and from 32 on.
