@@ -251,12 +251,6 @@ IsRefused words LineFault.Number = (refusals words ≡ []) × ((work : Work) →
 IsRefused words LineFault.Picture = (refusals words ≡ []) × ((work : Work) → ¬ AskFor words work)
     × AsksForMoreAmong (subcommand_of ppsim words)
 
--- the fault that clap's error makes: want of memory is reported as such
-abbrev pub IsFaultBy : Error → LineFault → Type 0
-IsFaultBy error LineFault.Memory = kind_of error ≡ OutOfMemory
-IsFaultBy error (LineFault.Refused told) = (told ≡ error) × (kind_of error ≢ OutOfMemory)
-IsFaultBy error other = ⊥
-
 -- ---- parts of a reading
 
 -- the value of an option, by what clap's parse met

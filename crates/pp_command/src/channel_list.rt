@@ -5,7 +5,6 @@ ghost use Rattle.pp_numbers.specs.ChannelNo.{names_channel};
 ghost use Rattle.pp_command.specs.ChannelList.{AreListed};
 ghost use Rattle.pp_command.specs.NumberList.{numbered};
 
-use crate::number_list::first_number;
 use pp_numbers::{CHANNELS, ChannelNo};
 use pp_word::numeral;
 
@@ -16,16 +15,11 @@ pub fn listed_channels(text: &[u8]) -> Option<[bool; CHANNELS]>
         (AreListed text.now) }
 {
     let mut flags = [false; CHANNELS];
-    let mut left = text;
-    'numbers: loop {
-        let (number, rest) = first_number(left);
+    for number in text.split(|byte| *byte == b',') {
         let channel = channel_numbered(number)?;
         flags[channel.index()] = true;
-        let Some(rest) = rest else {
-            return Some(flags);
-        };
-        left = rest;
     }
+    Some(flags)
 }
 
 /// The channel of a number.

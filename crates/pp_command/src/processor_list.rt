@@ -5,7 +5,6 @@ ghost use Rattle.pp_numbers.specs.Profile.{has_processor};
 ghost use Rattle.pp_command.specs.NumberList.{numbered};
 ghost use Rattle.pp_command.specs.ProcessorList.{AreProcessorsListed};
 
-use crate::number_list::first_number;
 use pp_numbers::{PROCESSORS, PpNo, Profile};
 use pp_word::numeral;
 
@@ -18,16 +17,11 @@ pub fn listed_processors(profile: Profile, text: &[u8]) -> Option<[bool; PROCESS
         (AreProcessorsListed profile text.now) }
 {
     let mut flags = [false; PROCESSORS];
-    let mut left = text;
-    'numbers: loop {
-        let (number, rest) = first_number(left);
+    for number in text.split(|byte| *byte == b',') {
         let processor = processor_numbered(profile, number)?;
         flags[processor.index()] = true;
-        let Some(rest) = rest else {
-            return Some(flags);
-        };
-        left = rest;
     }
+    Some(flags)
 }
 
 /// The processor of a number.
