@@ -16,17 +16,8 @@ pub fn listed_channels(text: &[u8]) -> Option<[bool; CHANNELS]>
 {
     let mut flags = [false; CHANNELS];
     for number in text.split(|byte| *byte == b',') {
-        let channel = channel_numbered(number)?;
+        let channel = ChannelNo::new(numeral(8, 2, number)? as u8)?;
         flags[channel.index()] = true;
     }
     Some(flags)
-}
-
-/// The channel of a number.
-#[tactic(auto, unfolding(crate::specs::NumberList::numbered))]
-fn channel_numbered(number: &[u8]) -> Option<ChannelNo>
-    ensures { result ≡ numbered names_channel number.now }
-{
-    let value = numeral(8, 2, number)?;
-    ChannelNo::new(value as u8)
 }

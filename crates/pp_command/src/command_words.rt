@@ -25,45 +25,28 @@ fn asks_for_more(name: &str, matches: &ArgMatches<'_>) -> bool
     }
 }
 
-/// The work that `threads` asks for.
-fn threads_work(matches: &ArgMatches<'_>) -> Option<Work>
-    ensures { Finds (IsWorkOf (codes "threads") (value_in matches.now)) result }
-{
-    let profile = profile_of(matches)?;
-    let limits = limits_of(
-        number_of(matches, "steps")?,
-        number_of(matches, "patience")?,
-    )?;
-    Some(Work::Threads { profile, limits })
-}
-
-/// The work that `check` asks for.
-fn check_work(matches: &ArgMatches<'_>) -> Option<Work>
-    ensures { Finds (IsWorkOf (codes "check") (value_in matches.now)) result }
-{
-    let opened = channels_of(matches, "opened")?.unwrap_or([false; CHANNELS]);
-    Some(Work::Check { opened })
-}
-
-/// The work that a command asks for which takes a deck and runs no threads.
-fn deck_work(name: &str, matches: &ArgMatches<'_>) -> Option<Work>
-    requires threads { name.now ≢ codes "threads" }
-    requires check { name.now ≢ codes "check" }
-    ensures { Finds (IsWorkOf name.now (value_in matches.now)) result }
-{
-    let profile = profile_of(matches)?;
-    let text = text_of(name, matches, profile)?;
-    Some(Work::Deck { profile, text })
-}
-
 /// The work that a command asks for, if its numbers are in range.
 fn work_of(name: &str, matches: &ArgMatches<'_>) -> Option<Work>
     ensures { Finds (IsWorkOf name.now (value_in matches.now)) result }
 {
     match name {
-        "threads" => threads_work(matches),
-        "check" => check_work(matches),
-        _ => deck_work(name, matches),
+        "threads" => {
+            let profile = profile_of(matches)?;
+            let limits = limits_of(
+                number_of(matches, "steps")?,
+                number_of(matches, "patience")?,
+            )?;
+            Some(Work::Threads { profile, limits })
+        }
+        "check" => {
+            let opened = channels_of(matches, "opened")?.unwrap_or([false; CHANNELS]);
+            Some(Work::Check { opened })
+        }
+        _ => {
+            let profile = profile_of(matches)?;
+            let text = text_of(name, matches, profile)?;
+            Some(Work::Deck { profile, text })
+        }
     }
 }
 

@@ -18,17 +18,8 @@ pub fn listed_processors(profile: Profile, text: &[u8]) -> Option<[bool; PROCESS
 {
     let mut flags = [false; PROCESSORS];
     for number in text.split(|byte| *byte == b',') {
-        let processor = processor_numbered(profile, number)?;
+        let processor = profile.processor(numeral(8, 2, number)? as u8)?;
         flags[processor.index()] = true;
     }
     Some(flags)
-}
-
-/// The processor of a number.
-#[tactic(auto, unfolding(crate::specs::NumberList::numbered))]
-fn processor_numbered(profile: Profile, number: &[u8]) -> Option<PpNo>
-    ensures { result ≡ numbered (has_processor profile) number.now }
-{
-    let value = numeral(8, 2, number)?;
-    profile.processor(value as u8)
 }
