@@ -4,7 +4,7 @@ ghost use Rattle.std.specs.Prelude.{◌≡◌, ◌<◌, is_some, length, if◌th
 ghost use Rattle.pp_check.specs.TraceLine.{active_said, are_over, channel_in, channel_line, parsed_event, is_processor, last_word, parsed_line, number_after, numbered_line, parsed_state, turn_line};
 
 use pp_channel::{ChannelNo, ChannelState, Event, Flags};
-use pp_deck::{Fields, is_word};
+use pp_deck::Fields;
 use pp_numbers::PpNo;
 use pp_word::{Word12, numeral};
 
@@ -84,22 +84,13 @@ fn numbered_line(channel: ChannelNo, number: u64, fields: &mut Fields) -> Option
 fn event_in(fields: &mut Fields) -> Option<Event>
     ensures { result ≡ parsed_event fields.old }
 {
-    let name = fields.next_field()?;
-    if is_word(name, b"ACN") {
-        return are_over(fields).then_some(Event::Activate);
-    }
-    if is_word(name, b"DCN") {
-        return are_over(fields).then_some(Event::Disconnect);
-    }
-    let word = last_word(fields)?;
-    if is_word(name, b"PUT") {
-        Some(Event::Put(word))
-    } else if is_word(name, b"TAK") {
-        Some(Event::Take(word))
-    } else if is_word(name, b"FNC") {
-        Some(Event::Function(word))
-    } else {
-        None
+    match fields.next_field()? {
+        b"ACN" => are_over(fields).then_some(Event::Activate),
+        b"DCN" => are_over(fields).then_some(Event::Disconnect),
+        b"PUT" => Some(Event::Put(last_word(fields)?)),
+        b"TAK" => Some(Event::Take(last_word(fields)?)),
+        b"FNC" => Some(Event::Function(last_word(fields)?)),
+        _ => None,
     }
 }
 
@@ -108,9 +99,9 @@ fn event_in(fields: &mut Fields) -> Option<Event>
 fn state_in(field: &[u8], fields: &mut Fields) -> Option<ChannelState>
     ensures { result ≡ parsed_state field.now fields.old }
 {
-    if is_word(field, b"INACTIVE") {
+    if field == b"INACTIVE".as_slice() {
         are_over(fields).then_some(ChannelState::INACTIVE)
-    } else if is_word(field, b"ACTIVE") {
+    } else if field == b"ACTIVE".as_slice() {
         active_in(fields)
     } else {
         None
@@ -121,20 +112,19 @@ fn state_in(field: &[u8], fields: &mut Fields) -> Option<ChannelState>
 fn active_in(fields: &mut Fields) -> Option<ChannelState>
     ensures { result ≡ active_said fields.old }
 {
-    let field = fields.next_field()?;
-    if is_word(field, b"EMPTY") {
-        are_over(fields).then_some(ChannelState::EMPTY)
-    } else if is_word(field, b"FULL") {
-        let word = last_word(fields)?;
-        Some(ChannelState {
-            flags: Flags {
-                active: true,
-                full: true,
-            },
-            register: Some(word),
-        })
-    } else {
-        None
+    match fields.next_field()? {
+        b"EMPTY" => are_over(fields).then_some(ChannelState::EMPTY),
+        b"FULL" => {
+            let word = last_word(fields)?;
+            Some(ChannelState {
+                flags: Flags {
+                    active: true,
+                    full: true,
+                },
+                register: Some(word),
+            })
+        }
+        _ => None,
     }
 }
 
@@ -151,11 +141,8 @@ fn last_word(fields: &mut Fields) -> Option<Word12>
     ensures { result ≡ last_word fields.old }
 {
     let field = fields.next_field()?;
-    if !are_over(fields) {
-        return None;
-    }
     let word = numeral(8, 4, field)?;
-    Some(Word12::truncated(word as u32))
+    are_over(fields).then_some(Word12::truncated(word as u32))
 }
 
 /// Whether a field is `PP00` or another processor's.
@@ -163,10 +150,7 @@ fn last_word(fields: &mut Fields) -> Option<Word12>
 fn is_processor(field: &[u8]) -> bool
     ensures { result ≡ is_processor field.now }
 {
-    match number_after(b"PP", field) {
-        Some(number) => PpNo::new(number).is_some(),
-        None => false,
-    }
+    number_after(b"PP", field).and_then(PpNo::new).is_some()
 }
 
 /// The channel of a field like `CH05`.
@@ -183,6 +167,5 @@ fn number_after(letters: &[u8], field: &[u8]) -> Option<u8>
     requires { length letters.now ≡ 2 }
     ensures { result ≡ number_after letters.now field.now }
 {
-    let digits = field.strip_prefix(letters)?;
-    Some(numeral(8, 2, digits)? as u8)
+    Some(numeral(8, 2, field.strip_prefix(letters)?)? as u8)
 }

@@ -1,9 +1,7 @@
 //! Lists of channels.
 
-ghost use Rattle.std.specs.Prelude.{◌≡◌, Bool, List, MatchOption};
-ghost use Rattle.pp_numbers.specs.ChannelNo.{names_channel};
+ghost use Rattle.std.specs.Prelude.{Bool, List, MatchOption};
 ghost use Rattle.pp_command.specs.ChannelList.{AreListed};
-ghost use Rattle.pp_command.specs.NumberList.{numbered};
 
 use pp_numbers::{CHANNELS, ChannelNo};
 use pp_word::numeral;

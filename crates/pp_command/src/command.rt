@@ -1,10 +1,10 @@
 //! The command line that the program takes, by clap.
 
 ghost use Rattle.std.specs.Prelude.{◌≡◌, false, fold, map, IfOk};
-ghost use Rattle.clap.specs.Words.{app_of, new_app, rule_of, with_rule};
+ghost use Rattle.clap.specs.Words.{app_of, rule_of, with_rule};
 ghost use Rattle.clap.specs.declared.builder.command.Command.TheViews.{out-Command as fields_of};
 ghost use Rattle.pp_command.specs.CommandLine.{ReadsAlike, bare, with_commands};
-ghost use Rattle.pp_command.specs.CommandLine.{app_by, app_of_command, command_of_form, file_argument, rule_of_form};
+ghost use Rattle.pp_command.specs.CommandLine.{app_by, command_of_form, file_argument, rule_of_form};
 
 use crate::commands::{ABOUT, COMMANDS, EXAMPLE, FILE_HELP, MANUAL};
 use crate::number_range::NumberRange;

@@ -1,7 +1,7 @@
 //! Reading the words of a command line.
 
-ghost use Rattle.std.specs.Prelude.{◌≡◌, ◌≢◌, ◌↔◌, [], IsTrue, codes, map, option_map, IfOk, IfErr, OnOk};
-ghost use Rattle.pp_command.specs.CommandLine.{AskFor, AsksForMore, Finds, IsRefused, IsWorkOf, Name, ReadsFile, refusals, value_in};
+ghost use Rattle.std.specs.Prelude.{◌≡◌, ◌↔◌, [], IsTrue, map, option_map, IfOk, IfErr, OnOk};
+ghost use Rattle.pp_command.specs.CommandLine.{AskFor, AsksForMore, Finds, IsRefused, IsWorkOf, Name, refusals, value_in};
 
 use crate::command::command;
 use crate::line_fault::LineFault;

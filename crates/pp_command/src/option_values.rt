@@ -2,7 +2,7 @@
 
 ghost use Rattle.std.specs.Prelude.{◌≡◌, ◌-◌, ◌≤◌, ◌↔◌, IsTrue, codes, option_map, IfSome, IsSome};
 ghost use Rattle.pp_numbers.specs.Limits.{AreLimits};
-ghost use Rattle.pp_command.specs.CommandLine.{Finds, ReadsAddress, ReadsBounds, ReadsChannels, ReadsChosen, ReadsNumber, ReadsProcessor, ReadsProcessors, ReadsProfile, ReadsTurn, ReadsFlag, ReadsTurns, ReadsWindow, value_in};
+ghost use Rattle.pp_command.specs.CommandLine.{Finds, ReadsAddress, ReadsBounds, ReadsChosen, ReadsNumber, ReadsProcessor, ReadsProcessors, ReadsProfile, ReadsTurn, ReadsFlag, ReadsTurns, ReadsWindow, value_in};
 
 use crate::channel_list::listed_channels;
 use crate::number_range::{FROM, PATIENCE, STEPS, TURNS};

@@ -1,11 +1,9 @@
 //! Lists of processors.
 
-ghost use Rattle.std.specs.Prelude.{◌≡◌, Bool, List, MatchOption};
-ghost use Rattle.pp_numbers.specs.Profile.{has_processor};
-ghost use Rattle.pp_command.specs.NumberList.{numbered};
+ghost use Rattle.std.specs.Prelude.{Bool, List, MatchOption};
 ghost use Rattle.pp_command.specs.ProcessorList.{AreProcessorsListed};
 
-use pp_numbers::{PROCESSORS, PpNo, Profile};
+use pp_numbers::{PROCESSORS, Profile};
 use pp_word::numeral;
 
 /// The processors of a list like `0,1,11`, by flags in the barrel's order. The numbers have one or

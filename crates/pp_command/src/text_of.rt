@@ -1,7 +1,7 @@
 //! Which text of a deck is asked for, and how a command line asks for it.
 
 ghost use Rattle.std.specs.Prelude.{◌≢◌, codes};
-ghost use Rattle.pp_command.specs.CommandLine.{AsksForText, Finds, ReadsTurns, value_in};
+ghost use Rattle.pp_command.specs.CommandLine.{AsksForText, Finds, value_in};
 
 use crate::option_values::{
     bounds_of, channels_of, fits_a_picture, is_flagged, processor_of, processors_of, turn_of,

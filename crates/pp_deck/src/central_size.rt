@@ -2,12 +2,10 @@
 
 ghost use Rattle.std.specs.Prelude.{◌≡◌};
 ghost use Rattle.pp_machine.specs.Central.{IsCentralSize};
-ghost use Rattle.pp_deck.specs.DeckLine.{keyword_of};
-ghost use Rattle.pp_deck.specs.DeckMeaning.{size_by, size_of};
+ghost use Rattle.pp_deck.specs.DeckMeaning.{size_of};
 ghost use Rattle.pp_deck.specs.DeckText.{lines_of};
 
 use crate::deck_line::central_size_in;
-use crate::fields::Fields;
 use crate::keyword::Keyword;
 use crate::lines::Lines;
 
@@ -22,19 +20,11 @@ pub(crate) fn central_size(text: &[u8]) -> u32
     let mut lines = Lines::of(text);
     while let Some(mut fields) = lines.next_line() {
         if let Some(first) = fields.next_field() {
-            return size_by_line(first, &mut fields);
+            return match Keyword::of(first) {
+                Keyword::Central => central_size_in(&mut fields).unwrap_or(DEFAULT_SIZE),
+                _ => DEFAULT_SIZE,
+            };
         }
     }
     DEFAULT_SIZE
-}
-
-/// The size that the first line with fields asks for: its first field, and those after it.
-fn size_by_line(first: &[u8], fields: &mut Fields) -> u32
-    ensures value { result ≡ size_by (keyword_of first.now) fields.old }
-    ensures range { IsCentralSize result }
-{
-    match Keyword::of(first) {
-        Keyword::Central => central_size_in(fields).unwrap_or(DEFAULT_SIZE),
-        _ => DEFAULT_SIZE,
-    }
 }

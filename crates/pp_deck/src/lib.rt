@@ -17,6 +17,4 @@ mod reading;
 pub use deck::{Deck, read_deck};
 pub use deck_fault::{DeckCode, DeckFault};
 pub use fields::Fields;
-pub use keyword::is_word;
 pub use laws::{deck_law, reading_law};
-pub use lines::first_line_feed;
