@@ -61,10 +61,8 @@ fn first_channel<A: Allocator>(machine: &Machine<A>) -> Option<Busy>
 fn in_processor(n: PpNo, pp: &Pp) -> Option<Busy>
     ensures { result ≡ in_processor n pp.now.block pp.now.state }
 {
-    if pp.block().is_some() {
-        return Some(Busy::WithinBlock(n));
-    }
     match pp.state() {
+        _ if pp.block().is_some() => Some(Busy::WithinBlock(n)),
         PpState::Fault(_) => Some(Busy::AtFault(n)),
         PpState::Running | PpState::Stopped => None,
     }

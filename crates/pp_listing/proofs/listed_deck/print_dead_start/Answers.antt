@@ -1,4 +1,4 @@
-use Rattle.std.proofs.Common.{◌≡◌, ◌∙◌, Bool, true, false, ℕ, [], ◌∷◌, ap, arith, refl, sym}
+use Rattle.std.proofs.Common.{◌≡◌, ◌∙◌, Bool, true, false, ℕ, [], ◌∷◌, ap, arith, refl, rules, sym}
 use Rattle.std.specs.Prelude.{◌||◌}
 use Rattle.std.specs.List.{list_any}
 use Rattle.std.proofs.lemmas.List.Folds.{list_any-append}
@@ -6,7 +6,7 @@ use Rattle.pp_numbers.specs.Tables.{tabulate}
 use Rattle.pp_numbers.proofs.GrowingLists.{tabulate_more}
 use Rattle.pp_numbers.specs.ChannelNo.{all_channels, channel_count, channel_number}
 use Rattle.pp_machine.specs.MachineState.{is_opened}
-use Rattle.pp_listing.proofs.listed_deck.has_opened_channel.Goals as goal
+use Rattle.pp_listing.proofs.listed_deck.print_dead_start.Goals as goal
 
 no_more : (b : Bool) → (b || false) ≡ b
 no_more true = refl
@@ -26,6 +26,16 @@ loop-place-preserved g c =
     ∙ sym (list_any-append opened so_far (next ∷ []))
     ∙ sym (ap (list_any opened) (tabulate_more c.loop-place.place channel_number))
 
-pub returns : goal.returns
+pub returns-then-any : goal.returns-then-any
 unfolding all_channels
-returns g c = let all : c.loop-place.place ≡ channel_count = omega arith in rw all at c.loop-place.invariant
+returns-then-any g c =
+    let all : c.loop-place.place ≡ channel_count = omega arith in
+    let any = rw all at c.loop-place.invariant in
+    search (rules, any)
+
+pub returns-else-any : goal.returns-else-any
+unfolding all_channels
+returns-else-any g c =
+    let all : c.loop-place.place ≡ channel_count = omega arith in
+    let any = rw all at c.loop-place.invariant in
+    search (rules, any)
