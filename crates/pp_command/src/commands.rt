@@ -107,14 +107,11 @@ pub(crate) const EXAMPLE: &str = handoff_example!("barrel --turns 40");
 /// What help says of the word that names a file.
 pub(crate) const FILE_HELP: &str = "The file to read; standard input if not given, or -";
 
-/// How many turns to run.
 const TURNS_OPTION: OptionForm = option!(required: true, "turns", Number(TURNS));
 
-/// How many processors the machine has.
 const PROCESSORS_OPTION: OptionForm = option!(required: false, "processors", Text("N",
         "How many processors the machine has, 10 or 20 (decimal); 10 if not given"));
 
-/// The first place or address to print.
 const FIRST_OPTION: OptionForm = option!(required: false, "first", Text("N",
         "The first address to print (octal; 0 if not given)"));
 

@@ -118,12 +118,9 @@ pub(crate) fn bounds_of(matches: &ArgMatches<'_>, size: u32) -> Option<Bounds>
 pub(crate) fn turn_of(matches: &ArgMatches<'_>, id: &str, default: u32) -> Option<u32>
     ensures { Finds (ReadsTurn default (value_in matches.now id.now)) result }
 {
-    let Some(text) = value_of(matches, id) else {
-        return Some(default);
-    };
-    match text.parse::<u32>() {
-        Ok(turn) if FROM.contains(turn) => Some(turn),
-        Ok(_) | Err(_) => None,
+    match value_of(matches, id) {
+        Some(text) => text.parse::<u32>().ok().filter(|turn| FROM.contains(*turn)),
+        None => Some(default),
     }
 }
 
