@@ -6,16 +6,15 @@ pub(crate) mod threads_text;
 
 ghost use Rattle.std.specs.Prelude.{◌≡◌, Ok};
 ghost use Rattle.pp_deck.specs.DeckMeaning.{deck_meaning};
-ghost use Rattle.pp_sessions.specs.SessionsText.{sessions_after};
 ghost use Rattle.pp_sim.specs.TextAnswer.{AnswersLoaded, AnswersLoadedUnless, IsAnswer, IsAnswerUnless};
-ghost use Rattle.pp_sim.specs.TextOf.{IsDrawing, IsDumpText, IsEndsText, IsRacesText, IsStepsText, IsTextAfter, IsTextOf, PreventsDump, obstacle};
+ghost use Rattle.pp_sim.specs.TextOf.{IsDumpText, IsEndsText, IsRacesText, IsStepsText, IsTextAfter, IsTextOf, PreventsDump, obstacle};
 ghost use Rattle.pp_state.specs.StateText.{state_after};
 
 use crate::deck_bytes::DeckBytes;
 use crate::text_fault::{TextFault, answer_to, answer_to_report};
 use pp_command::{ChosenSteps, TextOf};
 use pp_deck::Deck;
-use pp_draw::{Window, run_seeing_steps, write_drawing};
+use pp_draw::{run_seeing_steps, write_drawing};
 use pp_ends::{find_ending, find_loops, write_ends};
 use pp_listing::{DumpFault, write_dump, write_listing};
 use pp_races::write_races;
@@ -49,7 +48,9 @@ pub(crate) fn write_text_of<A: Allocator + Copy, W: Write>(
         TextOf::Dump(turns) => write_dump_after(loaded, writer, *turns),
         TextOf::State(turns) => write_state_after(alloc, deck, loaded, writer, *turns),
         TextOf::Sessions { turns, words } => {
-            write_sessions_after(loaded, writer, *turns, *words)
+            let shown = loaded.in_use();
+            let counts = run_counting_steps(&mut loaded.machine, *turns)?;
+            answer_to(write_sessions(writer, &loaded.machine, &shown, &counts, *words))
         }
         TextOf::Races(turns) => write_raced(alloc, deck, loaded, writer, *turns),
         TextOf::Ends(turns) => write_ends_after(alloc, loaded, writer, *turns),
@@ -68,7 +69,11 @@ pub(crate) fn write_text_of<A: Allocator + Copy, W: Write>(
         TextOf::Steps { turns, chosen } => {
             write_chosen_steps(alloc, loaded, writer, *turns, chosen)
         }
-        TextOf::Draw(window) => write_drawn(alloc, loaded, writer, *window),
+        TextOf::Draw(window) => {
+            let shown = loaded.in_use();
+            let steps = run_seeing_steps(alloc, &mut loaded.machine, *window)?;
+            answer_to(write_drawing(writer, &loaded.machine, &shown, steps.as_slice(), *window))
+        }
     }
 }
 
@@ -125,21 +130,6 @@ fn write_ends_after<A: Allocator + Copy, W: Write>(
     answer_to(write_ends(writer, &shown, ending, turns, &loaded.machine, &loops))
 }
 
-fn write_sessions_after<A: Allocator + Copy, W: Write>(
-    loaded: &mut Deck<A>,
-    writer: &mut W,
-    turns: u32,
-    words: bool,
-) -> Result<(), TextFault>
-    ensures { AnswersLoaded loaded.old.machine loaded.old.named
-        (IsTextAfter turns (sessions_after words)) result
-        (W.contents writer.old) (W.contents writer.new) }
-{
-    let shown = loaded.in_use();
-    let counts = run_counting_steps(&mut loaded.machine, turns)?;
-    answer_to(write_sessions(writer, &loaded.machine, &shown, &counts, words))
-}
-
 /// The run is made twice, the first time of the deck loaded once more, to count its events; then,
 /// with room for them, it is watched.
 fn write_raced<A: Allocator + Copy, W: Write>(
@@ -178,18 +168,4 @@ fn write_chosen_steps<A: Allocator + Copy, W: Write>(
         to: chosen.to,
     };
     answer_to_report(write_steps(alloc, writer, &loaded.machine, &choice, turns))
-}
-
-fn write_drawn<A: Allocator + Copy, W: Write>(
-    alloc: A,
-    loaded: &mut Deck<A>,
-    writer: &mut W,
-    window: Window,
-) -> Result<(), TextFault>
-    ensures { AnswersLoaded loaded.old.machine loaded.old.named (IsDrawing window) result
-        (W.contents writer.old) (W.contents writer.new) }
-{
-    let shown = loaded.in_use();
-    let steps = run_seeing_steps(alloc, &mut loaded.machine, window)?;
-    answer_to(write_drawing(writer, &loaded.machine, &shown, steps.as_slice(), window))
 }

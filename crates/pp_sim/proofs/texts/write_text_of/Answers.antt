@@ -1,4 +1,10 @@
-use Rattle.std.proofs.Common.{◌∙◌, ap, refl, subst}
+use Rattle.std.proofs.Common.{Bool, List, ◌∙◌, ap, refl, subst}
+use Rattle.pp_deck.specs.InUse.{in_use}
+use Rattle.pp_draw.specs.DrawingText.{drawing, drawing_of_run}
+use Rattle.pp_draw.specs.declared.seen_step.SeenStep.{SeenStep}
+use Rattle.pp_machine.specs.Run.{barrel, run}
+use Rattle.pp_run.specs.declared.step_counts.StepCounts.{StepCounts}
+use Rattle.pp_sessions.specs.SessionsText.{sessions_after, sessions_text}
 use Rattle.pp_machine.specs.Headline.{HoldsOnEachChannel}
 use Rattle.pp_machine.specs.MachineState.{MachineState, processor_of}
 use Rattle.pp_deck.specs.DeckMeaning.{deck_meaning}
@@ -57,3 +63,34 @@ returns-in_ok-run_barrel-in-Central g c =
     let told = ap (central_text bounds) c.central.ensures ∙ ap (λ (m : MachineState). central_text bounds m.central) ran in
     rw (c.in-Central.is, c.answer_to-in-Central.ensures) (answers_after c.args.deck.now.profile c.in-Central.turns (central_after bounds) c.args.deck.now.bytes.now _ _ _ c.write_central.result _ _
     c.requires.meant ran c.run_barrel-in-Central.ensures.run.headline told c.write_central.ensures)
+
+pub returns-in_ok-counts-in-Sessions : goal.returns-in_ok-counts-in-Sessions
+returns-in_ok-counts-in-Sessions g c =
+    let words = c.in-Sessions.words in
+    let turns = c.in-Sessions.turns in
+    let before = c.args.loaded.now.machine in
+    let shown = in_use (record { machine = before; named = c.args.loaded.now.named }) in
+    let after = c.run_counting_steps.new.machine in
+    let ok = c.in_ok-counts-in-Sessions in
+    let told =
+    ap (λ (flags : List Bool). sessions_text words flags after ok.counts) c.in_use-shown.ensures
+    ∙ ap (λ (m : MachineState). sessions_text words shown m ok.counts) ok.ensures.run.ran
+    ∙ ap (λ (counts : List StepCounts). sessions_text words shown (run (barrel before.profile turns) before) counts) ok.ensures.counts in
+    rw (c.in-Sessions.is, c.answer_to-in-Sessions.ensures) (answers_after c.args.deck.now.profile turns (sessions_after words) c.args.deck.now.bytes.now _ _ after c.write_sessions.result _ _
+    c.requires.meant ok.ensures.run.ran c.run_counting_steps.ensures.run.headline told c.write_sessions.ensures)
+
+pub returns-in_ok-steps-in-Draw : goal.returns-in_ok-steps-in-Draw
+returns-in_ok-steps-in-Draw g c =
+    let window = c.in-Draw.window in
+    let before = c.args.loaded.now.machine in
+    let shown = in_use (record { machine = before; named = c.args.loaded.now.named }) in
+    let after = c.run_seeing_steps.new.machine in
+    let ok = c.in_ok-steps-in-Draw in
+    let ran_to : MachineState → MachineState = λ m. run (barrel m.profile window.to) m in
+    let told =
+    ap (λ (flags : List Bool). drawing window flags after c.as_slice.result.now) c.in_use-shown-in-Draw.ensures
+    ∙ ap (λ (steps : List SeenStep). drawing window shown after steps) c.as_slice.ensures.value
+    ∙ ap (λ (m : MachineState). drawing window shown m ok.steps.items) ok.ensures.run.ran
+    ∙ ap (λ (steps : List SeenStep). drawing window shown (ran_to before) steps) ok.ensures.seen in
+    rw (c.in-Draw.is, c.answer_to-in-Draw.ensures) (answers_after c.args.deck.now.profile window.to (λ turns. drawing_of_run window) c.args.deck.now.bytes.now _ _ after c.write_drawing.result _ _
+    c.requires.meant ok.ensures.run.ran c.run_seeing_steps.ensures.run.headline told c.write_drawing.ensures)
