@@ -56,15 +56,10 @@ Happens opened before line after (Ok done) =
     KeepsEvents opened (before ++ line ∷ []) after.channels after.events after.sessions
 Happens opened before line after (Err flaw) = IsFlawOf opened before line flaw
 
--- what judging a line after others comes to: the judge keeps it too, or it has this flaw
-abbrev pub IsJudged : List Bool → List TraceLine → TraceLine → Judge
-    → Result (Unit {0}) TraceFlaw → Type 0
-IsJudged opened before line after (Ok done) = Keeps opened (before ++ line ∷ []) after
-IsJudged opened before line after (Err flaw) = IsFlawOf opened before line flaw
-
--- the same of a line by what it says, if it says anything
+-- what reading a line after others comes to, by what it says, if it says anything: the judge keeps
+-- it too, or it has this flaw
 abbrev pub IsRead : List Bool → List TraceLine → Option TraceLine → Judge
     → Result (Unit {0}) TraceFlaw → Type 0
 IsRead opened before None after (Ok done) = ⊥
-IsRead opened before None after (Err flaw) = IsFlaw opened before None flaw
-IsRead opened before (Some line) after done = IsJudged opened before line after done
+IsRead opened before (Some line) after (Ok done) = Keeps opened (before ++ line ∷ []) after
+IsRead opened before said after (Err flaw) = IsFlaw opened before said flaw
