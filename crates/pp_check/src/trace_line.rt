@@ -32,7 +32,7 @@ pub(crate) fn line_in(fields: &mut Fields) -> Option<TraceLine>
     let Some(field) = fields.next_field() else {
         return Some(TraceLine::Other);
     };
-    if is_processor(field) {
+    if processor_in(field).is_some() {
         return Some(TraceLine::Other);
     }
     match channel_in(field) {
@@ -47,36 +47,24 @@ fn turn_line(field: &[u8], fields: &mut Fields) -> Option<TraceLine>
     ensures { result ≡ turn_line field.now fields.old }
 {
     let turn = numeral(10, COUNT_DIGITS, field)?;
-    if !is_processor(fields.next_field()?) {
-        return None;
-    }
+    processor_in(fields.next_field()?)?;
     let channel = channel_in(fields.next_field()?)?;
-    let event = event_in(fields)?;
-    Some(TraceLine::AtTurn(turn, channel, event))
+    Some(TraceLine::AtTurn(turn, channel, event_in(fields)?))
 }
 
-/// What follows `CH05`.
-#[tactic(auto, unfolding(crate::specs::TraceLine::channel_line))]
+/// What follows `CH05`: an event with its number, as `000001 PP00 PUT 0007`, or a state.
+#[tactic(auto, unfolding(crate::specs::TraceLine::channel_line, crate::specs::TraceLine::numbered_line))]
 fn channel_line(channel: ChannelNo, fields: &mut Fields) -> Option<TraceLine>
     ensures { result ≡ channel_line channel fields.old }
 {
     let field = fields.next_field()?;
     match numeral(10, COUNT_DIGITS, field) {
-        Some(number) => numbered_line(channel, number, fields),
+        Some(number) => {
+            processor_in(fields.next_field()?)?;
+            Some(TraceLine::Numbered(number, channel, event_in(fields)?))
+        }
         None => Some(TraceLine::Standing(channel, state_in(field, fields)?)),
     }
-}
-
-/// `000001 PP00 PUT 0007` after `CH05` and its number.
-#[tactic(auto, unfolding(crate::specs::TraceLine::numbered_line))]
-fn numbered_line(channel: ChannelNo, number: u64, fields: &mut Fields) -> Option<TraceLine>
-    ensures { result ≡ numbered_line channel number fields.old }
-{
-    if !is_processor(fields.next_field()?) {
-        return None;
-    }
-    let event = event_in(fields)?;
-    Some(TraceLine::Numbered(number, channel, event))
 }
 
 /// `ACN`, `DCN`, `PUT 0007`, `TAK 0007`, `FNC 0007`.
@@ -145,12 +133,12 @@ fn last_word(fields: &mut Fields) -> Option<Word12>
     are_over(fields).then_some(Word12::truncated(word as u32))
 }
 
-/// Whether a field is `PP00` or another processor's.
+/// The processor of a field like `PP00`.
 #[tactic(auto, unfolding(crate::specs::TraceLine::is_processor))]
-fn is_processor(field: &[u8]) -> bool
-    ensures { result ≡ is_processor field.now }
+fn processor_in(field: &[u8]) -> Option<PpNo>
+    ensures { is_some result ≡ is_processor field.now }
 {
-    number_after(b"PP", field).and_then(PpNo::new).is_some()
+    PpNo::new(number_after(b"PP", field)?)
 }
 
 /// The channel of a field like `CH05`.

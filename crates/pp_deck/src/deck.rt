@@ -2,10 +2,12 @@
 
 ghost use Rattle.std.specs.Prelude.{ℕ, ◌≡◌, ◌≢◌, ◌≤◌, ◌<◌, Ok, Err, IfOk, IfErr, length, position};
 ghost use Rattle.pp_deck.specs.DeckText.{lines_of};
-ghost use Rattle.pp_deck.specs.DeckMeaning.{deck_meaning, meaning_of_lines, is_foreign, line_of_byte};
+ghost use Rattle.pp_deck.specs.DeckMeaning.{deck_meaning, meaning_of_lines, size_of, is_foreign, line_of_byte};
+ghost use Rattle.pp_machine.specs.Central.{IsCentralSize};
 
-use crate::central_size::central_size;
 use crate::deck_fault::{DeckCode, DeckFault};
+use crate::deck_line::central_size_in;
+use crate::keyword::Keyword;
 use crate::lines::Lines;
 use crate::reading::Reading;
 use pp_channel::Memory;
@@ -14,6 +16,9 @@ use std::alloc::Allocator;
 
 /// The longest text of a deck, in bytes (decimal).
 const LONGEST_TEXT: usize = 1_048_576;
+
+/// The size if a deck sets none: 10000 words (octal).
+const DEFAULT_SIZE: u32 = 0o10000;
 
 /// A loaded machine, and the processors that its deck names, in the barrel's order; none is named
 /// that the machine lacks.
@@ -82,6 +87,23 @@ fn line_of_byte(text: &[u8], place: usize) -> u32
 {
     let ended = text[..place].iter().filter(|byte| **byte == b'\n').count();
     ended as u32 + 1
+}
+
+/// The size of central memory that the text of a deck asks for.
+pub(crate) fn central_size(text: &[u8]) -> u32
+    ensures value { result ≡ size_of (lines_of text.now) }
+    ensures range { IsCentralSize result }
+{
+    let mut lines = Lines::of(text);
+    while let Some(mut fields) = lines.next_line() {
+        if let Some(first) = fields.next_field() {
+            return match Keyword::of(first) {
+                Keyword::Central => central_size_in(&mut fields).unwrap_or(DEFAULT_SIZE),
+                _ => DEFAULT_SIZE,
+            };
+        }
+    }
+    DEFAULT_SIZE
 }
 
 /// The deck of a text that is ASCII and not too long: its lines are read up to the first fault, and

@@ -1,7 +1,6 @@
 //! Decks: texts that load a machine, or are refused at a line.
 #![tactic(auto)]
 
-mod central_size;
 mod deck;
 mod deck_fault;
 mod deck_line;
