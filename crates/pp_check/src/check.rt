@@ -1,5 +1,3 @@
-//! The check of a trace.
-
 ghost use Rattle.std.specs.Prelude.{ℕ, ◌≡◌, ◌+◌, ◌<◌, ◌≤◌, ◌↔◌, IfOk, IfErr, length, take};
 ghost use Rattle.pp_deck.specs.DeckText.{lines_of};
 ghost use Rattle.pp_check.specs.LawfulTrace.{AreLawful, parsed_lines};

@@ -1,5 +1,3 @@
-//! The judge of a trace, line by line.
-
 ghost use Rattle.std.specs.Prelude.{◌≡◌, ◌+◌, ◌<◌, ◌≤◌, ◌^◌, [], Bool, List, Some, IsTrue, OnOk};
 ghost use Rattle.pp_numbers.specs.ChannelNo.{names_channel};
 ghost use Rattle.pp_deck.specs.DeckText.{fields_of};

@@ -1,5 +1,3 @@
-//! What the judge keeps of one channel.
-
 ghost use Rattle.std.specs.Prelude.{◌≡◌, ◌<◌, ◌^◌};
 ghost use Rattle.pp_check.specs.Judge.{next_number};
 

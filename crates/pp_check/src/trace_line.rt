@@ -1,5 +1,3 @@
-//! What a line of a trace says.
-
 ghost use Rattle.std.specs.Prelude.{◌≡◌, ◌<◌, is_some, length, if◌then◌else◌};
 ghost use Rattle.pp_check.specs.TraceLine.{active_said, are_over, channel_in, channel_line, parsed_event, is_processor, last_word, parsed_line, number_after, numbered_line, parsed_state, turn_line};
 

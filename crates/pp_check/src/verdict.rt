@@ -1,5 +1,3 @@
-//! What is counted in a lawful trace.
-
 ghost use Rattle.pp_check.specs.Verdict.{verdict_line};
 ghost use Rattle.pp_text.specs.Written.{IsWritten};
 

@@ -1,5 +1,3 @@
-//! Lists of channels.
-
 ghost use Rattle.std.specs.Prelude.{Bool, List, MatchOption};
 ghost use Rattle.pp_command.specs.ChannelList.{AreListed};
 

@@ -1,5 +1,3 @@
-//! Lists of processors.
-
 ghost use Rattle.std.specs.Prelude.{Bool, List, MatchOption};
 ghost use Rattle.pp_command.specs.ProcessorList.{AreProcessorsListed};
 

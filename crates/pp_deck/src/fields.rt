@@ -1,5 +1,3 @@
-//! The fields of a line.
-
 ghost use Rattle.std.specs.Prelude.{◌≡◌, ◌∷◌, [], not, IfSome, IfNone, position};
 ghost use Rattle.std.specs.List.{position_or_len};
 ghost use Rattle.pp_deck.specs.DeckText.{is_blank};

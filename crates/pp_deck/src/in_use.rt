@@ -1,5 +1,3 @@
-//! Which processors of a loaded deck are in use.
-
 ghost use Rattle.std.specs.Prelude.{◌≡◌};
 ghost use Rattle.pp_deck.specs.InUse.{in_use, is_in_use};
 

@@ -1,5 +1,3 @@
-//! The first field of a line, which says what the line is.
-
 ghost use Rattle.std.specs.Prelude.{◌≡◌};
 
 /// What the first field of a line announces.

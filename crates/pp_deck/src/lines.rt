@@ -1,5 +1,3 @@
-//! The lines of a deck's text.
-
 ghost use Rattle.std.specs.Prelude.{◌≡◌, ◌∷◌, [], IfSome, IfNone, position};
 
 use crate::fields::Fields;

@@ -1,5 +1,3 @@
-//! Dumps.
-
 ghost use Rattle.std.specs.Prelude.{◌≡◌, None};
 ghost use Rattle.pp_listing.specs.Dump.{GoesOnFrom, IsDumped, dump, first_busy};
 

@@ -1,5 +1,3 @@
-//! Why a machine is not between programs.
-
 ghost use Rattle.std.specs.Prelude.{◌≡◌, slice_get, filter_map};
 ghost use Rattle.pp_numbers.specs.ChannelNo.{all_channels};
 ghost use Rattle.pp_numbers.specs.PpNo.{all_processors};

@@ -1,5 +1,3 @@
-//! Listings.
-
 ghost use Rattle.std.specs.Prelude.{◌<◌};
 ghost use Rattle.pp_text.specs.TextWriter.{Prints};
 ghost use Rattle.pp_text.specs.Written.{IsWritten};

@@ -1,5 +1,3 @@
-//! The sections of processors.
-
 ghost use Rattle.pp_text.specs.TextWriter.{Prints};
 ghost use Rattle.pp_listing.specs.ListedLine.{text_of};
 ghost use Rattle.pp_listing.specs.Listing.{sections, start_line};

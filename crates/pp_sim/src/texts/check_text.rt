@@ -1,5 +1,3 @@
-//! Reading a channel trace and writing what is counted in it, if it is lawful.
-
 ghost use Rattle.pp_sim.specs.CheckText.{AnswersTrace};
 
 use crate::streams::read_all;
