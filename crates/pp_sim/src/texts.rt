@@ -144,9 +144,11 @@ fn write_raced<A: Allocator + Copy, W: Write>(
     ensures { IsAnswer deck.now.profile (IsRacesText turns) result deck.now.bytes.now
         (W.contents writer.old) (W.contents writer.new) }
 {
-    let mut ahead = deck.load(alloc)?;
-    ahead.machine.run_barrel(turns)?;
-    let events = ahead.machine.event_counts();
+    let events = {
+        let mut ahead = deck.load(alloc)?;
+        ahead.machine.run_barrel(turns)?;
+        ahead.machine.event_counts()
+    };
     loaded.machine.is_sound();
     answer_to_report(write_races(alloc, writer, &mut loaded.machine, turns, &events))
 }
