@@ -1,5 +1,5 @@
 -- What the judge keeps of the lines so far. (Only private contracts cite this.)
-use Rattle.std.specs.Prelude.{◌≡◌, ℕ, ◌+◌, Bool, List, [], ◌∷◌, ◌++◌, length, false, IsTrue, count_by, slice_index_or, Result, Ok, Err, Option, None, Some, if◌then◌else◌}
+use Rattle.std.specs.Prelude.{◌≡◌, ℕ, Bool, List, [], ◌∷◌, ◌++◌, length, false, IsTrue, count_by, slice_index_or, Result, Ok, Err, Option, None, Some}
 use Rattle.pp_channel.specs.Answer.{channel_state}
 use Rattle.pp_numbers.specs.ChannelNo.{channel_count, channel_index, names_channel}
 use Rattle.pp_check.specs.LawfulTrace.{IsLawfulTrace, events_on, history, is_opened, last_turn}
@@ -23,10 +23,6 @@ new_standing = record { state = inactive; events = 0; is_opened = false }
 -- what is kept of channel c among all channels
 abbrev pub standing_of : List Standing → ℕ → Standing
 standing_of channels c = slice_index_or channels (channel_index c) new_standing
-
--- the number of a channel's next event
-abbrev pub next_number : Standing → ℕ
-next_number s = if s.is_opened then s.events + 1 else s.events
 
 -- The lines so far are lawful; the state of each channel is kept; and events and sessions are
 -- counted.

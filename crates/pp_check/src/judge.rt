@@ -65,7 +65,8 @@ impl Judge {
                 self.happen(channel, event)
             }
             TraceLine::Numbered(number, channel, event) => {
-                let next = self.standing_of(channel).next_number();
+                let standing = self.standing_of(channel);
+                let next = standing.events + u64::from(standing.is_opened);
                 if number != next {
                     return Err(TraceFlaw::WrongNumber(channel, number, next));
                 }

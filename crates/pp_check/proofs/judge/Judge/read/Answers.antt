@@ -1,11 +1,12 @@
-use Rattle.std.proofs.Common.{ℕ, arith, rules, refl, ◌≡◌, ◌≢◌, ◌<◌, sym, ap, ◌∙◌, subst, Option, Some}
-use Rattle.std.specs.Prelude.{IfSome}
-use Rattle.pp_check.specs.Judge.{next_number, standing}
+use Rattle.std.proofs.Common.{Bool, true, false, ◌+◌, ℕ, arith, rules, refl, ◌≡◌, ◌≢◌, ◌<◌, ◌≤◌, sym, ap, ◌∙◌, subst, Option, Some}
+use Rattle.std.specs.Prelude.{IfSome, if◌then◌else◌}
+use Rattle.std.specs.Int.{from_bool}
+use Rattle.pp_check.specs.Judge.{standing}
 use Rattle.pp_deck.specs.DeckText.{fields_of}
 use Rattle.pp_check.specs.LawfulTrace.{last_turn}
 use Rattle.pp_check.specs.TraceLine.{parsed_line}
 use Rattle.pp_check.specs.declared.trace_line.TraceLine.TheVariants.{AtTurn, Numbered}
-use Rattle.pp_check.proofs.KeepsLemmas.{at_turn_here, few_events, judged_by, keeps_without_event, next_number_is, nothing_told, numbered_here, state_told}
+use Rattle.pp_check.proofs.KeepsLemmas.{at_turn_here, few_events, judged_by, keeps_without_event, next_number, next_number_is, nothing_told, numbered_here, state_told}
 use Rattle.pp_check.proofs.TraceLemmas.{last_turn_more, last_turn_same}
 use Rattle.pp_check.proofs.judge.Judge.read.Goals as goal
 use Rattle.pp_check.proofs.judge.Judge.read.Goals.{in-Some-last_turn+else-turn-last, in_default-last_turn}
@@ -21,25 +22,33 @@ returns-after-self-clause-judged c = λ opened lines k.
     let happens = c.happen.ensures.happens opened lines line k.kept fits (at_turn_here c.in-AtTurn.turn c.in-AtTurn.channel c.in-AtTurn.event) in
     rw said (rw c.in-AtTurn.is (judged_by opened lines line c.happen.new.self c.happen.result (c.happen.ensures.turn ∙ sym (last_turn_more lines line c.in-AtTurn.turn refl)) happens))
 
-pub next_number-next-requires : goal.next_number-next-requires
-next_number-next-requires c =
+counted : (b : Bool) (n : ℕ) → n + from_bool b ≡ (if b then n + 1 else n)
+counted true n = refl
+counted false n = omega arith
+
+at_most_one : (b : Bool) → from_bool b ≤ 1
+at_most_one true = omega arith
+at_most_one false = omega arith
+
+pub overflow_add-next : goal.overflow_add-next
+overflow_add-next c =
     let some = c.requires.kept in
-    let here = ap (λ s. s.events) c.standing_of.ensures.kept in
-    let few = few_events some.0 some.1.0 c.args.self.now c.in-Numbered.channel some.1.1 c.standing_of.ensures.names in
-    omega (arith, few, here)
+    let here = ap (λ s. s.events) c.standing_of-standing.ensures.kept in
+    let few = few_events some.0 some.1.0 c.args.self.now c.in-Numbered.channel some.1.1 c.standing_of-standing.ensures.names in
+    omega (arith, few, here, c.from.ensures, at_most_one c.standing_of-standing.result.is_opened)
 
 pub returns-then-number-next-clause-judged : goal.returns-then-number-next-clause-judged
 returns-then-number-next-clause-judged c = λ opened lines k.
     let said : parsed_line (fields_of c.args.line.now) ≡ Some c.in-Some.line = search rules in
-    let here = c.standing_of.ensures.kept ∙ k.kept.channels c.in-Numbered.channel c.standing_of.ensures.names in
-    rw said (((c.in-Numbered.event, c.in-Numbered.is), c.next_number-next.ensures ∙ ap next_number here ∙ next_number_is opened lines c.in-Numbered.channel, c.if-number-next.true))
+    let here = c.standing_of-standing.ensures.kept ∙ k.kept.channels c.in-Numbered.channel c.standing_of-standing.ensures.names in
+    rw said (((c.in-Numbered.event, c.in-Numbered.is), ap (λ n. c.standing_of-standing.result.events + n) c.from.ensures ∙ counted c.standing_of-standing.result.is_opened c.standing_of-standing.result.events ∙ ap next_number here ∙ next_number_is opened lines c.in-Numbered.channel, c.if-number-next.true))
 
 pub returns-else-number-next-clause-judged : goal.returns-else-number-next-clause-judged
 returns-else-number-next-clause-judged c = λ opened lines k.
     let said : parsed_line (fields_of c.args.line.now) ≡ Some c.in-Some.line = search rules in
     let channel = c.in-Numbered.channel in
-    let here = c.standing_of.ensures.kept ∙ k.kept.channels channel c.standing_of.ensures.names in
-    let next = c.next_number-next.ensures ∙ ap next_number here ∙ next_number_is opened lines channel in
+    let here = c.standing_of-standing.ensures.kept ∙ k.kept.channels channel c.standing_of-standing.ensures.names in
+    let next = ap (λ n. c.standing_of-standing.result.events + n) c.from.ensures ∙ counted c.standing_of-standing.result.is_opened c.standing_of-standing.result.events ∙ ap next_number here ∙ next_number_is opened lines channel in
     let line = Numbered c.in-Numbered.number channel c.in-Numbered.event in
     let happens = c.happen-in-Numbered.ensures.happens opened lines line k.kept (c.if-number-next.false ∙ next) (numbered_here c.in-Numbered.number channel c.in-Numbered.event) in
     rw said (rw c.in-Numbered.is (judged_by opened lines line c.happen-in-Numbered.new.self c.happen-in-Numbered.result (c.happen-in-Numbered.ensures.turn ∙ k.last_turn ∙ sym (last_turn_same lines line refl)) happens))
