@@ -51,7 +51,8 @@ fn turn_line(field: &[u8], fields: &mut Fields) -> Option<TraceLine>
 }
 
 /// What follows `CH05`: an event with its number, as `000001 PP00 PUT 0007`, or a state.
-#[tactic(auto, unfolding(crate::specs::TraceLine::channel_line, crate::specs::TraceLine::numbered_line))]
+#[tactic(auto, unfolding(crate::specs::TraceLine::channel_line, // what follows a channel
+crate::specs::TraceLine::numbered_line))]
 fn channel_line(channel: ChannelNo, fields: &mut Fields) -> Option<TraceLine>
     ensures { result ≡ channel_line channel fields.old }
 {

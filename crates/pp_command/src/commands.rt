@@ -9,7 +9,8 @@ macro_rules! example {
     ($words:literal, $file:literal, $lines:literal $(, after $front:literal)?) => {
         concat!(
             $($front,)?
-            "Example:\n  ppsim ", $words, " < ", $file, "\nwhere ", $file, " has the lines\n", $lines
+            "Example:\n  ppsim ", $words, " < ", $file,
+            "\nwhere ", $file, " has the lines\n", $lines
         )
     };
 }
