@@ -1,10 +1,10 @@
 -- Texts whose lines are a lawful trace, as far as they are read, and where they stop; a text has one fault, and the turns of a lawful trace rise.
 use Rattle.std.proofs.Common.{◌≡◌, ℕ, ◌+◌, ◌-◌, ◌<◌, ◌≤◌, Bool, List, [], ◌∷◌, ◌++◌, length, take, drop, get_or, Option, Some, None, refl, sym, ap, ◌∙◌, subst, arith, inl, inr, zero, suc, add-one, Ok, Err}
-use Rattle.std.specs.Prelude.{◌↔◌, All, IfSome, IsSome, option_to_list, if◌then◌else◌, nat_le, slice_get, ◌==◌, MatchOption}
-use Rattle.std.specs.List.{filter_map, last_or}
+use Rattle.std.specs.Prelude.{◌↔◌, All, IfSome, IsSome, option_to_list, if◌then◌else◌, nat_le, slice_get, ◌==◌}
+use Rattle.std.specs.List.{filter_map, last_or, slice_split}
 use Rattle.std.proofs.Math.Seq.{take-append_seam, take-take}
 use Rattle.std.proofs.lemmas.Bool.{cases_lt, cond-false, cond-true, eq-eqb, le-leb, lt-leb, ne_eqb}
-use Rattle.std.proofs.lemmas.List.{get_or_push, length_push, take-append-drop, take_more, get_or_append_left, take_all, length-drop}
+use Rattle.std.proofs.lemmas.List.{get_or_push, length_push, take-append-drop, take_more, get_or_append_left, take_all, get_or-map, length-map}
 use Rattle.std.proofs.lemmas.List.Elements.{All-get_or, All-take, filter_map-append, All-more, All-nil}
 use Rattle.pp_channel.specs.Answer.{channel_state}
 use Rattle.pp_channel.specs.History.{IsLawful}
@@ -22,9 +22,7 @@ use Rattle.std.proofs.lemmas.Option.{slice_get-get_or}
 use Rattle.pp_numbers.proofs.LastElements.{last_or_at}
 use Rattle.pp_check.specs.declared.trace_line.TraceLine.TheVariants as says
 use Rattle.pp_check.proofs.KeepsLemmas.{here_by}
-use Rattle.std.specs.Borrow.{Bor}
-use Rattle.pp_deck.proofs.FieldLemmas.{NextLine, next_line}
-use Rattle.pp_deck.specs.DeckText.{fields_of, lines_of}
+use Rattle.pp_deck.specs.DeckText.{fields_of, is_line_feed, lines_of}
 use Rattle.pp_check.specs.Judge.{IsRead, Keeps}
 
 -- the fields of each line
@@ -289,17 +287,15 @@ lawful_text opened all k judge past has =
     let whole = take_all k all past in
     subst (AreLawful opened) whole (record { said = has.said; lawful = has.keeps.kept.lawful })
 
--- ---- the next line of those that are left
+-- ---- the lines of a text, between its line feeds
 
--- the lines of what follows a line feed
-abbrev pub lines_behind : Option (Bor (List ℕ)) → Text
-lines_behind None = []
-lines_behind (Some rest) = lines_of rest.now
+pub line_at : (text line : List ℕ) (k : ℕ) → k < length (slice_split is_line_feed text) → line ≡ get_or (slice_split is_line_feed text) k line → (k < length (lines_of text)) × (get_or (lines_of text) k [] ≡ fields_of line)
+unfolding lines_of
+line_at text line k within here = (
+  omega (arith, within, length-map (slice_split is_line_feed text) fields_of),
+  get_or-map fields_of (slice_split is_line_feed text) k line [] within ∙ ap fields_of (sym here),
+)
 
-pub line_at : (all : Text) (k : ℕ) (left line : List ℕ) (rest : Option (Bor (List ℕ))) → lines_of left ≡ drop k all → MatchOption rest (lines_of left ≡ fields_of line ∷ []) (λ more. lines_of left ≡ fields_of line ∷ lines_of more.now) → NextLine all k (fields_of line) (lines_behind rest)
-line_at all k left line None left_is is = next_line all (lines_of left) [] k (fields_of line) left_is is
-line_at all k left line (Some rest) left_is is = next_line all (lines_of left) (lines_of rest.now) k (fields_of line) left_is is
-
--- no line follows the last
-pub none_behind : (all : Text) (k : ℕ) → drop (k + 1) all ≡ [] → length all ≤ k + 1
-none_behind all k none = let long = ap length none in omega (arith, long, length-drop (k + 1) all)
+pub length-lines_of : (text : List ℕ) → length (lines_of text) ≡ length (slice_split is_line_feed text)
+unfolding lines_of
+length-lines_of text = length-map (slice_split is_line_feed text) fields_of

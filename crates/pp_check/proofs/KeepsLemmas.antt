@@ -10,7 +10,7 @@ use Rattle.pp_channel.specs.Answer.{channel_state}
 use Rattle.pp_channel.specs.History.{IsLawful}
 use Rattle.pp_channel.specs.declared.{channel_state.ChannelState.ChannelState, event.Event.Event}
 use Rattle.pp_channel.specs.declared.event.Event.TheVariants.{Activate}
-use Rattle.pp_check.specs.Judge.{Happens, IsJudged, Keeps, KeepsEvents, new_standing, next_number, standing, standing_of}
+use Rattle.pp_check.specs.Judge.{Happens, IsRead, Keeps, KeepsEvents, new_standing, standing, standing_of}
 use Rattle.pp_check.specs.LawfulTrace.{Fits, IsLawfulTrace, event_on, events_on, history, is_opened, last_turn, turn_of}
 use Rattle.pp_check.specs.Verdict.{begins_session, is_activate, tells_event}
 use Rattle.pp_check.specs.declared.{judge.Judge.Judge, standing.Standing.Standing, trace_fault.TraceFlaw.TraceFlaw, trace_line.TraceLine.TraceLine}
@@ -149,6 +149,10 @@ length_opening true e es = length-append (e ∷ []) es ∙ swap (length es)
     swap n = omega arith
 length_opening false e es = refl
 
+-- the number of a channel's next event
+abbrev pub next_number : Standing → ℕ
+next_number s = if s.is_opened then s.events + 1 else s.events
+
 pub next_number_is : (opened : List Bool) (lines : List TraceLine) (c : ℕ) → next_number (standing opened lines c) ≡ length (history opened lines c)
 unfolding standing
 next_number_is opened lines c = sym (length_opening (is_opened opened c) Activate (events_on c lines))
@@ -216,6 +220,6 @@ at_turn_here turn c e = ap (λ (b : Bool). if b then Some e else None) (eq-eqb c
 pub numbered_here : (number c : ℕ) (e : Event) → event_on c (says.Numbered number c e) ≡ Some e
 numbered_here number c e = ap (λ (b : Bool). if b then Some e else None) (eq-eqb c c refl)
 
-pub judged_by : (opened : List Bool) (lines : List TraceLine) (line : TraceLine) (judge : Judge) (r : Result (Unit {0}) TraceFlaw) → judge.last_turn ≡ last_turn (lines ++ line ∷ []) → Happens opened lines line judge r → IsJudged opened lines line judge r
+pub judged_by : (opened : List Bool) (lines : List TraceLine) (line : TraceLine) (judge : Judge) (r : Result (Unit {0}) TraceFlaw) → judge.last_turn ≡ last_turn (lines ++ line ∷ []) → Happens opened lines line judge r → IsRead opened lines (Some line) judge r
 judged_by opened lines line judge (Ok done) same k = record { kept = k; last_turn = same }
 judged_by opened lines line judge (Err flaw) same k = k

@@ -1,5 +1,5 @@
 -- What the judge keeps of the lines so far. (Only private contracts cite this.)
-use Rattle.std.specs.Prelude.{◌≡◌, ℕ, ◌+◌, Bool, List, [], ◌∷◌, ◌++◌, length, false, IsTrue, count_by, slice_index_or, Result, Ok, Err, Option, None, Some, if◌then◌else◌}
+use Rattle.std.specs.Prelude.{◌≡◌, ℕ, Bool, List, [], ◌∷◌, ◌++◌, length, false, IsTrue, count_by, slice_index_or, Result, Ok, Err, Option, None, Some}
 use Rattle.pp_channel.specs.Answer.{channel_state}
 use Rattle.pp_numbers.specs.ChannelNo.{channel_count, channel_index, names_channel}
 use Rattle.pp_check.specs.LawfulTrace.{IsLawfulTrace, events_on, history, is_opened, last_turn}
@@ -23,10 +23,6 @@ new_standing = record { state = inactive; events = 0; is_opened = false }
 -- what is kept of channel c among all channels
 abbrev pub standing_of : List Standing → ℕ → Standing
 standing_of channels c = slice_index_or channels (channel_index c) new_standing
-
--- the number of a channel's next event
-abbrev pub next_number : Standing → ℕ
-next_number s = if s.is_opened then s.events + 1 else s.events
 
 -- The lines so far are lawful; the state of each channel is kept; and events and sessions are
 -- counted.
@@ -56,15 +52,10 @@ Happens opened before line after (Ok done) =
     KeepsEvents opened (before ++ line ∷ []) after.channels after.events after.sessions
 Happens opened before line after (Err flaw) = IsFlawOf opened before line flaw
 
--- what judging a line after others comes to: the judge keeps it too, or it has this flaw
-abbrev pub IsJudged : List Bool → List TraceLine → TraceLine → Judge
-    → Result (Unit {0}) TraceFlaw → Type 0
-IsJudged opened before line after (Ok done) = Keeps opened (before ++ line ∷ []) after
-IsJudged opened before line after (Err flaw) = IsFlawOf opened before line flaw
-
--- the same of a line by what it says, if it says anything
+-- what reading a line after others comes to, by what it says, if it says anything: the judge keeps
+-- it too, or it has this flaw
 abbrev pub IsRead : List Bool → List TraceLine → Option TraceLine → Judge
     → Result (Unit {0}) TraceFlaw → Type 0
 IsRead opened before None after (Ok done) = ⊥
-IsRead opened before None after (Err flaw) = IsFlaw opened before None flaw
-IsRead opened before (Some line) after done = IsJudged opened before line after done
+IsRead opened before (Some line) after (Ok done) = Keeps opened (before ++ line ∷ []) after
+IsRead opened before said after (Err flaw) = IsFlaw opened before said flaw

@@ -1,7 +1,5 @@
-//! The check of a trace.
-
-ghost use Rattle.std.specs.Prelude.{ℕ, ◌≡◌, ◌+◌, ◌<◌, ◌≤◌, ◌↔◌, [], ◌∷◌, IfOk, IfErr, MatchOption, length, take};
-ghost use Rattle.pp_deck.specs.DeckText.{fields_of, lines_of};
+ghost use Rattle.std.specs.Prelude.{ℕ, ◌≡◌, ◌+◌, ◌<◌, ◌≤◌, ◌↔◌, IfOk, IfErr, length, take};
+ghost use Rattle.pp_deck.specs.DeckText.{lines_of};
 ghost use Rattle.pp_check.specs.LawfulTrace.{AreLawful, parsed_lines};
 ghost use Rattle.pp_check.specs.TraceFault.{IsFault};
 ghost use Rattle.pp_check.specs.Verdict.{verdict_of};
@@ -10,7 +8,6 @@ use crate::judge::Judge;
 use crate::trace_fault::TraceFault;
 use crate::verdict::Verdict;
 use pp_channel::CHANNELS;
-use pp_deck::first_line_feed;
 
 /// Whether the events of a trace are those of lawful histories: a text in the lines that `barrel`
 /// or `threads` print. `opened` are flags of the channels that were open before the first line, in
@@ -26,33 +23,12 @@ pub fn check_trace(text: &[u8], opened: &[bool; CHANNELS]) -> Result<Verdict, Tr
         → AreLawful opened.now (take k (lines_of text.now)) ↔ (k < fault.line)) }
 {
     let mut judge = Judge::new(opened);
-    let mut left = text;
-    let mut passed = 0;
-    'lines: loop {
-        let (line, rest) = first_line(left);
+    let mut number = 0;
+    for line in text.split(|byte| *byte == b'\n') {
+        number += 1;
         if let Err(flaw) = judge.read(line) {
-            return Err(TraceFault {
-                line: passed + 1,
-                flaw,
-            });
+            return Err(TraceFault { line: number, flaw });
         }
-        let Some(rest) = rest else {
-            return Ok(judge.verdict());
-        };
-        left = rest;
-        passed += 1;
     }
-}
-
-/// The first line of a text, and what follows its line feed, if it has one.
-fn first_line(text: &[u8]) -> (&[u8], Option<&[u8]>)
-    ensures lines { MatchOption result.1 (lines_of text.now ≡ fields_of result.0.now ∷ [])
-        (λ rest. lines_of text.now ≡ fields_of result.0.now ∷ lines_of rest.now) }
-    ensures lengths { MatchOption result.1 (length result.0.now ≡ length text.now)
-        (λ rest. length result.0.now + length rest.now + 1 ≡ length text.now) }
-{
-    match first_line_feed(text) {
-        Some(end) => (&text[..end], Some(&text[end + 1..])),
-        None => (text, None),
-    }
+    Ok(judge.verdict())
 }

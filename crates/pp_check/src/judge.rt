@@ -1,12 +1,10 @@
-//! The judge of a trace, line by line.
-
-ghost use Rattle.std.specs.Prelude.{◌≡◌, ◌+◌, ◌*◌, ◌<◌, ◌≤◌, ◌^◌, [], Bool, List, Some, IsErr, IsTrue, OnOk, length};
+ghost use Rattle.std.specs.Prelude.{◌≡◌, ◌+◌, ◌<◌, ◌≤◌, ◌^◌, [], Bool, List, Some, IsTrue, OnOk};
 ghost use Rattle.pp_numbers.specs.ChannelNo.{names_channel};
 ghost use Rattle.pp_deck.specs.DeckText.{fields_of};
-ghost use Rattle.pp_check.specs.Judge.{Happens, IsJudged, IsRead, Keeps, KeepsEvents, KeepsSome, standing_of};
+ghost use Rattle.pp_check.specs.Judge.{Happens, IsRead, Keeps, KeepsEvents, KeepsSome, standing_of};
 ghost use Rattle.pp_check.specs.LawfulTrace.{Fits, event_on};
 ghost use Rattle.pp_check.specs.TraceLine.{parsed_line};
-ghost use Rattle.pp_check.specs.Verdict.{is_activate, verdict_of};
+ghost use Rattle.pp_check.specs.Verdict.{verdict_of};
 ghost use Rattle.pp_check.specs.declared.trace_line.TraceLine.{TraceLine};
 
 use crate::standing::Standing;
@@ -51,28 +49,11 @@ impl Judge {
         requires kept { KeepsSome self.old }
         ensures judged { (opened : List Bool) (lines : List TraceLine) → Keeps opened lines self.old
             → IsRead opened lines (parsed_line (fields_of line.now)) self.new result }
-        ensures room { OnOk result
-            (2 * self.new.events ≤ 2 * self.old.events + length line.now + 1) }
-        ensures no_empty_flaw { IsErr result → 0 < length line.now }
-    {
-        if line.is_empty() {
-            return Ok(());
-        }
-        let mut fields = Fields::of(line);
-        match line_in(&mut fields) {
-            Some(line) => self.judge(line),
-            None => Err(TraceFlaw::Malformed),
-        }
-    }
-
-    /// Judges the next line.
-    fn judge(&mut self, line: TraceLine) -> Result<(), TraceFlaw>
-        requires room { self.old.events < 2 ^ 63 }
-        requires kept { KeepsSome self.old }
-        ensures judged { (opened : List Bool) (lines : List TraceLine) → Keeps opened lines self.old
-            → IsJudged opened lines line self.new result }
         ensures room { OnOk result (self.new.events ≤ self.old.events + 1) }
     {
+        let Some(line) = line_in(&mut Fields::of(line)) else {
+            return Err(TraceFlaw::Malformed);
+        };
         match line {
             TraceLine::AtTurn(turn, channel, event) => {
                 if let Some(last) = self.last_turn {
@@ -84,7 +65,8 @@ impl Judge {
                 self.happen(channel, event)
             }
             TraceLine::Numbered(number, channel, event) => {
-                let next = self.standing_of(channel).next_number();
+                let standing = self.standing_of(channel);
+                let next = standing.events + u64::from(standing.is_opened);
                 if number != next {
                     return Err(TraceFlaw::WrongNumber(channel, number, next));
                 }
@@ -130,7 +112,7 @@ impl Judge {
             is_opened: standing.is_opened,
         };
         self.events += 1;
-        if is_activate(&event) {
+        if matches!(event, Event::Activate) {
             self.sessions += 1;
         }
         Ok(())
@@ -159,11 +141,4 @@ impl Judge {
             sessions,
         }
     }
-}
-
-/// Whether an event begins a session.
-fn is_activate(event: &Event) -> bool
-    ensures { result ≡ is_activate event.now }
-{
-    matches!(event, Event::Activate)
 }

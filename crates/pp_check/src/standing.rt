@@ -1,8 +1,3 @@
-//! What the judge keeps of one channel.
-
-ghost use Rattle.std.specs.Prelude.{◌≡◌, ◌<◌, ◌^◌};
-ghost use Rattle.pp_check.specs.Judge.{next_number};
-
 use pp_channel::ChannelState;
 
 /// A channel's state, how many of its events were read, and whether it was opened before them.
@@ -27,16 +22,4 @@ impl Standing {
         events: 0,
         is_opened: true,
     };
-
-    /// The number of the channel's next event.
-    pub(crate) fn next_number(&self) -> u64
-        requires { self.now.events < 2 ^ 63 }
-        ensures { result ≡ next_number self.now }
-    {
-        if self.is_opened {
-            self.events + 1
-        } else {
-            self.events
-        }
-    }
 }

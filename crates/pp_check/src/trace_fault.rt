@@ -1,5 +1,3 @@
-//! Why a trace is not lawful.
-
 use crate::unlawful::write_unlawful;
 use pp_channel::{ChannelNo, ChannelState, Event};
 use thiserror::Error;

@@ -1,10 +1,8 @@
-//! What a line of a trace says.
-
 ghost use Rattle.std.specs.Prelude.{◌≡◌, ◌<◌, is_some, length, if◌then◌else◌};
 ghost use Rattle.pp_check.specs.TraceLine.{active_said, are_over, channel_in, channel_line, parsed_event, is_processor, last_word, parsed_line, number_after, numbered_line, parsed_state, turn_line};
 
 use pp_channel::{ChannelNo, ChannelState, Event, Flags};
-use pp_deck::{Fields, is_word};
+use pp_deck::Fields;
 use pp_numbers::PpNo;
 use pp_word::{Word12, numeral};
 
@@ -32,7 +30,7 @@ pub(crate) fn line_in(fields: &mut Fields) -> Option<TraceLine>
     let Some(field) = fields.next_field() else {
         return Some(TraceLine::Other);
     };
-    if is_processor(field) {
+    if processor_in(field).is_some() {
         return Some(TraceLine::Other);
     }
     match channel_in(field) {
@@ -47,36 +45,25 @@ fn turn_line(field: &[u8], fields: &mut Fields) -> Option<TraceLine>
     ensures { result ≡ turn_line field.now fields.old }
 {
     let turn = numeral(10, COUNT_DIGITS, field)?;
-    if !is_processor(fields.next_field()?) {
-        return None;
-    }
+    processor_in(fields.next_field()?)?;
     let channel = channel_in(fields.next_field()?)?;
-    let event = event_in(fields)?;
-    Some(TraceLine::AtTurn(turn, channel, event))
+    Some(TraceLine::AtTurn(turn, channel, event_in(fields)?))
 }
 
-/// What follows `CH05`.
-#[tactic(auto, unfolding(crate::specs::TraceLine::channel_line))]
+/// What follows `CH05`: an event with its number, as `000001 PP00 PUT 0007`, or a state.
+#[tactic(auto, unfolding(crate::specs::TraceLine::channel_line, // what follows a channel
+crate::specs::TraceLine::numbered_line))]
 fn channel_line(channel: ChannelNo, fields: &mut Fields) -> Option<TraceLine>
     ensures { result ≡ channel_line channel fields.old }
 {
     let field = fields.next_field()?;
     match numeral(10, COUNT_DIGITS, field) {
-        Some(number) => numbered_line(channel, number, fields),
+        Some(number) => {
+            processor_in(fields.next_field()?)?;
+            Some(TraceLine::Numbered(number, channel, event_in(fields)?))
+        }
         None => Some(TraceLine::Standing(channel, state_in(field, fields)?)),
     }
-}
-
-/// `000001 PP00 PUT 0007` after `CH05` and its number.
-#[tactic(auto, unfolding(crate::specs::TraceLine::numbered_line))]
-fn numbered_line(channel: ChannelNo, number: u64, fields: &mut Fields) -> Option<TraceLine>
-    ensures { result ≡ numbered_line channel number fields.old }
-{
-    if !is_processor(fields.next_field()?) {
-        return None;
-    }
-    let event = event_in(fields)?;
-    Some(TraceLine::Numbered(number, channel, event))
 }
 
 /// `ACN`, `DCN`, `PUT 0007`, `TAK 0007`, `FNC 0007`.
@@ -84,22 +71,13 @@ fn numbered_line(channel: ChannelNo, number: u64, fields: &mut Fields) -> Option
 fn event_in(fields: &mut Fields) -> Option<Event>
     ensures { result ≡ parsed_event fields.old }
 {
-    let name = fields.next_field()?;
-    if is_word(name, b"ACN") {
-        return are_over(fields).then_some(Event::Activate);
-    }
-    if is_word(name, b"DCN") {
-        return are_over(fields).then_some(Event::Disconnect);
-    }
-    let word = last_word(fields)?;
-    if is_word(name, b"PUT") {
-        Some(Event::Put(word))
-    } else if is_word(name, b"TAK") {
-        Some(Event::Take(word))
-    } else if is_word(name, b"FNC") {
-        Some(Event::Function(word))
-    } else {
-        None
+    match fields.next_field()? {
+        b"ACN" => are_over(fields).then_some(Event::Activate),
+        b"DCN" => are_over(fields).then_some(Event::Disconnect),
+        b"PUT" => Some(Event::Put(last_word(fields)?)),
+        b"TAK" => Some(Event::Take(last_word(fields)?)),
+        b"FNC" => Some(Event::Function(last_word(fields)?)),
+        _ => None,
     }
 }
 
@@ -108,9 +86,9 @@ fn event_in(fields: &mut Fields) -> Option<Event>
 fn state_in(field: &[u8], fields: &mut Fields) -> Option<ChannelState>
     ensures { result ≡ parsed_state field.now fields.old }
 {
-    if is_word(field, b"INACTIVE") {
+    if field == b"INACTIVE".as_slice() {
         are_over(fields).then_some(ChannelState::INACTIVE)
-    } else if is_word(field, b"ACTIVE") {
+    } else if field == b"ACTIVE".as_slice() {
         active_in(fields)
     } else {
         None
@@ -121,20 +99,19 @@ fn state_in(field: &[u8], fields: &mut Fields) -> Option<ChannelState>
 fn active_in(fields: &mut Fields) -> Option<ChannelState>
     ensures { result ≡ active_said fields.old }
 {
-    let field = fields.next_field()?;
-    if is_word(field, b"EMPTY") {
-        are_over(fields).then_some(ChannelState::EMPTY)
-    } else if is_word(field, b"FULL") {
-        let word = last_word(fields)?;
-        Some(ChannelState {
-            flags: Flags {
-                active: true,
-                full: true,
-            },
-            register: Some(word),
-        })
-    } else {
-        None
+    match fields.next_field()? {
+        b"EMPTY" => are_over(fields).then_some(ChannelState::EMPTY),
+        b"FULL" => {
+            let word = last_word(fields)?;
+            Some(ChannelState {
+                flags: Flags {
+                    active: true,
+                    full: true,
+                },
+                register: Some(word),
+            })
+        }
+        _ => None,
     }
 }
 
@@ -151,22 +128,16 @@ fn last_word(fields: &mut Fields) -> Option<Word12>
     ensures { result ≡ last_word fields.old }
 {
     let field = fields.next_field()?;
-    if !are_over(fields) {
-        return None;
-    }
     let word = numeral(8, 4, field)?;
-    Some(Word12::truncated(word as u32))
+    are_over(fields).then_some(Word12::truncated(word as u32))
 }
 
-/// Whether a field is `PP00` or another processor's.
+/// The processor of a field like `PP00`.
 #[tactic(auto, unfolding(crate::specs::TraceLine::is_processor))]
-fn is_processor(field: &[u8]) -> bool
-    ensures { result ≡ is_processor field.now }
+fn processor_in(field: &[u8]) -> Option<PpNo>
+    ensures { is_some result ≡ is_processor field.now }
 {
-    match number_after(b"PP", field) {
-        Some(number) => PpNo::new(number).is_some(),
-        None => false,
-    }
+    PpNo::new(number_after(b"PP", field)?)
 }
 
 /// The channel of a field like `CH05`.
@@ -183,6 +154,5 @@ fn number_after(letters: &[u8], field: &[u8]) -> Option<u8>
     requires { length letters.now ≡ 2 }
     ensures { result ≡ number_after letters.now field.now }
 {
-    let digits = field.strip_prefix(letters)?;
-    Some(numeral(8, 2, digits)? as u8)
+    Some(numeral(8, 2, field.strip_prefix(letters)?)? as u8)
 }

@@ -38,10 +38,8 @@ fn write_word<W: Write>(f: &mut Formatter<W>, name: &str, word: Word12) -> fmt::
 /// What prevents an event: words pass on an active channel, to an empty register and out of a full
 /// one.
 fn obstacle(event: &Event, state: &ChannelState) -> &'static str {
-    if !state.flags.active {
-        return "which is inactive";
-    }
     match event {
+        _ if !state.flags.active => "which is inactive",
         Event::Put(_) | Event::Take(_) if state.flags.full => "which is full",
         Event::Put(_) | Event::Take(_) => "which is empty",
         _ => "which is active",

@@ -1,7 +1,4 @@
-//! What is counted in a lawful trace.
-
 ghost use Rattle.pp_check.specs.Verdict.{verdict_line};
-ghost use Rattle.pp_text.specs.TextWriter.{Prints};
 ghost use Rattle.pp_text.specs.Written.{IsWritten};
 
 use pp_text::{TextWriter, WriteFault, print_short_decimal};
@@ -24,19 +21,13 @@ pub fn write_verdict<W: Write>(writer: &mut W, verdict: &Verdict) -> Result<(), 
         (W.contents writer.old) (W.contents writer.new) }
 {
     let mut text = TextWriter::new(writer);
-    print_verdict(&mut text, verdict);
-    text.finish()
-}
-
-fn print_verdict<W: Write>(text: &mut TextWriter<W>, verdict: &Verdict)
-    ensures { Prints W.contents text.old text.new (verdict_line verdict.now) }
-{
     text.print(b"lawful: ");
-    print_short_decimal(text, verdict.events);
+    print_short_decimal(&mut text, verdict.events);
     text.print(b" events on ");
-    print_short_decimal(text, verdict.channels);
+    print_short_decimal(&mut text, verdict.channels);
     text.print(b" channels, ");
-    print_short_decimal(text, verdict.sessions);
+    print_short_decimal(&mut text, verdict.sessions);
     text.print(b" sessions");
     text.print(b"\n");
+    text.finish()
 }

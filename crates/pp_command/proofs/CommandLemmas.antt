@@ -1,15 +1,16 @@
 -- From what clap ensures of a parse to what the words ask for.
 use Rattle.std.proofs.Common.{◌≡◌, ◌∙◌, ℕ, ◌+◌, ◌-◌, ◌<◌, ◌≤◌, add-one, ap₂, arith, drop, drop-cons, fold, get_or, length, map, Bool, true, false, not, IsTrue, List, [], Option, Some, None, option_map, sym, subst, refl, inl, inr, codes}
-use Rattle.std.specs.Prelude.{Box, ◌≢◌, is_some}
+use Rattle.std.specs.Prelude.{Box, ◌≢◌, ◌↔◌, is_some}
+use Rattle.std.specs.Bool.{then_some}
 use Rattle.std.specs.Box.{box_value}
 use Rattle.clap.specs.Words.{App, HasKind, IsAmong, Kinds, Text, Row, HasMatchesOf, fault_of, is_simple_and_free, found_of, kind_of, rows_of, subcommand_of, subcommand_rows, subcommand_rows_of, subcommand_name_of}
 use Rattle.clap.specs.declared.{error.Error.Error, parser.matches.Found.Found, parser.matches.SubCommand.SubCommand, parser.matches.ArgMatches.ArgMatches, parser.matches.ArgMatches.TheViews.out-ArgMatches, parser.matches.ArgMatches.TheViews.out-SubCommand}
 use Rattle.clap.specs.declared.error.kind.ErrorKind.TheVariants.{OutOfMemory}
 use Rattle.pp_numbers.specs.declared.{window.Window.Window, profile.Profile.Profile}
 use Rattle.pp_numbers.specs.Profile.{processors_in}
-use Rattle.pp_command.specs.CommandLine.{IsFaultBy, IsRefused, ReadsAlike, AsksForMore, AsksForText, ReadsEnd, ReadsNumber, ReadsProfile, ReadsTurn, ReadsTurns, ReadsWindow, ppsim, refusals}
-use Rattle.pp_command.specs.declared.{line_fault.LineFault.LineFault, text_of.TextOf.TextOf}
-use Rattle.pp_command.specs.declared.line_fault.LineFault.TheVariants.{Memory, Refused, Number, Picture}
+use Rattle.pp_command.specs.CommandLine.{Finds, IsRefused, IsWorkOf, ReadsAlike, AsksForMore, AsksForText, ReadsChannels, ReadsChosen, ReadsEnd, ReadsNumber, ReadsProfile, ReadsTurn, ReadsTurns, ReadsWindow, ppsim, refusals}
+use Rattle.pp_command.specs.declared.{work.Work.Work, text_of.TextOf.TextOf}
+use Rattle.pp_command.specs.declared.line_fault.LineFault.TheVariants.{Refused}
 
 -- a parse that succeeds has no refusal
 pub taken_words : (words : List Text) (app : App) → ReadsAlike words app → (is_simple_and_free app ≡ true → fault_of app words ≡ []) → refusals words ≡ []
@@ -21,15 +22,12 @@ among kinds error (inl memory) other = absurd (other memory)
 among kinds error (inr kind) other = kind
 
 -- one that fails for another cause than memory fails by one of the refusals
-pub refused_words : (words : List Text) (app : App) (error : Error) (fault : LineFault) → ReadsAlike words app → (is_simple_and_free app ≡ true → HasKind (fault_of app words) error)
-    → IsFaultBy error fault → IsRefused words fault
+pub refused_words : (words : List Text) (app : App) (error : Error) → ReadsAlike words app → (is_simple_and_free app ≡ true → HasKind (fault_of app words) error)
+    → kind_of error ≢ OutOfMemory → IsRefused words (Refused error)
 unfolding refusals
-refused_words words app error Memory alike h by = tt
-refused_words words app error (Refused told) alike h by =
+refused_words words app error alike h other =
     let kinds = subst (λ (kinds : Kinds). HasKind kinds error) alike.fault (h alike.free) in
-    rw (by.0) (among (fault_of ppsim words) error kinds by.1, by.1)
-refused_words words app error Number alike h by = absurd by
-refused_words words app error Picture alike h by = absurd by
+    (among (fault_of ppsim words) error kinds other, other)
 
 pair_of : {Z : Type 0} (o : Option (Box SubCommand Z)) (name : Text) (rows : List Row) → Some name ≡ option_map (λ b. (out-SubCommand (box_value b)).name.now) o → Some rows ≡ option_map (λ p. p.1) (subcommand_rows o) → subcommand_rows o ≡ Some (name, rows)
 pair_of None name rows e h = cc
@@ -97,6 +95,13 @@ no_fit false name value_of w reads short k = refl
 pub no_picture : (name : Text) (value_of : Text → Option Text) (profile : Profile) (w : Window) → name ≡ codes "draw" → ReadsWindow value_of w → 2000 < w.to - w.from → (text : TextOf) → AsksForText name value_of profile text → ⊥
 no_picture name value_of profile w draw reads long text k = grind (arith, draw, reads, long, k, one_length)
 
+-- one that fits is one
+pub picture : (fits : Bool) (name : Text) (value_of : Text → Option Text) (profile : Profile) (w : Window) → name ≡ codes "draw" → ReadsWindow value_of w → IsTrue fits ↔ (w.to - w.from ≤ 2000) → Finds (AsksForText name value_of profile) (then_some fits (TextOf.Draw w))
+picture true name value_of profile w draw reads is = (draw, reads, is.0 refl)
+picture false name value_of profile w draw reads is =
+    let long : 2000 < w.to - w.from = grind (arith, is) in
+    no_picture name value_of profile w draw reads long
+
 -- without a number of turns there is no text but a listing
 pub no_turns : (name : Text) (value_of : Text → Option Text) (profile : Profile) → name ≢ codes "list" → ((turns : ℕ) → ReadsTurns value_of turns → ⊥) → (text : TextOf) → AsksForText name value_of profile text → ⊥
 unfolding ReadsWindow
@@ -107,3 +112,11 @@ pub no_profile : {B : Type 0} (of : B → Text) (o : Option B) (text : Option Te
 no_profile of None text some is none profile reads = absurd (cc)
 no_profile of (Some x) None some is none profile reads = absurd (cc)
 no_profile of (Some x) (Some text) some is none profile reads = none (processors_in profile) reads
+
+-- where the text of an option is there, and lists no channels, `check` asks for nothing
+no_opened : (value : Option Text) → ((flags : Option (List Bool)) → ReadsChosen value flags → ⊥) → (flags : List Bool) → ReadsChannels value flags → ⊥
+no_opened None none flags k = none None refl
+no_opened (Some text) none flags k = none (Some flags) k
+
+pub no_check : (value_of : Text → Option Text) → ((flags : Option (List Bool)) → ReadsChosen (value_of (codes "opened")) flags → ⊥) → (work : Work) → IsWorkOf (codes "check") value_of work → ⊥
+no_check value_of none work k = grind (arith, none, k, no_opened)

@@ -1,24 +1,24 @@
 -- Lists of numbers, number by number.
-use Rattle.std.proofs.Common.{◌≡◌, ℕ, ◌+◌, ◌==◌, ◌<◌, Bool, true, false, List, [], ◌∷◌, length, take, drop, Some, None, refl, sym, ap, ◌∙◌, subst, arith, inl, inr}
-use Rattle.std.specs.Prelude.{◌&&◌, ◌||◌, All, IsSome, IsTrue, position, slice_index_or, slice_set}
+use Rattle.std.proofs.Common.{◌≡◌, ℕ, ◌==◌, ◌<◌, add-one, drop-cons, get_or, Bool, true, false, List, [], ◌∷◌, ◌++◌, length, drop, None, Some, refl, sym, ap, ◌∙◌, subst, arith, inl, inr}
+use Rattle.std.specs.Prelude.{◌&&◌, ◌||◌, All, IsSome, IsTrue, slice_index_or, slice_set}
 use Rattle.std.proofs.lemmas.Bool.{cases_eq, eq-eqb, false≢true, ne_eqb}
-use Rattle.std.proofs.lemmas.List.{get_or-set_other, get_or-set_same, length-set}
-use Rattle.std.proofs.lemmas.List.Elements.{All-cons, All-nil, All-tail}
+use Rattle.std.specs.List.{slice_split}
+use Rattle.std.proofs.lemmas.List.{drop_all, length-append, get_or-set_other, get_or-set_same, length-set}
+use Rattle.std.proofs.lemmas.List.Elements.{All-cons, All-head, All-nil, All-tail}
 use Rattle.pp_numbers.specs.ChannelNo.{channel_count, channel_index, names_channel, channel_places}
-use Rattle.pp_numbers.proofs.Pieces.{split_first, split_last}
 use Rattle.pp_numbers.specs.PpNo.{is_named, names_processor, processor_count, processor_index, processor_places}
 use Rattle.pp_command.specs.ChannelList.{is_flagged_channel}
 use Rattle.pp_command.specs.NumberList.{AreFlagged, is_among, is_comma, numbered, numbers_of}
 
 -- ---- the numbers of a list, from left to right
 
-pub numbers_first : (text rest : List ℕ) (i : ℕ) → Some i ≡ position is_comma text → rest ≡ drop (i + 1) text → numbers_of text ≡ take i text ∷ numbers_of rest
+pub next_number : {A : Type 0} (text number : List ℕ) (passed : List A) (here : A) → length passed < length (slice_split is_comma text) → number ≡ get_or (slice_split is_comma text) (length passed) number → drop (length passed) (numbers_of text) ≡ number ∷ drop (length (passed ++ here ∷ [])) (numbers_of text)
 unfolding numbers_of
-numbers_first = split_first is_comma
+next_number text number passed here lt e = drop-cons (slice_split is_comma text) (length passed) number lt ∙ rw (sym e, length-append passed (here ∷ []), add-one (length passed)) refl
 
-pub numbers_last : (text : List ℕ) → None ≡ position is_comma text → numbers_of text ≡ text ∷ []
+pub no_number : (text : List ℕ) (i : ℕ) → i ≡ length (slice_split is_comma text) → drop i (numbers_of text) ≡ []
 unfolding numbers_of
-numbers_last = split_last is_comma
+no_number text i e = drop_all i (slice_split is_comma text) (omega (arith, e))
 
 -- ---- flags of the numbers so far
 
@@ -70,6 +70,10 @@ all_flagged names places is_flagged text flags has = record {
   each_place = has.each_place;
   flagged = λ n. sym (or_false (is_flagged flags n)) ∙ has.flagged n;
 }
+
+-- one that names nothing is in no list
+pub no_list : (names : ℕ → Bool) (places : ℕ) (is_flagged : List Bool → ℕ → Bool) (text : List ℕ) (flags : List Bool) (number : List ℕ) (more : List (List ℕ)) → HasFlagged names places is_flagged (numbers_of text) flags (number ∷ more) → numbered names number ≡ None → (listed : List Bool) → AreFlagged names places is_flagged text listed → ⊥
+no_list names places is_flagged text flags number more has none listed are = absurd (false≢true (subst IsSome none (All-head (IsNumber names) number more (has.more_if_all are.numbers))))
 
 -- ---- flags in the order of places
 

@@ -1,11 +1,6 @@
-//! Lists of channels.
-
-ghost use Rattle.std.specs.Prelude.{◌≡◌, Bool, List, MatchOption};
-ghost use Rattle.pp_numbers.specs.ChannelNo.{names_channel};
+ghost use Rattle.std.specs.Prelude.{Bool, List, MatchOption};
 ghost use Rattle.pp_command.specs.ChannelList.{AreListed};
-ghost use Rattle.pp_command.specs.NumberList.{numbered};
 
-use crate::number_list::first_number;
 use pp_numbers::{CHANNELS, ChannelNo};
 use pp_word::numeral;
 
@@ -16,23 +11,9 @@ pub fn listed_channels(text: &[u8]) -> Option<[bool; CHANNELS]>
         (AreListed text.now) }
 {
     let mut flags = [false; CHANNELS];
-    let mut left = text;
-    'numbers: loop {
-        let (number, rest) = first_number(left);
-        let channel = channel_numbered(number)?;
+    for number in text.split(|byte| *byte == b',') {
+        let channel = ChannelNo::new(numeral(8, 2, number)? as u8)?;
         flags[channel.index()] = true;
-        let Some(rest) = rest else {
-            return Some(flags);
-        };
-        left = rest;
     }
-}
-
-/// The channel of a number.
-#[tactic(auto, unfolding(crate::specs::NumberList::numbered))]
-fn channel_numbered(number: &[u8]) -> Option<ChannelNo>
-    ensures { result ≡ numbered names_channel number.now }
-{
-    let value = numeral(8, 2, number)?;
-    ChannelNo::new(value as u8)
+    Some(flags)
 }

@@ -1,10 +1,10 @@
 //! The command line that the program takes, by clap.
 
 ghost use Rattle.std.specs.Prelude.{◌≡◌, false, fold, map, IfOk};
-ghost use Rattle.clap.specs.Words.{app_of, new_app, rule_of, with_rule};
+ghost use Rattle.clap.specs.Words.{app_of, rule_of, with_rule};
 ghost use Rattle.clap.specs.declared.builder.command.Command.TheViews.{out-Command as fields_of};
 ghost use Rattle.pp_command.specs.CommandLine.{ReadsAlike, bare, with_commands};
-ghost use Rattle.pp_command.specs.CommandLine.{app_by, app_of_command, command_of_form, file_argument, is_word, rule_of_form};
+ghost use Rattle.pp_command.specs.CommandLine.{app_by, command_of_form, file_argument, rule_of_form};
 
 use crate::commands::{ABOUT, COMMANDS, EXAMPLE, FILE_HELP, MANUAL};
 use crate::number_range::NumberRange;
@@ -53,24 +53,6 @@ pub(crate) struct CommandHelp {
     pub(crate) long_about: &'static str,
 }
 
-impl ValueForm {
-    /// What the help calls it.
-    fn name(self) -> &'static str {
-        match self {
-            ValueForm::Flag(_) => "",
-            ValueForm::Number(_) => "N",
-            ValueForm::Text(name, _) => name,
-        }
-    }
-
-    fn help(self) -> &'static str {
-        match self {
-            ValueForm::Number(range) => range.help,
-            ValueForm::Flag(help) | ValueForm::Text(_, help) => help,
-        }
-    }
-}
-
 /// An option of this form.
 fn option_of<'a>(alloc: Global, form: &OptionForm) -> Arg<'a>
     ensures rule { rule_of result ≡ rule_of_form form.now }
@@ -78,13 +60,14 @@ fn option_of<'a>(alloc: Global, form: &OptionForm) -> Arg<'a>
 {
     let option = Arg::new(alloc, form.name)
         .long(form.name)
-        .required(form.required)
-        .help(form.value.help());
+        .required(form.required);
     match form.value {
-        ValueForm::Flag(_) => option.action(ArgAction::SetTrue),
-        ValueForm::Number(_) | ValueForm::Text(..) => option
+        ValueForm::Flag(help) => option.action(ArgAction::SetTrue).help(help),
+        ValueForm::Number(range) => option
             .action(ArgAction::Set)
-            .value_name(form.value.name()),
+            .value_name("N")
+            .help(range.help),
+        ValueForm::Text(name, help) => option.action(ArgAction::Set).value_name(name).help(help),
     }
 }
 
@@ -116,13 +99,6 @@ fn with_arguments<'a>(
     command.arg(file_argument(alloc))
 }
 
-/// Whether this is one of the words.
-fn is_word(words: &[&str], name: &str) -> bool
-    ensures { result ≡ is_word (map (λ s. s.now) words.now) name.now }
-{
-    words.contains(&name)
-}
-
 /// A command of this form. It has its options and its file only if a word names it: a parse of the
 /// words looks at no others.
 fn command_of<'a>(
@@ -139,7 +115,7 @@ fn command_of<'a>(
         .about(form.about)
         .long_about(help.long_about)
         .after_help(form.example);
-    if is_word(words, form.name) {
+    if words.contains(&form.name) {
         with_arguments(alloc, command, form.options)
     } else {
         Ok(command)
@@ -163,21 +139,15 @@ fn with_commands<'a>(
     Ok(app)
 }
 
-/// The program's name, its version and its help, without a command.
-fn bare_command<'a>(alloc: Global) -> Command<'a>
-    ensures { app_of result ≡ bare }
-{
-    Command::new(alloc, "ppsim")
-        .about(ABOUT)
-        .version(VERSION)
-        .after_help(EXAMPLE)
-        .after_long_help(MANUAL)
-        .subcommand_required(true)
-}
-
 /// The command line, for these words.
 pub(crate) fn command<'a>(alloc: Global, words: &[&str]) -> Result<Command<'a>, AllocError>
     ensures { IfOk result (λ c. ReadsAlike (map (λ s. s.now) words.now) (app_of c)) }
 {
-    with_commands(alloc, bare_command(alloc), &COMMANDS, words)
+    let bare = Command::new(alloc, "ppsim")
+        .about(ABOUT)
+        .version(VERSION)
+        .after_help(EXAMPLE)
+        .after_long_help(MANUAL)
+        .subcommand_required(true);
+    with_commands(alloc, bare, &COMMANDS, words)
 }

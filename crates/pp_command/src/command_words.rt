@@ -1,60 +1,28 @@
 //! Reading the words of a command line.
 
-ghost use Rattle.std.specs.Prelude.{◌≡◌, ◌≢◌, ◌↔◌, [], IsTrue, codes, map, option_map, IfOk, IfErr, OnOk};
-ghost use Rattle.pp_command.specs.CommandLine.{AskFor, AsksForMore, Finds, IsFaultBy, IsRefused, IsWorkOf, Name, ReadsFile, refusals, value_in};
+ghost use Rattle.std.specs.Prelude.{◌≡◌, ◌↔◌, [], IsTrue, map, option_map, IfOk, IfErr, OnOk};
+ghost use Rattle.pp_command.specs.CommandLine.{AskFor, AsksForMore, Finds, IsRefused, IsWorkOf, Name, refusals, value_in};
 
 use crate::command::command;
 use crate::line_fault::LineFault;
 use crate::option_values::{
-    fits_a_picture, limits_of, number_of, opened_of, profile_of, value_of, window_of,
+    channels_of, fits_a_picture, limits_of, number_of, profile_of, value_of, window_of,
 };
 use crate::text_of::text_of;
 use crate::work::{Asked, Work};
+use clap::ArgMatches;
 use clap::error::ErrorKind;
-use clap::{ArgMatches, Error};
+use pp_numbers::CHANNELS;
 use std::alloc::Global;
 
 /// Whether a command asks for a picture of more turns than it has.
 fn asks_for_more(name: &str, matches: &ArgMatches<'_>) -> bool
     ensures { IsTrue result ↔ AsksForMore name.now (value_in matches.now) }
 {
-    if name != "draw" {
-        return false;
-    }
     match window_of(matches) {
-        Some(window) => !fits_a_picture(window),
+        Some(window) => name == "draw" && !fits_a_picture(window),
         None => false,
     }
-}
-
-/// The work that `threads` asks for.
-fn threads_work(matches: &ArgMatches<'_>) -> Option<Work>
-    ensures { Finds (IsWorkOf (codes "threads") (value_in matches.now)) result }
-{
-    let profile = profile_of(matches)?;
-    let steps = number_of(matches, "steps")?;
-    let patience = number_of(matches, "patience")?;
-    let limits = limits_of(steps, patience)?;
-    Some(Work::Threads { profile, limits })
-}
-
-/// The work that `check` asks for.
-fn check_work(matches: &ArgMatches<'_>) -> Option<Work>
-    ensures { Finds (IsWorkOf (codes "check") (value_in matches.now)) result }
-{
-    let opened = opened_of(matches)?;
-    Some(Work::Check { opened })
-}
-
-/// The work that a command asks for which takes a deck and runs no threads.
-fn deck_work(name: &str, matches: &ArgMatches<'_>) -> Option<Work>
-    requires threads { name.now ≢ codes "threads" }
-    requires check { name.now ≢ codes "check" }
-    ensures { Finds (IsWorkOf name.now (value_in matches.now)) result }
-{
-    let profile = profile_of(matches)?;
-    let text = text_of(name, matches, profile)?;
-    Some(Work::Deck { profile, text })
 }
 
 /// The work that a command asks for, if its numbers are in range.
@@ -62,29 +30,23 @@ fn work_of(name: &str, matches: &ArgMatches<'_>) -> Option<Work>
     ensures { Finds (IsWorkOf name.now (value_in matches.now)) result }
 {
     match name {
-        "threads" => threads_work(matches),
-        "check" => check_work(matches),
-        _ => deck_work(name, matches),
-    }
-}
-
-/// The file to read in place of standard input, if one is named.
-fn file_of<'a>(matches: &ArgMatches<'a>) -> Option<&'a str>
-    ensures { ReadsFile (value_in matches.now (codes "file")) (option_map (λ s. s.now) result) }
-{
-    match value_of(matches, "file") {
-        Some("-") | None => None,
-        Some(path) => Some(path),
-    }
-}
-
-/// The fault of a parse that failed.
-fn refusal(error: Error) -> LineFault
-    ensures { IsFaultBy error result }
-{
-    match error.kind() {
-        ErrorKind::OutOfMemory => LineFault::Memory,
-        _ => LineFault::Refused(error),
+        "threads" => {
+            let profile = profile_of(matches)?;
+            let limits = limits_of(
+                number_of(matches, "steps")?,
+                number_of(matches, "patience")?,
+            )?;
+            Some(Work::Threads { profile, limits })
+        }
+        "check" => {
+            let opened = channels_of(matches, "opened")?.unwrap_or([false; CHANNELS]);
+            Some(Work::Check { opened })
+        }
+        _ => {
+            let profile = profile_of(matches)?;
+            let text = text_of(name, matches, profile)?;
+            Some(Work::Deck { profile, text })
+        }
     }
 }
 
@@ -104,13 +66,14 @@ pub fn read_words<'a>(alloc: Global, words: &'a [&'a str]) -> Result<Asked<'a>, 
     };
     let matches = match command.try_get_matches_from(words) {
         Ok(matches) => matches,
-        Err(error) => return Err(refusal(error)),
+        Err(error) if error.kind() == ErrorKind::OutOfMemory => return Err(LineFault::Memory),
+        Err(error) => return Err(LineFault::Refused(error)),
     };
     match matches.subcommand() {
         Some((name, inner)) => match work_of(name, inner) {
             Some(work) => Ok(Asked {
                 work,
-                file: file_of(inner),
+                file: value_of(inner, "file").filter(|path| *path != "-"),
             }),
             None if asks_for_more(name, inner) => Err(LineFault::Picture),
             None => Err(LineFault::Number),

@@ -4,41 +4,35 @@ use crate::command::ValueForm::{Flag, Number, Text};
 use crate::command::{CommandForm, CommandHelp, OptionForm};
 use crate::number_range::{DRAWN_FROM, FROM, PATIENCE, STEPS, TO, TURNS};
 
-/// An example of a command, over a deck in which one processor hands a word to another; and what
-/// stands before it.
-macro_rules! handoff_example {
-    ($words:literal) => {
-        handoff_example!("", $words)
-    };
-    ($front:literal, $words:literal) => {
+/// An example of a command, over a file with these lines; and what stands before it.
+macro_rules! example {
+    ($words:literal, $file:literal, $lines:literal $(, after $front:literal)?) => {
         concat!(
-            $front,
-            "Example:\n  ppsim ",
-            $words,
-            " < handoff.deck
-where handoff.deck has the lines
-  PP 0
-  0100 7405 1407 7205 0300
-  START 0100
-  PP 1
-  0200 7005 0300
-  START 0200"
+            $($front,)?
+            "Example:\n  ppsim ", $words, " < ", $file,
+            "\nwhere ", $file, " has the lines\n", $lines
         )
     };
 }
 
-/// An example of a command, over a deck of four instructions.
+/// An example over a deck in which one processor hands a word to another.
+macro_rules! handoff_example {
+    ($words:literal $(, after $front:literal)?) => {
+        example!($words, "handoff.deck", "  PP 0
+  0100 7405 1407 7205 0300
+  START 0100
+  PP 1
+  0200 7005 0300
+  START 0200" $(, after $front)?)
+    };
+}
+
+/// An example over a deck of four instructions.
 macro_rules! four_example {
     ($words:literal) => {
-        concat!(
-            "Example:\n  ppsim ",
-            $words,
-            " < four.deck
-where four.deck has the lines
-  PP 0
+        example!($words, "four.deck", "  PP 0
   0100 1405 1603 3450 0300
-  START 0100"
-        )
+  START 0100")
     };
 }
 
@@ -78,8 +72,7 @@ pub(crate) const ABOUT: &str =
     "Simulates the peripheral processors and data channels of a Control Data 6600";
 
 /// The end of the long help.
-pub(crate) const MANUAL: &str = handoff_example!(
-    "\
+pub(crate) const MANUAL: &str = handoff_example!("barrel --turns 40", after "\
 A deck has these lines. All its numbers are octal:
   CENTRAL 10000     the size of central memory; before all other lines but comments
   PP 0              what follows is for processor 0
@@ -107,9 +100,7 @@ after a read or write fault, and 4 when memory runs out.
 The pages TUTORIAL.md, VIEWS.md, docs/MACHINE.md (the instructions), docs/DECK.md and
 docs/OUTPUT.md of the repository say more.
 
-",
-    "barrel --turns 40"
-);
+");
 
 /// The end of the short help.
 pub(crate) const EXAMPLE: &str = handoff_example!("barrel --turns 40");
@@ -117,14 +108,11 @@ pub(crate) const EXAMPLE: &str = handoff_example!("barrel --turns 40");
 /// What help says of the word that names a file.
 pub(crate) const FILE_HELP: &str = "The file to read; standard input if not given, or -";
 
-/// How many turns to run.
 const TURNS_OPTION: OptionForm = option!(required: true, "turns", Number(TURNS));
 
-/// How many processors the machine has.
 const PROCESSORS_OPTION: OptionForm = option!(required: false, "processors", Text("N",
         "How many processors the machine has, 10 or 20 (decimal); 10 if not given"));
 
-/// The first place or address to print.
 const FIRST_OPTION: OptionForm = option!(required: false, "first", Text("N",
         "The first address to print (octal; 0 if not given)"));
 
@@ -311,12 +299,8 @@ Runs a deck in the barrel, and prints the words of central memory, in octal and 
 Reads the deck from FILE or standard input. Prints to standard output a line for each word within
 the bounds that is not 0: the address, the word, and the same in display code, ten characters (00
 and 55 are spaces). What goes wrong is one line on standard error.",
-        example: "\
-Example:
-  ppsim central --turns 40 < word.deck
-where word.deck has the lines
-  CM 10 00010002000300040005
-  PP 0",
+        example: example!("central --turns 40", "word.deck",
+            "  CM 10 00010002000300040005\n  PP 0"),
         options: &[
             TURNS_OPTION,
             FIRST_OPTION,
@@ -408,13 +392,9 @@ events before it.
 Prints to standard output how many events, channels and sessions there are. Where the trace is not
 lawful, nothing is printed there, and the first line at which it is not is told on standard error,
 with what is wrong, as in 'ppsim: line 7: TAK 0007 on CH05, which is empty'; the exit status is 1.",
-        example: "\
-Example:
-  ppsim check < handoff.trace
-where handoff.trace has the lines
-  000000 PP00 CH05 ACN
+        example: example!("check", "handoff.trace", "  000000 PP00 CH05 ACN
   000020 PP00 CH05 PUT 0007
-  000021 PP01 CH05 TAK 0007",
+  000021 PP01 CH05 TAK 0007"),
         options: &[option!(required: false, "opened", Text("N,N,..",
             "The channels that were open before the trace (octal)"))],
     },

@@ -6,7 +6,6 @@ mod command;
 mod command_words;
 mod commands;
 mod line_fault;
-mod number_list;
 mod number_range;
 mod option_values;
 mod processor_list;

@@ -1,5 +1,3 @@
-//! Why a command line was refused.
-
 use clap::Error as Refusal;
 use thiserror::Error;
 

@@ -1,5 +1,3 @@
-//! The numbers that options take.
-
 ghost use Rattle.std.specs.Prelude.{◌≤◌, ◌↔◌, IsTrue};
 
 /// The numbers that an option takes, and the help that states them (decimal).

@@ -2,7 +2,7 @@
 
 ghost use Rattle.std.specs.Prelude.{◌≡◌, ◌-◌, ◌≤◌, ◌↔◌, IsTrue, codes, option_map, IfSome, IsSome};
 ghost use Rattle.pp_numbers.specs.Limits.{AreLimits};
-ghost use Rattle.pp_command.specs.CommandLine.{Finds, ReadsAddress, ReadsBounds, ReadsChannels, ReadsChosen, ReadsNumber, ReadsProcessor, ReadsProcessors, ReadsProfile, ReadsTurn, ReadsFlag, ReadsTurns, ReadsWindow, value_in};
+ghost use Rattle.pp_command.specs.CommandLine.{Finds, ReadsAddress, ReadsBounds, ReadsChosen, ReadsNumber, ReadsProcessor, ReadsProcessors, ReadsProfile, ReadsTurn, ReadsFlag, ReadsTurns, ReadsWindow, value_in};
 
 use crate::channel_list::listed_channels;
 use crate::number_range::{FROM, PATIENCE, STEPS, TURNS};
@@ -58,11 +58,7 @@ pub(crate) fn limits_of(steps: u32, patience: u32) -> Option<Limits>
 pub(crate) fn turns_of(matches: &ArgMatches<'_>) -> Option<u32>
     ensures { Finds (ReadsTurns (value_in matches.now)) result }
 {
-    let turns = number_of(matches, "turns")?;
-    if !TURNS.contains(turns) {
-        return None;
-    }
-    Some(turns)
+    number_of(matches, "turns").filter(|turns| TURNS.contains(*turns))
 }
 
 /// The processor of a machine of this profile that `--pp` gives, in octal, if there is one.
@@ -81,23 +77,21 @@ pub(crate) fn processors_of(
 ) -> Option<Option<[bool; PROCESSORS]>>
     ensures { Finds (ReadsProcessors profile (value_in matches.now (codes "pp"))) result }
 {
-    let Some(text) = value_of(matches, "pp") else {
-        return Some(None);
-    };
-    let listed = listed_processors(profile, text.as_bytes())?;
-    Some(Some(listed))
+    match value_of(matches, "pp") {
+        Some(text) => Some(Some(listed_processors(profile, text.as_bytes())?)),
+        None => Some(None),
+    }
 }
 
-/// The channels that `--ch` lists, in octal, if it is given; nothing if the list is none of
+/// The channels that an option lists, in octal, if it is given; nothing if the list is none of
 /// channels.
-pub(crate) fn channels_of(matches: &ArgMatches<'_>) -> Option<Option<[bool; CHANNELS]>>
-    ensures { Finds (ReadsChosen (value_in matches.now (codes "ch"))) result }
+pub(crate) fn channels_of(matches: &ArgMatches<'_>, id: &str) -> Option<Option<[bool; CHANNELS]>>
+    ensures { Finds (ReadsChosen (value_in matches.now id.now)) result }
 {
-    let Some(text) = value_of(matches, "ch") else {
-        return Some(None);
-    };
-    let listed = listed_channels(text.as_bytes())?;
-    Some(Some(listed))
+    match value_of(matches, id) {
+        Some(text) => Some(Some(listed_channels(text.as_bytes())?)),
+        None => Some(None),
+    }
 }
 
 /// The address in an option's value, in octal; this one if the option is not given.
@@ -124,12 +118,9 @@ pub(crate) fn bounds_of(matches: &ArgMatches<'_>, size: u32) -> Option<Bounds>
 pub(crate) fn turn_of(matches: &ArgMatches<'_>, id: &str, default: u32) -> Option<u32>
     ensures { Finds (ReadsTurn default (value_in matches.now id.now)) result }
 {
-    let Some(text) = value_of(matches, id) else {
-        return Some(default);
-    };
-    match text.parse::<u32>() {
-        Ok(turn) if FROM.contains(turn) => Some(turn),
-        Ok(_) | Err(_) => None,
+    match value_of(matches, id) {
+        Some(text) => text.parse::<u32>().ok().filter(|turn| FROM.contains(*turn)),
+        None => Some(default),
     }
 }
 
@@ -158,19 +149,5 @@ pub(crate) fn fits_a_picture(window: Window) -> bool
 pub(crate) fn is_flagged(matches: &ArgMatches<'_>, id: &str) -> bool
     ensures { ReadsFlag (value_in matches.now id.now) result }
 {
-    match value_of(matches, id) {
-        Some("true") => true,
-        Some(_) | None => false,
-    }
-}
-
-/// The channels that the options say to be open, by flags in the order of their places, if they are
-/// channels; none if the options do not name any.
-pub(crate) fn opened_of(matches: &ArgMatches<'_>) -> Option<[bool; CHANNELS]>
-    ensures { Finds (ReadsChannels (value_in matches.now (codes "opened"))) result }
-{
-    match value_of(matches, "opened") {
-        Some(text) => listed_channels(text.as_bytes()),
-        None => Some([false; CHANNELS]),
-    }
+    matches!(value_of(matches, id), Some("true"))
 }

@@ -1,12 +1,7 @@
-//! Lists of processors.
-
-ghost use Rattle.std.specs.Prelude.{◌≡◌, Bool, List, MatchOption};
-ghost use Rattle.pp_numbers.specs.Profile.{has_processor};
-ghost use Rattle.pp_command.specs.NumberList.{numbered};
+ghost use Rattle.std.specs.Prelude.{Bool, List, MatchOption};
 ghost use Rattle.pp_command.specs.ProcessorList.{AreProcessorsListed};
 
-use crate::number_list::first_number;
-use pp_numbers::{PROCESSORS, PpNo, Profile};
+use pp_numbers::{PROCESSORS, Profile};
 use pp_word::numeral;
 
 /// The processors of a list like `0,1,11`, by flags in the barrel's order. The numbers have one or
@@ -18,23 +13,9 @@ pub fn listed_processors(profile: Profile, text: &[u8]) -> Option<[bool; PROCESS
         (AreProcessorsListed profile text.now) }
 {
     let mut flags = [false; PROCESSORS];
-    let mut left = text;
-    'numbers: loop {
-        let (number, rest) = first_number(left);
-        let processor = processor_numbered(profile, number)?;
+    for number in text.split(|byte| *byte == b',') {
+        let processor = profile.processor(numeral(8, 2, number)? as u8)?;
         flags[processor.index()] = true;
-        let Some(rest) = rest else {
-            return Some(flags);
-        };
-        left = rest;
     }
-}
-
-/// The processor of a number.
-#[tactic(auto, unfolding(crate::specs::NumberList::numbered))]
-fn processor_numbered(profile: Profile, number: &[u8]) -> Option<PpNo>
-    ensures { result ≡ numbered (has_processor profile) number.now }
-{
-    let value = numeral(8, 2, number)?;
-    profile.processor(value as u8)
+    Some(flags)
 }

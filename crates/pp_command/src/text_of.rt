@@ -1,7 +1,7 @@
 //! Which text of a deck is asked for, and how a command line asks for it.
 
 ghost use Rattle.std.specs.Prelude.{◌≢◌, codes};
-ghost use Rattle.pp_command.specs.CommandLine.{AsksForText, Finds, ReadsTurns, value_in};
+ghost use Rattle.pp_command.specs.CommandLine.{AsksForText, Finds, value_in};
 
 use crate::option_values::{
     bounds_of, channels_of, fits_a_picture, is_flagged, processor_of, processors_of, turn_of,
@@ -89,7 +89,10 @@ pub(crate) fn text_of(name: &str, matches: &ArgMatches<'_>, profile: Profile) ->
 {
     match name {
         "list" => Some(TextOf::List),
-        "draw" => drawn_text_of(matches, profile),
+        "draw" => {
+            let window = window_of(matches)?;
+            fits_a_picture(window).then_some(TextOf::Draw(window))
+        }
         _ => run_text_of(name, matches, profile),
     }
 }
@@ -111,61 +114,24 @@ fn run_text_of(name: &str, matches: &ArgMatches<'_>, profile: Profile) -> Option
             turns,
             words: is_flagged(matches, "words"),
         }),
-        "memory" => memory_text_of(matches, profile, turns),
-        "central" => central_text_of(matches, profile, turns),
-        "steps" => steps_text_of(matches, profile, turns),
+        "memory" => Some(TextOf::Memory {
+            turns,
+            processor: processor_of(matches, profile)?,
+            bounds: bounds_of(matches, PLACES)?,
+        }),
+        "central" => Some(TextOf::Central {
+            turns,
+            bounds: bounds_of(matches, MOST_CENTRAL_WORDS)?,
+        }),
+        "steps" => {
+            let chosen = ChosenSteps {
+                processors: processors_of(matches, profile)?,
+                channels: channels_of(matches, "ch")?,
+                from: turn_of(matches, "from", 0)?,
+                to: turn_of(matches, "to", turns)?,
+            };
+            Some(TextOf::Steps { turns, chosen })
+        }
         _ => None,
     }
-}
-
-/// The text of a deck that `memory` asks for, of a run of this many turns.
-fn memory_text_of(matches: &ArgMatches<'_>, profile: Profile, turns: u32) -> Option<TextOf>
-    requires { ReadsTurns (value_in matches.now) turns }
-    ensures { Finds (AsksForText (codes "memory") (value_in matches.now) profile) result }
-{
-    let processor = processor_of(matches, profile)?;
-    let bounds = bounds_of(matches, PLACES)?;
-    Some(TextOf::Memory {
-        turns,
-        processor,
-        bounds,
-    })
-}
-
-/// The text of a deck that `central` asks for, of a run of this many turns.
-fn central_text_of(matches: &ArgMatches<'_>, profile: Profile, turns: u32) -> Option<TextOf>
-    requires { ReadsTurns (value_in matches.now) turns }
-    ensures { Finds (AsksForText (codes "central") (value_in matches.now) profile) result }
-{
-    let bounds = bounds_of(matches, MOST_CENTRAL_WORDS)?;
-    Some(TextOf::Central { turns, bounds })
-}
-
-/// The text of a deck that `steps` asks for, of a run of this many turns.
-fn steps_text_of(matches: &ArgMatches<'_>, profile: Profile, turns: u32) -> Option<TextOf>
-    requires { ReadsTurns (value_in matches.now) turns }
-    ensures { Finds (AsksForText (codes "steps") (value_in matches.now) profile) result }
-{
-    let processors = processors_of(matches, profile)?;
-    let channels = channels_of(matches)?;
-    let from = turn_of(matches, "from", 0)?;
-    let to = turn_of(matches, "to", turns)?;
-    let chosen = ChosenSteps {
-        processors,
-        channels,
-        from,
-        to,
-    };
-    Some(TextOf::Steps { turns, chosen })
-}
-
-/// The text of a deck that `draw` asks for.
-fn drawn_text_of(matches: &ArgMatches<'_>, profile: Profile) -> Option<TextOf>
-    ensures { Finds (AsksForText (codes "draw") (value_in matches.now) profile) result }
-{
-    let window = window_of(matches)?;
-    if !fits_a_picture(window) {
-        return None;
-    }
-    Some(TextOf::Draw(window))
 }

@@ -1,5 +1,3 @@
-//! What a command line asks for.
-
 use crate::text_of::TextOf;
 use pp_numbers::{CHANNELS, Limits, Profile};
 

@@ -1,12 +1,13 @@
 //! Decks.
 
-ghost use Rattle.std.specs.Prelude.{ℕ, ◌≡◌, ◌≢◌, ◌≤◌, ◌<◌, ◌^◌, Ok, Err, IfOk, IfErr, OnOk, length, position};
+ghost use Rattle.std.specs.Prelude.{ℕ, ◌≡◌, ◌≢◌, ◌≤◌, ◌<◌, Ok, Err, IfOk, IfErr, length, position};
 ghost use Rattle.pp_deck.specs.DeckText.{lines_of};
 ghost use Rattle.pp_deck.specs.DeckMeaning.{deck_meaning, meaning_of_lines, size_of, is_foreign, line_of_byte};
-ghost use Rattle.pp_deck.specs.Reading.{before_lines, deck_so_far};
+ghost use Rattle.pp_machine.specs.Central.{IsCentralSize};
 
-use crate::central_size::central_size;
 use crate::deck_fault::{DeckCode, DeckFault};
+use crate::deck_line::central_size_in;
+use crate::keyword::Keyword;
 use crate::lines::Lines;
 use crate::reading::Reading;
 use pp_channel::Memory;
@@ -15,6 +16,9 @@ use std::alloc::Allocator;
 
 /// The longest text of a deck, in bytes (decimal).
 const LONGEST_TEXT: usize = 1_048_576;
+
+/// The size if a deck sets none: 10000 words (octal).
+const DEFAULT_SIZE: u32 = 0o10000;
 
 /// A loaded machine, and the processors that its deck names, in the barrel's order; none is named
 /// that the machine lacks.
@@ -85,7 +89,25 @@ fn line_of_byte(text: &[u8], place: usize) -> u32
     ended as u32 + 1
 }
 
-/// The deck of a text that is ASCII and not too long.
+/// The size of central memory that the text of a deck asks for.
+pub(crate) fn central_size(text: &[u8]) -> u32
+    ensures value { result ≡ size_of (lines_of text.now) }
+    ensures range { IsCentralSize result }
+{
+    let mut lines = Lines::of(text);
+    while let Some(mut fields) = lines.next_line() {
+        if let Some(first) = fields.next_field() {
+            return match Keyword::of(first) {
+                Keyword::Central => central_size_in(&mut fields).unwrap_or(DEFAULT_SIZE),
+                _ => DEFAULT_SIZE,
+            };
+        }
+    }
+    DEFAULT_SIZE
+}
+
+/// The deck of a text that is ASCII and not too long: its lines are read up to the first fault, and
+/// then processors wait as dead start has it.
 fn deck_of_lines<A: Allocator + Copy>(
     alloc: A,
     profile: Profile,
@@ -102,23 +124,6 @@ fn deck_of_lines<A: Allocator + Copy>(
     let Ok(mut reading) = Reading::new(alloc, profile, central_size(text)) else {
         return Err(OUT_OF_MEMORY);
     };
-    read_lines(&mut reading, text)?;
-    Ok(reading.into_deck())
-}
-
-/// Reads all lines of a text, up to the first fault, and then waits as dead start has it.
-fn read_lines<A: Allocator + Copy>(reading: &mut Reading<A>, text: &[u8]) -> Result<(), DeckFault>
-    requires limit { length text.now ≤ LONGEST_TEXT }
-    requires size { size_of (lines_of text.now) ≤ 2 ^ 17 }
-    requires fresh { reading.old ≡ before_lines reading.old.machine.profile
-        (size_of (lines_of text.now)) }
-    ensures ok { OnOk result (meaning_of_lines reading.old.machine.profile (lines_of text.now)
-        ≡ Ok (deck_so_far reading.new)) }
-    ensures fault { IfErr result (λ fault. fault.code ≢ DeckCode.Memory
-        → meaning_of_lines reading.old.machine.profile (lines_of text.now) ≡ Err fault) }
-    ensures memory_at_no_line { IfErr result (λ fault. fault.code ≡ DeckCode.Memory
-        → fault.line ≡ 0) }
-{
     let mut lines = Lines::of(text);
     let mut number = 0;
     let mut is_after_fields = false;
@@ -135,7 +140,7 @@ fn read_lines<A: Allocator + Copy>(reading: &mut Reading<A>, text: &[u8]) -> Res
         }
     }
     match reading.wait_unnamed() {
-        Ok(()) => Ok(()),
+        Ok(()) => Ok(reading.into_deck()),
         Err(Memory) => Err(OUT_OF_MEMORY),
     }
 }

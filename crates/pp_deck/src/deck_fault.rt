@@ -1,5 +1,3 @@
-//! Why a deck is refused.
-
 use thiserror::Error;
 
 /// What is wrong with a deck.

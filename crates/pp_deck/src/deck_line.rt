@@ -16,9 +16,6 @@ use pp_machine::{Machine, Pp};
 use pp_word::{Word12, Word18, Word60};
 use std::alloc::Allocator;
 
-/// Central memory has at most 400000 words (octal).
-const LARGEST_SIZE: u32 = 0o400_000;
-
 /// Sets words from a place on to the rest of the line.
 pub(crate) fn set_words(pp: &mut Pp, first: Word12, fields: &mut Fields) -> Result<(), Flaw>
     ensures { Leaves pp.new result (on_read (λ ws. loaded_from first ws pp.old)
@@ -98,7 +95,7 @@ pub(crate) fn central_size_in(fields: &mut Fields) -> Result<u32, Flaw>
     ensures range { IfOk result IsCentralSize }
 {
     let size = next_number(fields, 6)? as u32;
-    if size < 1 || size > LARGEST_SIZE {
+    if !(1..=0o400_000).contains(&size) {
         return Err(Flaw::CentralRange);
     }
     end_line(fields).and(Ok(size))

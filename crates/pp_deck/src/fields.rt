@@ -1,8 +1,5 @@
-//! The fields of a line.
-
 ghost use Rattle.std.specs.Prelude.{◌≡◌, ◌∷◌, [], not, IfSome, IfNone, position};
 ghost use Rattle.std.specs.List.{position_or_len};
-ghost use Rattle.std.specs.Str.Lines.{strip_carriage_return};
 ghost use Rattle.pp_deck.specs.DeckText.{is_blank};
 
 use std::marker::Model;
@@ -30,9 +27,8 @@ impl<'a> Fields<'a> {
     pub fn of(line: &'a [u8]) -> Fields<'a>
         ensures { result ≡ fields_of line.now }
     {
-        Fields {
-            text: trimmed(line),
-        }
+        let text = line.strip_suffix(b"\r").unwrap_or(line);
+        Fields { text }
     }
 
     /// The next field, if there is one.
@@ -51,17 +47,6 @@ impl<'a> Fields<'a> {
     }
 }
 
-/// The line without a carriage return at its end.
-fn trimmed(line: &[u8]) -> &[u8]
-    ensures { result.now ≡ strip_carriage_return line.now }
-{
-    if !line.is_empty() && line[line.len() - 1] == b'\r' {
-        &line[..line.len() - 1]
-    } else {
-        line
-    }
-}
-
 fn is_blank(byte: u8) -> bool
     ensures { result ≡ is_blank byte }
 {
@@ -75,17 +60,11 @@ fn first_character(text: &[u8]) -> Option<usize>
     text.iter().position(|byte| !is_blank(*byte))
 }
 
-/// The place of the first blank.
-fn first_blank(text: &[u8]) -> Option<usize>
-    ensures { result ≡ position is_blank text.now }
-{
-    text.iter().position(|byte| is_blank(*byte))
-}
-
 /// The number of characters before the first blank.
-#[tactic(auto, using(crate::proofs::FieldLemmas::unwrap_or_position))]
 fn field_length(text: &[u8]) -> usize
     ensures { result ≡ position_or_len is_blank text.now }
 {
-    first_blank(text).unwrap_or(text.len())
+    text.iter()
+        .position(|byte| is_blank(*byte))
+        .unwrap_or(text.len())
 }

@@ -1,5 +1,3 @@
-//! What may be wrong with one line of a deck.
-
 ghost use Rattle.std.specs.Prelude.{◌≡◌};
 ghost use Rattle.pp_deck.specs.Flaw.{code_of};
 

@@ -1,12 +1,9 @@
-//! Which processors of a loaded deck are in use.
-
 ghost use Rattle.std.specs.Prelude.{◌≡◌};
-ghost use Rattle.pp_machine.specs.MachineState.{is_opened};
 ghost use Rattle.pp_deck.specs.InUse.{in_use, is_in_use};
 
 use crate::deck::Deck;
 use pp_channel::ChannelNo;
-use pp_machine::{Machine, PROCESSORS, PpNo};
+use pp_machine::{PROCESSORS, PpNo};
 use std::alloc::Allocator;
 
 impl<A: Allocator> Deck<A> {
@@ -23,19 +20,13 @@ impl<A: Allocator> Deck<A> {
     }
 }
 
+#[tactic(auto, using(pp_numbers::proofs::PpNoLemmas::channel_of_processor))]
 fn is_in_use<A: Allocator>(deck: &Deck<A>, n: PpNo) -> bool
     ensures { result ≡ is_in_use (record { machine = deck.now.machine; named = deck.now.named }) n }
 {
-    deck.named[n.index()] || has_waited(&deck.machine, n)
-}
-
-/// Whether dead start had the processor wait for its program, on the channel of its own number.
-#[tactic(auto, using(pp_numbers::proofs::PpNoLemmas::channel_of_processor))]
-fn has_waited<A: Allocator>(machine: &Machine<A>, n: PpNo) -> bool
-    ensures { result ≡ is_opened n machine.now }
-{
     match ChannelNo::new(n.get()) {
-        Some(c) => machine.opened(c),
+        // Dead start had it wait on the channel of its own number.
+        Some(c) => deck.named[n.index()] || deck.machine.opened(c),
         None => unreachable!(),
     }
 }

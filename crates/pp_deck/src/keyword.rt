@@ -1,7 +1,4 @@
-//! The first field of a line, which says what the line is.
-
-ghost use Rattle.std.specs.Prelude.{◌≡◌, bytes_eq, slice_index};
-ghost use Rattle.std.specs.Char.{is_ascii_digit};
+ghost use Rattle.std.specs.Prelude.{◌≡◌};
 
 /// What the first field of a line announces.
 #[derive(Clone, Copy)]
@@ -30,34 +27,14 @@ impl Keyword {
     pub(crate) fn of(field: &[u8]) -> Keyword
         ensures { result ≡ keyword_of field.now }
     {
-        if is_word(field, b"CENTRAL") {
-            Keyword::Central
-        } else if is_word(field, b"CM") {
-            Keyword::CentralWords
-        } else if is_word(field, b"PP") {
-            Keyword::Processor
-        } else if is_word(field, b"START") {
-            Keyword::Start
-        } else if is_word(field, b"DEAD") {
-            Keyword::DeadStart
-        } else if begins_with_digit(field) {
-            Keyword::Words
-        } else {
-            Keyword::Unknown
+        match field {
+            _ if field == b"CENTRAL".as_slice() => Keyword::Central,
+            b"CM" => Keyword::CentralWords,
+            b"PP" => Keyword::Processor,
+            b"START" => Keyword::Start,
+            b"DEAD" => Keyword::DeadStart,
+            [b'0'..=b'9', ..] => Keyword::Words,
+            _ => Keyword::Unknown,
         }
     }
-}
-
-/// Whether a field is this word. Traces are read by it too.
-pub fn is_word(field: &[u8], word: &[u8]) -> bool
-    ensures { result ≡ bytes_eq field.now word.now }
-{
-    field == word
-}
-
-/// Whether its first character is one of 0 to 9.
-fn begins_with_digit(field: &[u8]) -> bool
-    ensures { result ≡ is_ascii_digit (slice_index field.now 0) }
-{
-    matches!(field, [b'0'..=b'9', ..])
 }

@@ -1,7 +1,6 @@
 //! Decks: texts that load a machine, or are refused at a line.
 #![tactic(auto)]
 
-mod central_size;
 mod deck;
 mod deck_fault;
 mod deck_line;
@@ -17,6 +16,4 @@ mod reading;
 pub use deck::{Deck, read_deck};
 pub use deck_fault::{DeckCode, DeckFault};
 pub use fields::Fields;
-pub use keyword::is_word;
 pub use laws::{deck_law, reading_law};
-pub use lines::first_line_feed;

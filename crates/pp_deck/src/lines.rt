@@ -1,7 +1,4 @@
-//! The lines of a deck's text.
-
 ghost use Rattle.std.specs.Prelude.{◌≡◌, ◌∷◌, [], IfSome, IfNone, position};
-ghost use Rattle.pp_deck.specs.DeckText.{is_line_feed};
 
 use crate::fields::Fields;
 use std::marker::Model;
@@ -40,7 +37,7 @@ impl<'a> Lines<'a> {
         ensures none { IfNone result (self.old ≡ []) }
     {
         let text = self.text?;
-        match first_line_feed(text) {
+        match text.iter().position(|byte| *byte == b'\n') {
             Some(end) => {
                 self.text = Some(&text[end + 1..]);
                 Some(Fields::of(&text[..end]))
@@ -51,11 +48,4 @@ impl<'a> Lines<'a> {
             }
         }
     }
-}
-
-/// Where the first line of a text ends. Traces are read by it too.
-pub fn first_line_feed(text: &[u8]) -> Option<usize>
-    ensures { result ≡ position is_line_feed text.now }
-{
-    text.iter().position(|byte| *byte == b'\n')
 }

@@ -1,5 +1,3 @@
-//! Numbers in the fields of a deck.
-
 ghost use Rattle.std.specs.Prelude.{◌≡◌, ◌<◌, ◌≤◌, ◌^◌, IfOk};
 ghost use Rattle.pp_deck.specs.OctalNumber.{number};
 

@@ -1,5 +1,3 @@
-//! A deck, as far as it has been read.
-
 ghost use Rattle.std.specs.Prelude.{◌≡◌, ◌≤◌, ◌∷◌, ◌^◌, length, is_some, Err, IfOk, IsErrOf, OnOk, ◌↔◌, if◌then◌else◌};
 ghost use Rattle.pp_machine.specs.Central.{IsCentralSize};
 ghost use Rattle.pp_deck.specs.DeckLine.{section_line, start_line, words_line, central_words_line, line_after};

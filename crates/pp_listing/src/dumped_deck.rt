@@ -1,7 +1,4 @@
-//! Dumps.
-
 ghost use Rattle.std.specs.Prelude.{◌≡◌, None};
-ghost use Rattle.pp_text.specs.Written.{IsWritten};
 ghost use Rattle.pp_listing.specs.Dump.{GoesOnFrom, IsDumped, dump, first_busy};
 
 use crate::deck_lines::print_size;
@@ -9,7 +6,7 @@ use crate::going_on::{Busy, first_busy};
 use crate::listed_deck::print_central;
 use crate::sections::print_sections;
 use pp_deck::Deck;
-use pp_text::{TextWriter, WriteFault};
+use pp_text::TextWriter;
 use std::alloc::Allocator;
 use std::io::Write;
 use thiserror::Error;
@@ -39,18 +36,10 @@ pub fn write_dump<A: Allocator, W: Write>(writer: &mut W, deck: &Deck<A>) -> Res
     if let Some(going_on) = first_busy(&deck.machine) {
         return Err(DumpFault::NotBetweenPrograms(going_on));
     }
-    write_between(writer, deck).map_err(|_| DumpFault::Write)
-}
-
-/// Writes the listing of a deck to go on from, printed from the machine as it stands.
-fn write_between<A: Allocator, W: Write>(writer: &mut W, deck: &Deck<A>) -> Result<(), WriteFault>
-    ensures { IsWritten (dump (record { machine = deck.now.machine; named = deck.now.named }))
-        result (W.contents writer.old) (W.contents writer.new) }
-{
     let named = deck.in_use();
     let mut text = TextWriter::new(writer);
     print_size(&mut text, deck.machine.central());
     print_central(&mut text, deck.machine.central());
     print_sections(&mut text, &deck.machine, &named);
-    text.finish()
+    text.finish().map_err(|_| DumpFault::Write)
 }

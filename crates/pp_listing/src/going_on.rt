@@ -1,5 +1,3 @@
-//! Why a machine is not between programs.
-
 ghost use Rattle.std.specs.Prelude.{◌≡◌, slice_get, filter_map};
 ghost use Rattle.pp_numbers.specs.ChannelNo.{all_channels};
 ghost use Rattle.pp_numbers.specs.PpNo.{all_processors};
@@ -61,10 +59,8 @@ fn first_channel<A: Allocator>(machine: &Machine<A>) -> Option<Busy>
 fn in_processor(n: PpNo, pp: &Pp) -> Option<Busy>
     ensures { result ≡ in_processor n pp.now.block pp.now.state }
 {
-    if pp.block().is_some() {
-        return Some(Busy::WithinBlock(n));
-    }
     match pp.state() {
+        _ if pp.block().is_some() => Some(Busy::WithinBlock(n)),
         PpState::Fault(_) => Some(Busy::AtFault(n)),
         PpState::Running | PpState::Stopped => None,
     }

@@ -1,6 +1,5 @@
 //! The lines of a processor's words, one for each instruction.
 
-ghost use Rattle.std.specs.Prelude.{◌≡◌};
 ghost use Rattle.pp_machine.specs.Processor.{word_at};
 ghost use Rattle.pp_text.specs.InstructionText.{is_long};
 ghost use Rattle.pp_text.specs.TextWriter.{Prints};
@@ -27,7 +26,7 @@ pub(crate) fn print_instructions<W: Write>(text: &mut TextWriter<W>, pp: &Pp)
         place += 1;
         if word.get() != 0 {
             let m = pp.get(next(at));
-            if is_long(word) && place < PLACES {
+            if decode(word).0.is_long() && place < PLACES {
                 print_two_words(text, at, word, m);
                 place += 1;
             } else {
@@ -35,13 +34,6 @@ pub(crate) fn print_instructions<W: Write>(text: &mut TextWriter<W>, pp: &Pp)
             }
         }
     }
-}
-
-/// Whether a second word belongs to the instruction in a word.
-fn is_long(word: Word12) -> bool
-    ensures { result ≡ is_long word }
-{
-    decode(word).0.is_long()
 }
 
 /// Prints `0100 7405           * ACN 05` and a line feed.

@@ -1,13 +1,8 @@
-//! Listings.
-
-ghost use Rattle.std.specs.Prelude.{◌≡◌, ◌<◌, ◌^◌};
-ghost use Rattle.std.specs.List.{list_any};
-ghost use Rattle.pp_numbers.specs.ChannelNo.{all_channels};
-ghost use Rattle.pp_machine.specs.MachineState.{is_opened};
+ghost use Rattle.std.specs.Prelude.{◌<◌};
 ghost use Rattle.pp_text.specs.TextWriter.{Prints};
 ghost use Rattle.pp_text.specs.Written.{IsWritten};
 ghost use Rattle.pp_listing.specs.ListedLine.{text_of};
-ghost use Rattle.pp_listing.specs.Listing.{ReadsBackAs, central_word_line, central_word_lines, dead_start_line, listing};
+ghost use Rattle.pp_listing.specs.Listing.{ReadsBackAs, central_word_lines, dead_start_line, listing};
 
 use crate::deck_lines::{print_central_line, print_size};
 use crate::sections::print_sections;
@@ -49,23 +44,10 @@ pub(crate) fn print_central<A: Allocator, W: Write>(text: &mut TextWriter<W>, ce
     ensures { Prints W.contents text.old text.new (text_of (central_word_lines central.now)) }
 {
     for address in 0..central.size() {
-        print_central_word(text, central, address);
-    }
-}
-
-/// Prints the line of a central word that is not 0.
-fn print_central_word<A: Allocator, W: Write>(
-    text: &mut TextWriter<W>,
-    central: &Central<A>,
-    address: u32,
-)
-    requires { address < 2 ^ 18 }
-    ensures { Prints W.contents text.old text.new
-        (text_of (central_word_line central.now address)) }
-{
-    match central.read(Word18::truncated(address)) {
-        Some(word) if word.get() != 0 => print_central_line(text, address, word.get()),
-        _ => {}
+        match central.read(Word18::truncated(address)) {
+            Some(word) if word.get() != 0 => print_central_line(text, address, word.get()),
+            _ => {}
+        }
     }
 }
 
@@ -73,17 +55,11 @@ fn print_central_word<A: Allocator, W: Write>(
 fn print_dead_start<A: Allocator, W: Write>(text: &mut TextWriter<W>, machine: &Machine<A>)
     ensures { Prints W.contents text.old text.new (text_of (dead_start_line machine.now)) }
 {
-    if has_opened_channel(machine) {
-        text.print(b"DEAD\n");
-    }
-}
-
-fn has_opened_channel<A: Allocator>(machine: &Machine<A>) -> bool
-    ensures { result ≡ list_any (λ c. is_opened c machine.now) all_channels }
-{
     let mut any = false;
     for place in 0..CHANNELS {
         any |= machine.opened(ChannelNo::at(place));
     }
-    any
+    if any {
+        text.print(b"DEAD\n");
+    }
 }

@@ -1,8 +1,6 @@
-//! The sections of processors.
-
 ghost use Rattle.pp_text.specs.TextWriter.{Prints};
 ghost use Rattle.pp_listing.specs.ListedLine.{text_of};
-ghost use Rattle.pp_listing.specs.Listing.{named_section, section_lines, sections, start_line};
+ghost use Rattle.pp_listing.specs.Listing.{sections, start_line};
 
 use crate::deck_lines::print_section_line;
 use crate::instruction_lines::print_instructions;
@@ -20,31 +18,14 @@ pub(crate) fn print_sections<A: Allocator, W: Write>(
     ensures { Prints W.contents text.old text.new (text_of (sections named.now machine.now)) }
 {
     for place in 0..PROCESSORS {
-        print_named_section(text, machine, named, PpNo::at(place));
+        let n = PpNo::at(place);
+        if named[n.index()] {
+            let pp = machine.pp(n);
+            print_section_line(text, n);
+            print_instructions(text, pp);
+            print_start(text, pp);
+        }
     }
-}
-
-fn print_named_section<A: Allocator, W: Write>(
-    text: &mut TextWriter<W>,
-    machine: &Machine<A>,
-    named: &[bool; PROCESSORS],
-    n: PpNo,
-)
-    ensures { Prints W.contents text.old text.new
-        (text_of (named_section named.now machine.now n)) }
-{
-    if named[n.index()] {
-        print_section(text, n, machine.pp(n));
-    }
-}
-
-/// Prints the lines of a processor.
-fn print_section<W: Write>(text: &mut TextWriter<W>, n: PpNo, pp: &Pp)
-    ensures { Prints W.contents text.old text.new (text_of (section_lines n pp.now)) }
-{
-    print_section_line(text, n);
-    print_instructions(text, pp);
-    print_start(text, pp);
 }
 
 /// Prints `START 0100 000000` and a line feed, if the processor is running.

@@ -1,5 +1,3 @@
-//! The bytes of a deck, and how they are loaded, whatever is made of it.
-
 ghost use Rattle.pp_deck.specs.DeckLaw.{NamesWithin};
 ghost use Rattle.pp_deck.specs.DeckMeaning.{deck_meaning};
 ghost use Rattle.pp_sim.specs.TextAnswer.{IsLoadFault};

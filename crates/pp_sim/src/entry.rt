@@ -2,7 +2,7 @@
 //! programs with other words, decks and statuses can be run on it.
 
 use crate::program::{BAD_USAGE, NO_MEMORY, run_program};
-use std::alloc::{AllocError, Global};
+use std::alloc::Global;
 use std::env::Env;
 use std::fs::Files;
 use std::io::{ErrorKind, Read, Write};
@@ -25,9 +25,12 @@ pub fn run_main<
         Ok(arguments) => arguments,
         Err(fault) => return without_words(fault.kind(), error),
     };
-    let Ok(words) = as_words(alloc, &arguments) else {
-        return without_words(ErrorKind::OutOfMemory, error);
-    };
+    let mut words = Vec::new(alloc);
+    for argument in &arguments {
+        if words.push(argument.as_str()).is_err() {
+            return without_words(ErrorKind::OutOfMemory, error);
+        }
+    }
     ExitCode::from(run_program(rt, alloc, words.as_slice(), input, output, error))
 }
 
@@ -47,12 +50,4 @@ fn read_arguments<R: Env + Alloc<A = Global>>(rt: &R, alloc: Global) -> io::Resu
         arguments.push(argument)?;
     }
     Ok(arguments)
-}
-
-fn as_words<'a>(alloc: Global, arguments: &'a [String]) -> Result<Vec<&'a str>, AllocError> {
-    let mut words = Vec::new(alloc);
-    for argument in arguments {
-        words.push(argument.as_str())?;
-    }
-    Ok(words)
 }

@@ -2,13 +2,12 @@
 
 ghost use Rattle.std.specs.Prelude.{◌≡◌, map};
 ghost use Rattle.pp_runner.specs.Report.{ReportFitsInMemory};
-ghost use Rattle.pp_sim.specs.Program.{IsDone, IsDoneOnFile, IsPrinted, IsRun, IsReported, status_of};
+ghost use Rattle.pp_sim.specs.Program.{IsDone, IsDoneOnFile, IsRun, IsReported, status_of};
 
 use crate::text_fault::{TextFault, answer_to};
 use crate::texts::check_text::check_text;
 use crate::texts::deck_text::deck_text;
 use crate::texts::threads_text::threads_text;
-use clap::Error;
 use pp_command::{LineFault, Work, read_words};
 use pp_text::write_whole;
 use std::alloc::{Allocator, Global};
@@ -110,41 +109,22 @@ fn tell_line_fault<O: Write, E: Write>(
 ) -> u8
     ensures { IsReported fault.now result (O.contents output.old) (O.contents output.new) }
 {
-    if let LineFault::Refused(refusal) = fault {
-        return show_refusal(alloc, refusal, output, error);
-    }
-    let _ = writeln!(error, "ppsim: {fault}");
-    match fault {
-        LineFault::Memory => NO_MEMORY,
-        _ => BAD_USAGE,
-    }
-}
-
-/// clap's text as it is: help on the output, all else on the error.
-fn show_refusal<O: Write, E: Write>(
-    alloc: Global,
-    refusal: &Error,
-    output: &mut O,
-    error: &mut E,
-) -> u8
-    ensures { IsReported (LineFault.Refused refusal.now) result (O.contents output.old)
-        (O.contents output.new) }
-{
+    let LineFault::Refused(refusal) = fault else {
+        let _ = writeln!(error, "ppsim: {fault}");
+        return match fault {
+            LineFault::Memory => NO_MEMORY,
+            _ => BAD_USAGE,
+        };
+    };
+    // clap's text as it is: help on the output, all else on the error.
     if refusal.use_stderr() {
         let _ = write!(error, "{refusal}");
         return BAD_USAGE;
     }
     match format!(in alloc; "{refusal}") {
-        Ok(help) => show_help(help.as_bytes(), output, error),
+        Ok(help) => tell_answer(answer_to(write_whole(output, help.as_bytes())), error),
         Err(_) => tell_answer(Err(TextFault::Memory), error),
     }
-}
-
-/// Prints help that was asked for.
-fn show_help<O: Write, E: Write>(help: &[u8], output: &mut O, error: &mut E) -> u8
-    ensures { IsPrinted help.now result (O.contents output.old) (O.contents output.new) }
-{
-    tell_answer(answer_to(write_whole(output, help)), error)
 }
 
 /// The status of what was done, or failed, which is reported.

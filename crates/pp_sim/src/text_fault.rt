@@ -1,5 +1,3 @@
-//! Why a text was not written.
-
 ghost use Rattle.std.specs.Prelude.{◌≡◌};
 ghost use Rattle.pp_sim.specs.TextAnswer.{answer_to, answer_to_report};
 

@@ -4,25 +4,22 @@ pub(crate) mod check_text;
 pub(crate) mod deck_text;
 pub(crate) mod threads_text;
 
-ghost use Rattle.std.specs.Prelude.{◌≡◌, Ok, IfErr};
+ghost use Rattle.std.specs.Prelude.{◌≡◌, Ok};
 ghost use Rattle.pp_deck.specs.DeckMeaning.{deck_meaning};
-ghost use Rattle.pp_sessions.specs.SessionsText.{sessions_after};
-ghost use Rattle.pp_sim.specs.TextAnswer.{AnswersLoaded, AnswersLoadedUnless, IsAnswer, IsAnswerUnless, IsLoadFault};
-ghost use Rattle.pp_sim.specs.TextOf.{IsBarrelText, IsDrawing, IsDumpText, IsEndsText, IsListText, IsRacesText, IsStepsText, IsTextAfter, IsTextOf, PreventsDump, central_after, memory_after, obstacle};
+ghost use Rattle.pp_sim.specs.TextAnswer.{AnswersLoaded, AnswersLoadedUnless, IsAnswer, IsAnswerUnless};
+ghost use Rattle.pp_sim.specs.TextOf.{IsDumpText, IsEndsText, IsRacesText, IsStepsText, IsTextAfter, IsTextOf, PreventsDump, obstacle};
 ghost use Rattle.pp_state.specs.StateText.{state_after};
 
 use crate::deck_bytes::DeckBytes;
 use crate::text_fault::{TextFault, answer_to, answer_to_report};
-use pp_channel::CHANNELS;
 use pp_command::{ChosenSteps, TextOf};
 use pp_deck::Deck;
-use pp_draw::{Window, run_seeing_steps, write_drawing};
+use pp_draw::{run_seeing_steps, write_drawing};
 use pp_ends::{find_ending, find_loops, write_ends};
 use pp_listing::{DumpFault, write_dump, write_listing};
-use pp_machine::PpNo;
 use pp_races::write_races;
 use pp_sessions::{run_counting_steps, write_sessions};
-use pp_state::{Bounds, run_counting_held, write_central, write_memory, write_state};
+use pp_state::{run_counting_held, write_central, write_memory, write_state};
 use pp_steps::{Choice, write_steps};
 use pp_text::write_text;
 use std::alloc::Allocator;
@@ -43,12 +40,17 @@ pub(crate) fn write_text_of<A: Allocator + Copy, W: Write>(
         deck.now.bytes.now (W.contents writer.old) (W.contents writer.new) }
 {
     match text {
-        TextOf::Barrel(turns) => write_barrel(loaded, writer, *turns),
-        TextOf::List => write_list(loaded, writer),
+        TextOf::Barrel(turns) => {
+            loaded.machine.run_barrel(*turns)?;
+            answer_to(write_text(writer, &loaded.machine, &loaded.named))
+        }
+        TextOf::List => answer_to(write_listing(writer, loaded)),
         TextOf::Dump(turns) => write_dump_after(loaded, writer, *turns),
         TextOf::State(turns) => write_state_after(alloc, deck, loaded, writer, *turns),
         TextOf::Sessions { turns, words } => {
-            write_sessions_after(loaded, writer, *turns, *words)
+            let shown = loaded.in_use();
+            let counts = run_counting_steps(&mut loaded.machine, *turns)?;
+            answer_to(write_sessions(writer, &loaded.machine, &shown, &counts, *words))
         }
         TextOf::Races(turns) => write_raced(alloc, deck, loaded, writer, *turns),
         TextOf::Ends(turns) => write_ends_after(alloc, loaded, writer, *turns),
@@ -56,37 +58,23 @@ pub(crate) fn write_text_of<A: Allocator + Copy, W: Write>(
             turns,
             processor,
             bounds,
-        } => write_memory_after(loaded, writer, *turns, *processor, *bounds),
+        } => {
+            loaded.machine.run_barrel(*turns)?;
+            answer_to(write_memory(writer, loaded.machine.pp(*processor), *bounds))
+        }
         TextOf::Central { turns, bounds } => {
-            write_central_after(loaded, writer, *turns, *bounds)
+            loaded.machine.run_barrel(*turns)?;
+            answer_to(write_central(writer, loaded.machine.central(), *bounds))
         }
         TextOf::Steps { turns, chosen } => {
             write_chosen_steps(alloc, loaded, writer, *turns, chosen)
         }
-        TextOf::Draw(window) => write_drawn(alloc, loaded, writer, *window),
+        TextOf::Draw(window) => {
+            let shown = loaded.in_use();
+            let steps = run_seeing_steps(alloc, &mut loaded.machine, *window)?;
+            answer_to(write_drawing(writer, &loaded.machine, &shown, steps.as_slice(), *window))
+        }
     }
-}
-
-fn write_barrel<A: Allocator + Copy, W: Write>(
-    loaded: &mut Deck<A>,
-    writer: &mut W,
-    turns: u32,
-) -> Result<(), TextFault>
-    ensures { AnswersLoaded loaded.old.machine loaded.old.named (IsBarrelText turns) result
-        (W.contents writer.old) (W.contents writer.new) }
-{
-    loaded.machine.run_barrel(turns)?;
-    answer_to(write_text(writer, &loaded.machine, &loaded.named))
-}
-
-fn write_list<A: Allocator + Copy, W: Write>(
-    loaded: &Deck<A>,
-    writer: &mut W,
-) -> Result<(), TextFault>
-    ensures { AnswersLoaded loaded.now.machine loaded.now.named IsListText result
-        (W.contents writer.old) (W.contents writer.new) }
-{
-    answer_to(write_listing(writer, loaded))
 }
 
 fn write_dump_after<A: Allocator + Copy, W: Write>(
@@ -142,50 +130,6 @@ fn write_ends_after<A: Allocator + Copy, W: Write>(
     answer_to(write_ends(writer, &shown, ending, turns, &loaded.machine, &loops))
 }
 
-fn write_memory_after<A: Allocator + Copy, W: Write>(
-    loaded: &mut Deck<A>,
-    writer: &mut W,
-    turns: u32,
-    processor: PpNo,
-    bounds: Bounds,
-) -> Result<(), TextFault>
-    ensures { AnswersLoaded loaded.old.machine loaded.old.named
-        (IsTextAfter turns (memory_after processor bounds)) result
-        (W.contents writer.old) (W.contents writer.new) }
-{
-    loaded.machine.run_barrel(turns)?;
-    answer_to(write_memory(writer, loaded.machine.pp(processor), bounds))
-}
-
-fn write_central_after<A: Allocator + Copy, W: Write>(
-    loaded: &mut Deck<A>,
-    writer: &mut W,
-    turns: u32,
-    bounds: Bounds,
-) -> Result<(), TextFault>
-    ensures { AnswersLoaded loaded.old.machine loaded.old.named
-        (IsTextAfter turns (central_after bounds)) result
-        (W.contents writer.old) (W.contents writer.new) }
-{
-    loaded.machine.run_barrel(turns)?;
-    answer_to(write_central(writer, loaded.machine.central(), bounds))
-}
-
-fn write_sessions_after<A: Allocator + Copy, W: Write>(
-    loaded: &mut Deck<A>,
-    writer: &mut W,
-    turns: u32,
-    words: bool,
-) -> Result<(), TextFault>
-    ensures { AnswersLoaded loaded.old.machine loaded.old.named
-        (IsTextAfter turns (sessions_after words)) result
-        (W.contents writer.old) (W.contents writer.new) }
-{
-    let shown = loaded.in_use();
-    let counts = run_counting_steps(&mut loaded.machine, turns)?;
-    answer_to(write_sessions(writer, &loaded.machine, &shown, &counts, words))
-}
-
 /// The run is made twice, the first time of the deck loaded once more, to count its events; then,
 /// with room for them, it is watched.
 fn write_raced<A: Allocator + Copy, W: Write>(
@@ -200,22 +144,13 @@ fn write_raced<A: Allocator + Copy, W: Write>(
     ensures { IsAnswer deck.now.profile (IsRacesText turns) result deck.now.bytes.now
         (W.contents writer.old) (W.contents writer.new) }
 {
-    let events = count_events(alloc, deck, turns)?;
+    let events = {
+        let mut ahead = deck.load(alloc)?;
+        ahead.machine.run_barrel(turns)?;
+        ahead.machine.event_counts()
+    };
     loaded.machine.is_sound();
     answer_to_report(write_races(alloc, writer, &mut loaded.machine, turns, &events))
-}
-
-/// How many events each channel has after the run, by its place.
-fn count_events<A: Allocator + Copy>(
-    alloc: A,
-    deck: &DeckBytes,
-    turns: u32,
-) -> Result<[usize; CHANNELS], TextFault>
-    ensures { IfErr result (IsLoadFault deck.now.profile deck.now.bytes.now) }
-{
-    let mut ahead = deck.load(alloc)?;
-    ahead.machine.run_barrel(turns)?;
-    Ok(ahead.machine.event_counts())
 }
 
 fn write_chosen_steps<A: Allocator + Copy, W: Write>(
@@ -235,18 +170,4 @@ fn write_chosen_steps<A: Allocator + Copy, W: Write>(
         to: chosen.to,
     };
     answer_to_report(write_steps(alloc, writer, &loaded.machine, &choice, turns))
-}
-
-fn write_drawn<A: Allocator + Copy, W: Write>(
-    alloc: A,
-    loaded: &mut Deck<A>,
-    writer: &mut W,
-    window: Window,
-) -> Result<(), TextFault>
-    ensures { AnswersLoaded loaded.old.machine loaded.old.named (IsDrawing window) result
-        (W.contents writer.old) (W.contents writer.new) }
-{
-    let shown = loaded.in_use();
-    let steps = run_seeing_steps(alloc, &mut loaded.machine, window)?;
-    answer_to(write_drawing(writer, &loaded.machine, &shown, steps.as_slice(), window))
 }

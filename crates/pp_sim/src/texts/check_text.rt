@@ -1,6 +1,4 @@
-//! Reading a channel trace and writing what is counted in it, if it is lawful.
-
-ghost use Rattle.pp_sim.specs.CheckText.{AnswersTrace, IsCheck};
+ghost use Rattle.pp_sim.specs.CheckText.{AnswersTrace};
 
 use crate::streams::read_all;
 use crate::text_fault::{TextFault, answer_to};
@@ -22,19 +20,7 @@ pub fn check_text<A: Allocator, R: Read, W: Write>(
         (W.contents writer.old) (W.contents writer.new) }
 {
     let trace = read_all(alloc, reader)?;
-    write_judged(trace.as_slice(), opened, writer)
-}
-
-/// Writes what is counted in a trace, if it is lawful.
-fn write_judged<W: Write>(
-    trace: &[u8],
-    opened: &[bool; CHANNELS],
-    writer: &mut W,
-) -> Result<(), TextFault>
-    ensures { IsCheck opened.now result trace.now
-        (W.contents writer.old) (W.contents writer.new) }
-{
-    match check_trace(trace, opened) {
+    match check_trace(trace.as_slice(), opened) {
         Ok(verdict) => answer_to(write_verdict(writer, &verdict)),
         Err(fault) => Err(TextFault::Trace(fault)),
     }

@@ -1,5 +1,3 @@
-//! Reading a deck and writing a text of it.
-
 ghost use Rattle.pp_sim.specs.TextAnswer.{AnswersDeck, AnswersDeckUnless};
 ghost use Rattle.pp_sim.specs.TextOf.{IsBarrelText, IsTextOf, obstacle};
 

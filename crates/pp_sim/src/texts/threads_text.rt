@@ -1,5 +1,3 @@
-//! Reading a deck, running it with one thread per processor and writing the text of the run.
-
 ghost use Rattle.std.specs.Prelude.{◌≡◌, []};
 ghost use Rattle.pp_deck.specs.DeckLaw.{NamesWithin};
 ghost use Rattle.pp_runner.specs.Report.{ReportFitsInMemory};

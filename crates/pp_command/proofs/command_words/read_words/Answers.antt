@@ -1,11 +1,11 @@
-use Rattle.std.proofs.Common.{None}
+use Rattle.std.proofs.Common.{rules, tests, None}
 use Rattle.clap.specs.Words.{found_of}
 use Rattle.pp_command.specs.CommandLine.{AsksForMoreAmong, IsWorkAmong}
 use Rattle.pp_command.proofs.CommandLemmas.{met_command, met_none, refused_words, taken_words}
 use Rattle.pp_command.proofs.command_words.read_words.Goals as goal
 
-pub returns-in-Err-clause-refused : goal.returns-in-Err-clause-refused
-returns-in-Err-clause-refused c = refused_words _ _ c.in-Err.error _ c.in-Ok.ensures c.in-Err.ensures.kinds c.refusal.ensures
+pub returns-in-Err-2-clause-refused : goal.returns-in-Err-2-clause-refused
+returns-in-Err-2-clause-refused c = refused_words _ _ c.in-Err.error c.in-Ok.ensures c.in-Err.ensures.kinds (search rules)
 
 pub returns-in-Some-work_of-clause-taken : goal.returns-in-Some-work_of-clause-taken
 returns-in-Some-work_of-clause-taken c = taken_words _ _ c.in-Ok.ensures c.in-Ok-try_get_matches_from.ensures.kinds
@@ -20,7 +20,7 @@ pub returns-in-Some-work_of-clause-file : goal.returns-in-Some-work_of-clause-fi
 returns-in-Some-work_of-clause-file c =
     let e = met_command _ _ c.in-Ok-try_get_matches_from.matches c.in-Some.name.now (found_of c.in-Some.inner.now)
     c.in-Ok.ensures c.in-Ok-try_get_matches_from.ensures.matches c.in-Some.ensures.name c.in-Some.ensures.rows in
-    rw e c.file_of.ensures
+    rw e (search (rules, tests))
 
 pub returns-in-Some-clause-refused : goal.returns-in-Some-clause-refused
 returns-in-Some-clause-refused c =

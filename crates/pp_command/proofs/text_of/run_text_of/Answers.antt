@@ -36,12 +36,3 @@ returns-in-ends c = (c.in-ends.is, c.in_ok-turns.ensures)
 
 pub returns-in-sessions : goal.returns-in-sessions
 returns-in-sessions c = (c.in-sessions.is, c.in_ok-turns.ensures, c.is_flagged.ensures)
-
-pub returns-in-memory : goal.returns-in-memory
-returns-in-memory c = rw c.in-memory.is c.memory_text_of.ensures
-
-pub returns-in-central : goal.returns-in-central
-returns-in-central c = rw c.in-central.is c.central_text_of.ensures
-
-pub returns-in-steps : goal.returns-in-steps
-returns-in-steps c = rw c.in-steps.is c.steps_text_of.ensures

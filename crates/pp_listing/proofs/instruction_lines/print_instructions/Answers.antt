@@ -1,4 +1,4 @@
-use Rattle.std.proofs.Common.{[], ◌∙◌, sym, refl, arith, subst}
+use Rattle.std.proofs.Common.{[], refl, arith, rules, subst}
 use Rattle.pp_text.proofs.PrintingLemmas.{prints_nothing, prints_then}
 use Rattle.pp_text.specs.TextWriter.{Prints}
 use Rattle.pp_listing.proofs.TextLemmas.{before_first, zero_step, one_step, two_step, all_passed}
@@ -23,7 +23,7 @@ loop-place-preserved-then-place-lt-PLACES g c =
         _,
         prints_then _ _ _ _ printed _ prints c.print_two_words.ensures,
         two_step _ printed _ _ _ _ _ _ _ _ long c.if-place-lt-PLACES.true c.truncated-at.ensures c.next.ensures c.get-word.ensures.value c.get-m.ensures.value c.get.ensures.value c.if-get-ne0.true
-            (sym c.is_long.ensures ∙ c.if-is_long.true) refl so_far,
+            (search rules) refl so_far,
       );
     }
 
@@ -40,7 +40,7 @@ loop-place-preserved-else-is_long g c =
         one_step _ printed _ _ _ _ _ _ _ _ long c.loop-place-test.true c.truncated-at.ensures c.next.ensures c.get-word.ensures.value c.get-m.ensures.value c.get.ensures.value c.if-get-ne0.true
             (λ more. elim c.else-is_long.branch [
               | else-is_long-via-then-is_long+else-place-lt-PLACES w ↦ absurd (omega (arith, more, w.if-place-lt-PLACES.false))
-              | else-is_long-via-else-is_long w ↦ sym c.is_long.ensures ∙ w.if-is_long.false
+              | else-is_long-via-else-is_long w ↦ search rules
             ]) refl so_far,
       );
     }

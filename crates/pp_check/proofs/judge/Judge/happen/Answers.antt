@@ -6,7 +6,7 @@ use Rattle.pp_check.specs.LawfulTrace.{history}
 use Rattle.pp_check.specs.Verdict.{is_activate}
 use Rattle.pp_check.proofs.KeepsLemmas.{few_events, few_sessions, keeps_event, kept_as, standing_after}
 use Rattle.pp_check.proofs.judge.Judge.happen.Goals as goal
-use Rattle.pp_check.proofs.judge.Judge.happen.Goals.{then-is_activate, else-is_activate}
+use Rattle.pp_check.proofs.judge.Judge.happen.Goals.{then-matches, else-matches}
 
 pub overflow_add-self : goal.overflow_add-self
 overflow_add-self c =
@@ -15,8 +15,8 @@ overflow_add-self c =
     let few = few_events some.0 some.1.0 c.args.self.now c.args.channel some.1.1 c.standing_of-standing.ensures.names in
     omega (arith, few, here)
 
-pub overflow_add-self-then-is_activate : goal.overflow_add-self-then-is_activate
-overflow_add-self-then-is_activate c =
+pub overflow_add-self-then-matches : goal.overflow_add-self-then-matches
+overflow_add-self-then-matches c =
     let some = c.requires.kept in
     let few = few_sessions some.1.0 in
     omega (arith, some.1.1.sessions, some.1.1.events, few)
@@ -39,9 +39,9 @@ returns-clause-happens c = λ opened lines line k fits is.
     let kept = keeps_event opened lines standings line c.args.channel e is names all c.args.self.now.events c.args.self.now.sessions c.in-Some.state k fits more.0 more.1 in
     let written = ap (λ s. slice_set standings c.index.result (standing_after s c.in-Some.state)) (sym read) in
     let moved = ap (λ i. slice_set standings i (standing_after (standing_of standings c.args.channel) c.in-Some.state)) (sym c.index.ensures.place) in
-    elim c.if-is_activate.branch [
-      | then-is_activate w ↦ rw w.self-is (kept_as _ _ _ _ _ _ _ (moved ∙ written) (begun (is_activate e) c.args.self.now.sessions (sym c.is_activate.ensures ∙ w.if-is_activate.true)) kept)
-      | else-is_activate w ↦ rw w.self-is (kept_as _ _ _ _ _ _ _ (moved ∙ written) (going_on (is_activate e) c.args.self.now.sessions (sym c.is_activate.ensures ∙ w.if-is_activate.false)) kept)
+    elim c.if-matches.branch [
+      | then-matches w ↦ rw w.self-is (kept_as _ _ _ _ _ _ _ (moved ∙ written) (begun (is_activate e) c.args.self.now.sessions (search rules)) kept)
+      | else-matches w ↦ rw w.self-is (kept_as _ _ _ _ _ _ _ (moved ∙ written) (going_on (is_activate e) c.args.self.now.sessions (search rules)) kept)
     ]
   where
     begun : (b : Bool) (n : ℕ) → b ≡ true → n + (if b then 1 else 0) ≡ n + 1
