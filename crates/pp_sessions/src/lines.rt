@@ -1,10 +1,9 @@
 //! The lines of stretches and of processors.
 
 ghost use Rattle.pp_text.specs.TextWriter.{Prints};
-ghost use Rattle.pp_sessions.specs.SessionsText.{counts_line, end_text, idle_line, moment_text, session_line, tally_line, word_text};
+ghost use Rattle.pp_sessions.specs.SessionsText.{counts_line, end_text, idle_line, moment_text, session_line, word_text};
 
-use crate::moment::Moment;
-use crate::tally::Tally;
+use crate::tally::{Moment, Tally};
 use pp_channel::ChannelNo;
 use pp_machine::PpNo;
 use pp_run::StepCounts;
@@ -14,25 +13,13 @@ use pp_text::{
 use pp_word::Word12;
 use std::io::Write;
 
-/// Prints the line of a stretch of a channel and a line feed; if it is a session, it has this
-/// number.
-pub(crate) fn print_stretch_line<W: Write>(
+/// Prints `CH05 SESSION 1 FROM 000000 TO 000030 PUT 1 TAKEN 0 LOST 0007` and a line feed.
+pub(crate) fn print_session<W: Write>(
     text: &mut TextWriter<W>,
     c: ChannelNo,
     number: u64,
-    stretch: &Tally,
+    session: &Tally,
 )
-    ensures { Prints W.contents text.old text.new (tally_line c number stretch.now) }
-{
-    if stretch.is_session {
-        print_session(text, c, number, stretch);
-    } else {
-        print_idle(text, c, stretch);
-    }
-}
-
-/// Prints `CH05 SESSION 1 FROM 000000 TO 000030 PUT 1 TAKEN 0 LOST 0007` and a line feed.
-fn print_session<W: Write>(text: &mut TextWriter<W>, c: ChannelNo, number: u64, session: &Tally)
     ensures { Prints W.contents text.old text.new (session_line c number session.now) }
 {
     text.print(&channel_name(c));
@@ -50,7 +37,7 @@ fn print_session<W: Write>(text: &mut TextWriter<W>, c: ChannelNo, number: u64, 
 }
 
 /// Prints `CH05 IDLE FUNCTIONS 2 FROM 000010 TO 000030` and a line feed.
-fn print_idle<W: Write>(text: &mut TextWriter<W>, c: ChannelNo, idle: &Tally)
+pub(crate) fn print_idle<W: Write>(text: &mut TextWriter<W>, c: ChannelNo, idle: &Tally)
     ensures { Prints W.contents text.old text.new (idle_line c idle.now) }
 {
     text.print(&channel_name(c));

@@ -46,20 +46,7 @@ fn print_channels<A: Allocator, W: Write>(
         (flat_map (channel_lines with_words machine.now) all_channels) }
 {
     for place in 0..CHANNELS {
-        print_used_channel(text, with_words, machine, ChannelNo::at(place));
-    }
-}
-
-fn print_used_channel<A: Allocator, W: Write>(
-    text: &mut TextWriter<W>,
-    with_words: bool,
-    machine: &Machine<A>,
-    c: ChannelNo,
-)
-    ensures { Prints W.contents text.old text.new (channel_lines with_words machine.now c) }
-{
-    if !machine.channel(c).history().is_empty() {
-        print_channel(text, with_words, machine, c);
+        print_channel(text, with_words, machine, ChannelNo::at(place));
     }
 }
 
@@ -72,6 +59,9 @@ fn print_channel<A: Allocator, W: Write>(
 )
     ensures { Prints W.contents text.old text.new (channel_lines with_words machine.now c) }
 {
+    if machine.channel(c).history().is_empty() {
+        return;
+    }
     let mut current = OpenStretch::opening(machine, c);
     let entries = machine.events();
     for index in 0..entries.len() {
@@ -93,19 +83,8 @@ fn print_processors<W: Write>(
         (flat_map (shown_counts_line shown.now counts.now) all_processors) }
 {
     for place in 0..PROCESSORS {
-        print_shown_processor(text, shown, counts, PpNo::at(place));
-    }
-}
-
-fn print_shown_processor<W: Write>(
-    text: &mut TextWriter<W>,
-    shown: &[bool; PROCESSORS],
-    counts: &[StepCounts; PROCESSORS],
-    n: PpNo,
-)
-    ensures { Prints W.contents text.old text.new (shown_counts_line shown.now counts.now n) }
-{
-    if shown[n.index()] {
-        print_counts(text, n, &counts[n.index()]);
+        if shown[place] {
+            print_counts(text, PpNo::at(place), &counts[place]);
+        }
     }
 }

@@ -11,7 +11,7 @@ loop-place-init g c = prints_nothing _ _
 
 pub loop-place-preserved : goal.loop-place-preserved
 loop-place-preserved g c =
-    prints_on _ _ _ _ _ _ _ c.loop-place.invariant (rw c.at.ensures.number at c.print_used_channel.ensures)
+    prints_on _ _ _ _ _ _ _ c.loop-place.invariant (rw c.at.ensures.number at c.print_channel.ensures)
     (walk_more (channel_lines c.args.with_words c.args.machine.now) channel_number c.loop-place.place)
 
 pub returns : goal.returns
