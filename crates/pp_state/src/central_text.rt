@@ -3,7 +3,7 @@
 ghost use Rattle.std.specs.Prelude.{◌<◌, length};
 ghost use Rattle.pp_text.specs.TextWriter.{Prints};
 ghost use Rattle.pp_text.specs.Written.{IsWritten};
-ghost use Rattle.pp_state.specs.CentralText.{central_line, central_text, shown_word};
+ghost use Rattle.pp_state.specs.CentralText.{central_text, shown_word};
 
 use crate::display_code::print_displayed;
 use pp_machine::Central;
@@ -24,23 +24,13 @@ pub fn write_central<A: Allocator, W: Write>(
         (W.contents writer.old) (W.contents writer.new) }
 {
     let mut text = TextWriter::new(writer);
-    print_central(&mut text, central, bounds);
+    for address in 0..central.size() {
+        print_shown_word(&mut text, central, bounds, address);
+    }
     text.finish()
 }
 
-#[tactic(auto, unfolding(crate::specs::CentralText::central_text))]
-fn print_central<A: Allocator, W: Write>(
-    text: &mut TextWriter<W>,
-    central: &Central<A>,
-    bounds: Bounds,
-)
-    ensures { Prints W.contents text.old text.new (central_text bounds central.now) }
-{
-    for address in 0..central.size() {
-        print_shown_word(text, central, bounds, address);
-    }
-}
-
+/// Prints `000010  00010002000300040005   A B C D E` and a line feed, if the word is shown.
 #[tactic(auto, unfolding(crate::specs::CentralText::shown_word))]
 fn print_shown_word<A: Allocator, W: Write>(
     text: &mut TextWriter<W>,
@@ -53,18 +43,11 @@ fn print_shown_word<A: Allocator, W: Write>(
 {
     let word = central.words()[address as usize].get();
     if bounds.meets(address, address) && word != 0 {
-        print_line(text, address, word);
+        print_octal(text, 6, u64::from(address));
+        text.print(b"  ");
+        print_octal(text, 20, word);
+        text.print(b"  ");
+        print_displayed(text, 10, word);
         text.print(b"\n");
     }
-}
-
-/// Prints `000010  00010002000300040005   A B C D E`.
-fn print_line<W: Write>(text: &mut TextWriter<W>, address: u32, word: u64)
-    ensures { Prints W.contents text.old text.new (central_line address word) }
-{
-    print_octal(text, 6, u64::from(address));
-    text.print(b"  ");
-    print_octal(text, 20, word);
-    text.print(b"  ");
-    print_displayed(text, 10, word);
 }

@@ -42,7 +42,8 @@ pub fn write_state<A: Allocator, W: Write>(
     text.finish()
 }
 
-/// Prints the lines of all processors shown, in order of number.
+/// Prints `PP00 P=0113 A=000006 RUNNING IAN 01 HELD CH01 ACTIVE EMPTY x376` and a line feed, and so
+/// the lines of all processors shown, in order of number.
 fn print_processors<A: Allocator, W: Write>(
     text: &mut TextWriter<W>,
     shown: &[bool; PROCESSORS],
@@ -53,37 +54,13 @@ fn print_processors<A: Allocator, W: Write>(
         (flat_map (standing_line shown.now machine.now held.now) all_processors) }
 {
     for place in 0..PROCESSORS {
-        print_shown_processor(text, shown, machine, held, PpNo::at(place));
+        if shown[place] {
+            let n = PpNo::at(place);
+            text.print(&processor_heading(n, machine.pp(n)));
+            print_standing(text, machine, n, held[place]);
+            text.print(b"\n");
+        }
     }
-}
-
-fn print_shown_processor<A: Allocator, W: Write>(
-    text: &mut TextWriter<W>,
-    shown: &[bool; PROCESSORS],
-    machine: &Machine<A>,
-    held: &[u32; PROCESSORS],
-    n: PpNo,
-)
-    ensures { Prints W.contents text.old text.new (standing_line shown.now machine.now held.now n) }
-{
-    if shown[n.index()] {
-        print_processor(text, machine, n, held[n.index()]);
-    }
-}
-
-/// Prints `PP00 P=0113 A=000006 RUNNING IAN 01 HELD CH01 ACTIVE EMPTY x376` and a line feed.
-fn print_processor<A: Allocator, W: Write>(
-    text: &mut TextWriter<W>,
-    machine: &Machine<A>,
-    n: PpNo,
-    count: u32,
-)
-    ensures { Prints W.contents text.old text.new
-        (processor_line n (processor_of n machine.now) (standing n machine.now count)) }
-{
-    text.print(&processor_heading(n, machine.pp(n)));
-    print_standing(text, machine, n, count);
-    text.print(b"\n");
 }
 
 /// Prints the lines of all words of processors that differ from the load.
@@ -96,20 +73,9 @@ fn print_memories<A: Allocator, W: Write>(
         (flat_map deck_line (changed_sections before.now after.now)) }
 {
     for place in 0..PROCESSORS {
-        print_memory(text, before, after, PpNo::at(place));
-    }
-}
-
-fn print_memory<A: Allocator, W: Write>(
-    text: &mut TextWriter<W>,
-    before: &Machine<A>,
-    after: &Machine<A>,
-    n: PpNo,
-)
-    ensures { Prints W.contents text.old text.new
-        (flat_map deck_line (changed_section before.now after.now n)) }
-{
-    if has_changes(before.pp(n), after.pp(n)) {
-        print_section(text, n, before.pp(n), after.pp(n));
+        let n = PpNo::at(place);
+        if has_changes(before.pp(n), after.pp(n)) {
+            print_section(text, n, before.pp(n), after.pp(n));
+        }
     }
 }

@@ -1,11 +1,11 @@
 use Rattle.std.proofs.Common.{◌≡◌, ◌+◌, suc, ap, arith, sym, ◌∙◌}
 use Rattle.pp_word.specs.Address.{place_count}
-use Rattle.pp_text.proofs.PrintingLemmas.{prints_all, prints_more, prints_nothing}
+use Rattle.pp_text.proofs.PrintingLemmas.{◌▹◌, prints_all, prints_more, prints_nothing}
 use Rattle.pp_listing.specs.ListedLine.{deck_line}
 use Rattle.pp_text.specs.Differences.{places}
 use Rattle.pp_state.specs.Changes.{line_from, position_on_line}
 use Rattle.pp_state.proofs.ChangeLemmas.{none_at_first}
-use Rattle.pp_state.proofs.changes.print_changed_lines.Goals as goal
+use Rattle.pp_state.proofs.changes.print_section.Goals as goal
 
 pub loop-place-init : goal.loop-place-init
 loop-place-init g c = record {
@@ -26,4 +26,5 @@ loop-place-preserved g c =
 pub returns : goal.returns
 unfolding places
 returns g c =
-    prints_all _ _ _ deck_line (line_from c.args.before.now.memory c.args.after.now.memory) c.loop-place.place place_count (omega (arith, c.loop-place.auto.place-end, c.loop-place-test.false)) c.loop-place.invariant.text
+    c.print_section_line.ensures
+    ▹ prints_all _ _ _ deck_line (line_from c.args.before.now.memory c.args.after.now.memory) c.loop-place.place place_count (omega (arith, c.loop-place.auto.place-end, c.loop-place-test.false)) c.loop-place.invariant.text
