@@ -1,6 +1,11 @@
 -- The line of a step, put together from its parts.
-use Rattle.std.proofs.Common.{get_or-set_same, ◌≡◌, ℕ, ◌/◌, ◌%◌, ◌^◌, ◌<◌, List, ◌++◌, codes, length, refl, append_assoc}
+use Rattle.std.proofs.Common.{get_or-set_same, ◌≡◌, ℕ, ◌/◌, ◌%◌, ◌^◌, ◌<◌, List, ◌++◌, codes, length, [], refl, append_assoc}
 use Rattle.pp_word.specs.Address.{next_place}
+use Rattle.pp_channel.specs.declared.chan_op.ChanOp.{ChanOp}
+use Rattle.pp_machine.specs.declared.need.Need.{Need}
+use Rattle.pp_machine.specs.declared.need.Need.TheVariants.{Channel}
+use Rattle.pp_machine.specs.declared.outcome.Outcome.TheVariants.{Held}
+use Rattle.pp_text.specs.Standing.{held_text}
 use Rattle.pp_machine.specs.MachineState.{MachineState, processor_of}
 use Rattle.pp_machine.specs.MachineStep.{answer_to, central_after, stepped}
 use Rattle.pp_numbers.specs.PpNo.{processor_index}
@@ -30,3 +35,8 @@ stepped_processor n m within = get_or-set_same m.processors (processor_index n) 
 pub stepped_central : (n : ℕ) (m : MachineState) → (stepped n m).central ≡ central_after (need (processor_of n m)) m
 unfolding stepped
 stepped_central n m = refl
+
+-- no channel is needed
+pub not_held : (x : Need) (m : MachineState) (count : ℕ) → ((c : ℕ) (operation : ChanOp) → x ≡ Channel c operation → ⊥) → held_text x Held m count ≡ []
+not_held (Channel c operation) m count other = absurd (other c operation refl)
+not_held x m count other = refl

@@ -4,13 +4,23 @@ ghost use Rattle.std.specs.Prelude.{◌≡◌, ◌+◌, ◌<◌, ◌^◌, length
 ghost use Rattle.pp_numbers.specs.PpNo.{processor_count, processor_index};
 ghost use Rattle.pp_steps.specs.Cursor.{line_at, no_cursor, past_step};
 ghost use Rattle.pp_steps.specs.HeldRuns.{no_spells};
-ghost use Rattle.pp_steps.specs.declared.line_kind.LineKind.TheVariants.{NoLine};
+ghost use Rattle.pp_steps.specs.declared.cursor.LineKind.TheVariants.{NoLine};
 
 use crate::held_runs::{HeldRuns, goes_on};
-use crate::line_kind::LineKind;
 use pp_machine::{PROCESSORS, PpNo};
 use pp_run::Progress;
 use std::alloc::Allocator;
+
+/// Which line a step has.
+#[derive(Clone, Copy)]
+pub(crate) enum LineKind {
+    /// None: the processor was at rest, or held as before.
+    NoLine,
+    /// That of a step that moved the processor.
+    OneStep,
+    /// That of this number of held steps in a row, this one the first (decimal).
+    HeldSteps(u32),
+}
 
 /// How many times a processor has been held, and its last step.
 #[derive(Clone, Copy)]

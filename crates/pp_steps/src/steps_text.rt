@@ -12,9 +12,8 @@ ghost use Rattle.pp_steps.specs.HeldRuns.{each_spells};
 ghost use Rattle.pp_steps.specs.StepsText.{kind_text, steps_text};
 
 use crate::choice::Choice;
-use crate::cursor::{Cursor, pass_step};
+use crate::cursor::{Cursor, LineKind, pass_step};
 use crate::held_runs::HeldRuns;
-use crate::line_kind::LineKind;
 use crate::run_counts::counted_runs;
 use crate::step_line::{print_held_line, print_step_line};
 use pp_machine::{Machine, PROCESSORS, PpNo};

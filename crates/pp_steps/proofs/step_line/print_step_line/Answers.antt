@@ -27,7 +27,7 @@ returns g c = λ m stands further.
     let written : c.central-2.result.now ≡ central_after c.wants-need.result m =
     later ∙ stepped_central n m ∙ ap (λ (y : Need). central_after y m) (sym needs) in
     (rw (c.turns.ensures m stands, c.a.ensures, new, old) at c.print_heading.ensures)
-    ▹ (rw (new, old) at (c.print_places.ensures (answer_to x m) c.of.ensures.others is))
+    ▹ (rw (new, old) at (c.print_places.ensures (answer_to x m) c.first_stored.ensures.others is))
     ▹ (rw (central, later) at (c.print_central.ensures m central written))
     ▹ (rw needs at (c.print_channel.ensures m stands))
     ▹ (rw (c.state.ensures.value, new) at c.print_end.ensures)
