@@ -1,5 +1,6 @@
 -- The line of a step, put together from its parts.
-use Rattle.std.proofs.Common.{get_or-set_same, ◌≡◌, ℕ, ◌/◌, ◌%◌, ◌^◌, ◌<◌, List, ◌++◌, codes, length, [], refl, append_assoc}
+use Rattle.std.proofs.Common.{get_or-set_same, ◌≡◌, ℕ, ◌/◌, ◌%◌, ◌^◌, ◌<◌, List, ◌++◌, codes, length, [], refl, sym, ap, subst, ◌∙◌, true, false, append_assoc}
+use Rattle.std.specs.Prelude.{Result, Ok, Err, MatchResult, IfOk, is_ok}
 use Rattle.pp_word.specs.Address.{next_place}
 use Rattle.pp_channel.specs.declared.chan_op.ChanOp.{ChanOp}
 use Rattle.pp_machine.specs.declared.need.Need.{Need}
@@ -40,3 +41,8 @@ stepped_central n m = refl
 pub not_held : (x : Need) (m : MachineState) (count : ℕ) → ((c : ℕ) (operation : ChanOp) → x ≡ Channel c operation → ⊥) → held_text x Held m count ≡ []
 not_held (Channel c operation) m count other = absurd (other c operation refl)
 not_held x m count other = refl
+
+-- what is known of a value, of the same after another error was named
+pub kept_ok : {T E F : Type 0} (P : T → Type 0) (r : Result T E) (s : Result T F) (x : T) (Q : E → Type 0) → MatchResult r (λ y. s ≡ Ok y) Q → is_ok s ≡ is_ok r → IfOk r P → s ≡ Ok x → P x
+kept_ok P (Ok y) s x Q is same h was = let here : y ≡ x = cc in subst P here h
+kept_ok P (Err e) s x Q is same h was = absurd (let wrong : true ≡ false = sym (ap is_ok was) ∙ same in cc)

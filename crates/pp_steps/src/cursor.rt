@@ -1,13 +1,9 @@
 //! How far a processor has come in the times that it is held.
 
-ghost use Rattle.std.specs.Prelude.{◌≡◌, ◌+◌, ◌<◌, ◌^◌, length, slice_index_or, slice_set, if◌then◌else◌};
-ghost use Rattle.pp_numbers.specs.PpNo.{processor_count, processor_index};
+ghost use Rattle.std.specs.Prelude.{◌≡◌, ◌+◌, ◌<◌, ◌^◌};
 ghost use Rattle.pp_steps.specs.Cursor.{line_at, no_cursor, past_step};
-ghost use Rattle.pp_steps.specs.HeldRuns.{no_spells};
-ghost use Rattle.pp_steps.specs.declared.cursor.LineKind.TheVariants.{NoLine};
 
 use crate::held_runs::{HeldRuns, goes_on};
-use pp_machine::{PROCESSORS, PpNo};
 use pp_run::Progress;
 use std::alloc::Allocator;
 
@@ -60,28 +56,4 @@ impl Cursor {
             }
         }
     }
-}
-
-/// The cursor of a processor goes past a step, where the step is chosen.
-pub(crate) fn pass_step<A: Allocator>(
-    cursors: &mut [Cursor; PROCESSORS],
-    runs: &Vec<HeldRuns<A>, A>,
-    is_chosen: bool,
-    n: PpNo,
-    step: Progress,
-) -> LineKind
-    requires as_many { length runs.now.items ≡ processor_count }
-    requires low { (slice_index_or cursors.old (processor_index n) no_cursor).times + 1 < 2 ^ 64 }
-    ensures cursors { cursors.new ≡ if is_chosen then slice_set cursors.old (processor_index n)
-        (past_step (slice_index_or cursors.old (processor_index n) no_cursor) step)
-        else cursors.old }
-    ensures line { result ≡ if is_chosen then
-        line_at (slice_index_or runs.now.items (processor_index n) no_spells)
-        (slice_index_or cursors.old (processor_index n) no_cursor) step
-        else NoLine }
-{
-    if !is_chosen {
-        return LineKind::NoLine;
-    }
-    cursors[n.index()].pass(&runs[n.index()], step)
 }

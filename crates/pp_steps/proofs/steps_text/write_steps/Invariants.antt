@@ -6,7 +6,7 @@ use Rattle.pp_steps.specs.Choice.{chosen_steps}
 use Rattle.pp_steps.specs.Cursor.{each_cursor}
 use Rattle.pp_steps.proofs.ChosenSteps.{chosen_from}
 use Rattle.pp_steps.proofs.TextOfSteps.{IsSoFar}
-use Rattle.pp_steps.proofs.steps_text.print_steps.Given as goal
+use Rattle.pp_steps.proofs.steps_text.write_steps.Given as goal
 
 abbrev pub invariant-loop-turn : goal.invariant-loop-turn
 invariant-loop-turn g l =
@@ -18,5 +18,5 @@ invariant-loop-turn g l =
       before : StandsFor l.before (run (barrel p l.turn) m);
       after : StandsFor l.after (run (barrel p l.turn) m);
       followed : l.cursors ≡ each_cursor past;
-      printed : (text : List ℕ) × Prints g.W.Write.contents l.fn.text l.text text × IsSoFar (chosen_steps l.fn.choice (barrel p l.fn.turns) m) past future text;
+      printed : (text : List ℕ) × Prints g.W.Write.contents l.initial.text l.text text × IsSoFar (chosen_steps l.fn.choice (barrel p l.fn.turns) m) past future text;
     }
