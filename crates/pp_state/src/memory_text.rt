@@ -5,7 +5,7 @@ ghost use Rattle.pp_word.specs.Address.{place_count};
 ghost use Rattle.pp_machine.specs.Processor.{word_at};
 ghost use Rattle.pp_text.specs.TextWriter.{Prints};
 ghost use Rattle.pp_text.specs.Written.{IsWritten};
-ghost use Rattle.pp_state.specs.MemoryText.{displayed_words, has_words, memory_text, octal_words, shown_line};
+ghost use Rattle.pp_state.specs.MemoryText.{displayed_words, has_words, memory_text, octal_words};
 
 use crate::display_code::displayed2;
 use pp_machine::Pp;
@@ -20,35 +20,26 @@ const LINES: u32 = 0o1000;
 /// How many words a line has (decimal).
 const WORDS_ON_A_LINE: u32 = 8;
 
-/// Writes the words of a processor's memory, eight a line, in octal and in display code; and
-/// flushes the writer. The lines are those in which a place within the bounds stands and a word is
-/// not 0. The text goes out in pieces, and takes no memory. Where the writer fails, the rest of the
-/// text is lost.
+/// Writes the words of a processor's memory, eight a line, in octal and in display code, as
+/// `0020  0004 0000 0017 0000 0000 0000 0000 0000   D   O`; and flushes the writer. The lines are
+/// those in which a place within the bounds stands and a word is not 0. The text goes out in pieces,
+/// and takes no memory. Where the writer fails, the rest of the text is lost.
 pub fn write_memory<W: Write>(writer: &mut W, pp: &Pp, bounds: Bounds) -> Result<(), WriteFault>
     ensures { IsWritten (memory_text bounds pp.now) result
         (W.contents writer.old) (W.contents writer.new) }
 {
     let mut text = TextWriter::new(writer);
     for number in 0..LINES {
-        print_shown_line(&mut text, pp, bounds, number * WORDS_ON_A_LINE);
+        let place = number * WORDS_ON_A_LINE;
+        if bounds.meets(place, place + 7) && has_words(pp, place) {
+            print_octal(&mut text, 4, u64::from(place));
+            text.print(b" ");
+            print_octal_words(&mut text, pp, place);
+            text.print(displayed_field(pp, place).trim_ascii_end());
+            text.print(b"\n");
+        }
     }
     text.finish()
-}
-
-/// Prints `0020  0004 0000 0017 0000 0000 0000 0000 0000   D   O` and a line feed, if one of the
-/// eight words from a place on is shown.
-#[tactic(auto, unfolding(crate::specs::MemoryText::shown_line))]
-fn print_shown_line<W: Write>(text: &mut TextWriter<W>, pp: &Pp, bounds: Bounds, place: u32)
-    requires { place + 8 ≤ place_count }
-    ensures { Prints W.contents text.old text.new (shown_line bounds pp.now place) }
-{
-    if bounds.meets(place, place + 7) && has_words(pp, place) {
-        print_octal(text, 4, u64::from(place));
-        text.print(b" ");
-        print_octal_words(text, pp, place);
-        text.print(displayed_field(pp, place).trim_ascii_end());
-        text.print(b"\n");
-    }
 }
 
 /// Whether one of eight words from a place on is not 0.
