@@ -140,22 +140,14 @@ fn print_range<W: Write>(text: &mut TextWriter<W>, old: &Pp, new: &Pp, first: u3
         (flat_map (place_text old.now.memory new.now.memory) (range_with_len first count)) }
 {
     for i in 0..count {
-        print_place(text, old, new, Word12::truncated(first + i));
+        let place = Word12::truncated(first + i);
+        let word = new.get(place);
+        if old.get(place).get() != word.get() {
+            let [p0, p1, p2, p3] = octal4(place.get());
+            let [w0, w1, w2, w3] = octal4(word.get());
+            text.print(&[b' ', b'(', p0, p1, p2, p3, b')', b'=', w0, w1, w2, w3]);
+        }
     }
-}
-
-/// Prints ` (0300)=0001`, where the word at a place differs.
-fn print_place<W: Write>(text: &mut TextWriter<W>, old: &Pp, new: &Pp, place: Word12)
-    ensures { Prints W.contents text.old text.new
-        (place_text old.now.memory new.now.memory place) }
-{
-    let word = new.get(place);
-    if old.get(place).get() == word.get() {
-        return;
-    }
-    let [p0, p1, p2, p3] = octal4(place.get());
-    let [w0, w1, w2, w3] = octal4(word.get());
-    text.print(&[b' ', b'(', p0, p1, p2, p3, b')', b'=', w0, w1, w2, w3]);
 }
 
 /// Prints ` CM 000100=00060007001000110012`, where the step wrote a central word that differs.

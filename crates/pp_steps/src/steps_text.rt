@@ -1,19 +1,14 @@
 //! The text of the steps of a run.
 
-ghost use Rattle.pp_machine.specs.MachineState.{MachineState};
-ghost use Rattle.pp_machine.specs.MachineStep.{stepped};
 ghost use Rattle.pp_machine.specs.Run.{barrel};
-ghost use Rattle.pp_text.specs.TextWriter.{Prints};
 ghost use Rattle.pp_text.specs.Written.{IsReportWritten};
-ghost use Rattle.pp_run.specs.BareMachine.{StandsFor};
-ghost use Rattle.pp_steps.specs.Choice.{chosen_steps};
-ghost use Rattle.pp_steps.specs.StepsText.{kind_text, steps_text};
+ghost use Rattle.pp_steps.specs.StepsText.{steps_text};
 
 use crate::choice::Choice;
 use crate::cursor::{Cursor, LineKind};
 use crate::run_counts::counted_runs;
 use crate::step_line::{print_held_line, print_step_line};
-use pp_machine::{Machine, PROCESSORS, PpNo};
+use pp_machine::{Machine, PROCESSORS};
 use pp_run::{BareMachine, in_turn};
 use pp_text::{ReportFault, TextWriter};
 use std::alloc::Allocator;
@@ -47,26 +42,12 @@ pub fn write_steps<A: Allocator + Copy, W: Write>(
         } else {
             LineKind::NoLine
         };
-        print_line(&mut text, n, &before, &after, kind);
+        match kind {
+            LineKind::NoLine => {}
+            LineKind::OneStep => print_step_line(&mut text, n, &before, &after),
+            LineKind::HeldSteps(count) => print_held_line(&mut text, n, &before, count),
+        }
         let _same = before.step(n);
     }
     text.finish().map_err(|_| ReportFault::Write)
-}
-
-/// Prints the line of a step of a processor from one machine to another, where it has one.
-fn print_line<A: Allocator, W: Write>(
-    text: &mut TextWriter<W>,
-    n: PpNo,
-    before: &BareMachine<A>,
-    after: &BareMachine<A>,
-    kind: LineKind,
-)
-    ensures { (m : MachineState) → StandsFor before.now m → StandsFor after.now (stepped n m)
-        → Prints W.contents text.old text.new (kind_text kind n m) }
-{
-    match kind {
-        LineKind::NoLine => {}
-        LineKind::OneStep => print_step_line(text, n, before, after),
-        LineKind::HeldSteps(count) => print_held_line(text, n, before, count),
-    }
 }

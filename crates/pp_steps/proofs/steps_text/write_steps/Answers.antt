@@ -22,7 +22,7 @@ use Rattle.pp_steps.proofs.CountedRuns.{made_few, made_here, made_more, none_mad
 use Rattle.pp_steps.proofs.RunCountLemmas.{times_grow}
 use Rattle.pp_steps.proofs.LineLemmas.{kept_ok}
 use Rattle.pp_steps.proofs.steps_text.write_steps.Goals as goal
-use Rattle.pp_steps.proofs.steps_text.write_steps.Goals.{then-is_chosen, else-is_chosen}
+use Rattle.pp_steps.proofs.steps_text.write_steps.Goals.{then-is_chosen, else-is_chosen, in-NoLine, in-OneStep, in-HeldSteps}
 
 pub loop-turn-init : goal.loop-turn-init
 loop-turn-init g c =
@@ -91,6 +91,11 @@ loop-turn-preserved g c =
           rw (w.kind-is, w.if-is_chosen.true, w.pass-kind.ensures.line, here, w.index.ensures.place)
       | else-is_chosen w ↦ rw (w.kind-is, w.if-is_chosen.false)
     ] in
+    let told : Prints g.W.Write.contents c.loop-turn.text c.match-kind.text (kind_text kind n old) = elim c.match-kind.branch [
+      | in-NoLine w ↦ rw (w.text-is, w.in-NoLine.is) (prints_nothing _ _)
+      | in-OneStep w ↦ rw (w.text-is, w.in-OneStep.is) (w.print_step_line.ensures old c.loop-turn.invariant.before stands)
+      | in-HeldSteps w ↦ rw (w.text-is, w.in-HeldSteps.is) (w.print_held_line.ensures old c.loop-turn.invariant.before)
+    ] in
     let (text, prints, so_far) = c.loop-turn.invariant.printed in
     record {
       before = subst (λ (x : MachineState). StandsFor c.step-same.new.self x) (sym after) (c.step-same.ensures.stepped old c.loop-turn.invariant.before);
@@ -98,7 +103,7 @@ loop-turn-preserved g c =
       followed = cursors ∙ made_more past_step no_cursor c.loop-turn.cursors b past step c.step-step.result place made c.loop-turn.invariant.followed ∙ ap each_cursor gone;
       printed = (
         text ++ kind_text kind n old,
-        prints_then _ _ _ _ text _ prints (c.print_line.ensures old c.loop-turn.invariant.before stands),
+        prints_then _ _ _ _ text _ prints told,
         subst (λ (steps : List RunStep). IsSoFar all steps future (text ++ kind_text kind n old)) gone
             (turn_told b all past future c.in_ok-runs.runs.items c.loop-turn.cursors step c.step-step.result kind text place made counted c.loop-turn.invariant.followed parts line
             (subst (λ (steps : List RunStep). IsSoFar all past steps text) come so_far)),
