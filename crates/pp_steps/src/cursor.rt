@@ -1,7 +1,7 @@
 //! How far a processor has come in the times that it is held.
 
 ghost use Rattle.std.specs.Prelude.{◌≡◌, ◌+◌, ◌<◌, ◌^◌};
-ghost use Rattle.pp_steps.specs.Cursor.{line_at, no_cursor, past_step};
+ghost use Rattle.pp_steps.specs.Cursor.{line_at, past_step};
 
 use crate::held_runs::{HeldRuns, goes_on};
 use pp_run::Progress;
@@ -26,16 +26,6 @@ pub(crate) struct Cursor {
 }
 
 impl Cursor {
-    /// Before the first step.
-    pub(crate) fn new() -> Cursor
-        ensures { result ≡ no_cursor }
-    {
-        Cursor {
-            times: 0,
-            last: Progress::AtRest,
-        }
-    }
-
     /// Goes past a step, and says which line it has: how many steps in a row are held from it on
     /// was counted before.
     pub(crate) fn pass<A: Allocator>(&mut self, runs: &HeldRuns<A>, step: Progress) -> LineKind

@@ -13,7 +13,7 @@ ghost use Rattle.pp_text.specs.PrintedText.{event_text, padded};
 ghost use Rattle.pp_text.specs.Standing.{held_text};
 ghost use Rattle.pp_text.specs.TextWriter.{Prints};
 ghost use Rattle.pp_run.specs.BareMachine.{StandsFor};
-ghost use Rattle.pp_steps.specs.StepLine.{central_text, centrals_text, channel_text, end_text, event_or_flags, heading, held_line, place_text, places_text, step_line, words_text};
+ghost use Rattle.pp_steps.specs.StepLine.{central_text, centrals_text, channel_text, event_or_flags, heading, held_line, place_text, places_text, step_line, words_text};
 ghost use Rattle.pp_steps.specs.Stores.{KeepsOthers};
 
 use crate::stores::first_stored;
@@ -49,7 +49,10 @@ pub(crate) fn print_step_line<A: Allocator, W: Write>(
     print_places(text, old, new, first_stored(old));
     print_central(text, &need, before.central(), after.central());
     print_channel(text, &need, before);
-    print_end(text, new.state());
+    if !new.state().is_running() {
+        text.print(b" ");
+        print_state_text(text, new.state());
+    }
     text.print(b"\n");
 }
 
@@ -215,14 +218,4 @@ fn name_and_word(name: [u8; 3], word: Word12) -> [u8; 8]
     let [n0, n1, n2] = name;
     let [w0, w1, w2, w3] = octal4(word.get());
     [n0, n1, n2, b' ', w0, w1, w2, w3]
-}
-
-/// Prints ` STOPPED`, where the processor goes on no more.
-fn print_end<W: Write>(text: &mut TextWriter<W>, state: PpState)
-    ensures { Prints W.contents text.old text.new (end_text state) }
-{
-    if !state.is_running() {
-        text.print(b" ");
-        print_state_text(text, state);
-    }
 }

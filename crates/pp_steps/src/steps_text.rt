@@ -9,7 +9,7 @@ use crate::cursor::{Cursor, LineKind};
 use crate::run_counts::counted_runs;
 use crate::step_line::{print_held_line, print_step_line};
 use pp_machine::{Machine, PROCESSORS};
-use pp_run::{BareMachine, in_turn};
+use pp_run::{BareMachine, Progress, in_turn};
 use pp_text::{ReportFault, TextWriter};
 use std::alloc::Allocator;
 use std::io::Write;
@@ -32,7 +32,10 @@ pub fn write_steps<A: Allocator + Copy, W: Write>(
     let mut before = BareMachine::of(alloc, machine).map_err(|_| ReportFault::Memory)?;
     let mut after = BareMachine::of(alloc, machine).map_err(|_| ReportFault::Memory)?;
     let mut text = TextWriter::new(writer);
-    let mut cursors = [Cursor::new(); PROCESSORS];
+    let mut cursors = [Cursor {
+        times: 0,
+        last: Progress::AtRest,
+    }; PROCESSORS];
     for turn in 0..turns {
         let n = in_turn(machine.profile(), u64::from(turn));
         let is_chosen = choice.has(&after, n);

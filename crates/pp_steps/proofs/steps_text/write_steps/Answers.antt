@@ -30,7 +30,7 @@ loop-turn-init g c =
     record {
       before = kept_ok (λ b. StandsFor b m) c.of.result c.map_err-2.result c.in_ok-before.before _ c.map_err-2.ensures.cases c.map_err-2.ensures.variant c.of.ensures c.in_ok-before.was;
       after = kept_ok (λ b. StandsFor b m) c.of-2.result c.map_err-3.result c.in_ok-after.after _ c.map_err-3.ensures.cases c.map_err-3.ensures.variant c.of-2.ensures c.in_ok-after.was;
-      followed = ap (replicate processor_count) c.new-cursors.ensures ∙ none_made past_step no_cursor;
+      followed = none_made past_step no_cursor;
       printed = ([], prints_nothing _ _, nothing_so_far (chosen_steps c.args.choice.now (barrel m.profile c.args.turns) m));
     }
 
