@@ -1,6 +1,6 @@
 //! The stretch of a channel that is not over yet.
 
-ghost use Rattle.std.specs.Prelude.{◌≡◌, ◌+◌, ◌<◌, ◌≤◌, ◌^◌, ◌∷◌, ◌++◌, [], ℕ, Bool, List, length, if◌then◌else◌};
+ghost use Rattle.std.specs.Prelude.{◌≡◌, ◌+◌, ◌≤◌, ◌^◌, ◌∷◌, ◌++◌, [], ℕ, Bool, List, length};
 ghost use Rattle.pp_text.specs.TextWriter.{Prints};
 ghost use Rattle.pp_sessions.specs.OpenStretch.{HasAtMost, TakesIn, open_at};
 ghost use Rattle.pp_sessions.specs.SessionsText.{line_and_words};

@@ -1,6 +1,5 @@
 //! The text of the sessions of a run.
 ghost use Rattle.std.specs.List.{flat_map};
-ghost use Rattle.pp_numbers.specs.ChannelNo.{all_channels};
 ghost use Rattle.pp_numbers.specs.PpNo.{all_processors};
 ghost use Rattle.pp_text.specs.TextWriter.{Prints};
 ghost use Rattle.pp_text.specs.Written.{IsWritten};
@@ -20,7 +19,6 @@ use std::io::Write;
 /// the order of the barrel; and flushes the writer. `with_words` asks, after the line of each
 /// session, for the words put, and after that of an idle stretch for its function codes. The text
 /// goes out in pieces, and takes no memory. If the writer fails, the rest of the text is lost.
-#[tactic(auto, unfolding(crate::specs::SessionsText::sessions_text))]
 pub fn write_sessions<A: Allocator, W: Write>(
     writer: &mut W,
     machine: &Machine<A>,
@@ -32,22 +30,11 @@ pub fn write_sessions<A: Allocator, W: Write>(
         (W.contents writer.old) (W.contents writer.new) }
 {
     let mut text = TextWriter::new(writer);
-    print_channels(&mut text, with_words, machine);
+    for place in 0..CHANNELS {
+        print_channel(&mut text, with_words, machine, ChannelNo::at(place));
+    }
     print_processors(&mut text, shown, counts);
     text.finish()
-}
-
-fn print_channels<A: Allocator, W: Write>(
-    text: &mut TextWriter<W>,
-    with_words: bool,
-    machine: &Machine<A>,
-)
-    ensures { Prints W.contents text.old text.new
-        (flat_map (channel_lines with_words machine.now) all_channels) }
-{
-    for place in 0..CHANNELS {
-        print_channel(text, with_words, machine, ChannelNo::at(place));
-    }
 }
 
 /// Prints a line for each stretch of a channel.

@@ -7,18 +7,16 @@ ghost use Rattle.pp_machine.specs.MachineState.{MachineState};
 ghost use Rattle.pp_machine.specs.MachineStep.{central_after, stepped};
 ghost use Rattle.pp_machine.specs.NeedAndEffect.{processor_after};
 ghost use Rattle.pp_machine.specs.declared.answer.Answer.{Answer};
-ghost use Rattle.pp_machine.specs.declared.outcome.Outcome.TheVariants.{Held};
 ghost use Rattle.pp_word.specs.Numeral.{digits, octal};
 ghost use Rattle.pp_text.specs.PrintedText.{event_text, padded};
-ghost use Rattle.pp_text.specs.Standing.{held_text};
 ghost use Rattle.pp_text.specs.TextWriter.{Prints};
 ghost use Rattle.pp_run.specs.BareMachine.{StandsFor};
-ghost use Rattle.pp_steps.specs.StepLine.{central_text, centrals_text, channel_text, event_or_flags, heading, held_line, place_text, places_text, step_line, words_text};
+ghost use Rattle.pp_steps.specs.StepLine.{centrals_text, channel_text, heading, held_line, place_text, places_text, step_line, words_text};
 ghost use Rattle.pp_steps.specs.Stores.{KeepsOthers};
 
 use crate::stores::first_stored;
-use pp_channel::{ChannelNo, Event, Flags};
-use pp_machine::{Block, Central, Need, Pp, PpNo, PpState};
+use pp_channel::Event;
+use pp_machine::{Block, Central, Need, Pp, PpNo};
 use pp_run::BareMachine;
 use pp_text::{
     TextWriter, central_word, channel_name, decimal6, octal2, octal4, octal6, print_flags_text,
