@@ -1,5 +1,5 @@
 use Rattle.std.proofs.Common.{◌≡◌, ◌<◌, ◌+◌, ◌++◌, ℕ, [], ◌∷◌, List, length, sym, subst, ap, ◌∙◌, cond, get_or, slice_set, arith, rules}
-use Rattle.std.specs.Prelude.{Bool, replicate}
+use Rattle.std.specs.Prelude.{Bool}
 use Rattle.pp_machine.specs.MachineState.{MachineState}
 use Rattle.pp_machine.specs.MachineStep.{stepped}
 use Rattle.pp_numbers.specs.PpNo.{processor_count, processor_index}
