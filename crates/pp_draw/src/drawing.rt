@@ -1,7 +1,7 @@
 //! The drawing of a run: its rows of lanes, channels before processors, in a frame.
 
 ghost use Rattle.std.specs.Prelude.{◌≡◌, ◌+◌, ◌≤◌};
-ghost use Rattle.pp_numbers.specs.ChannelNo.{channel_count, channel_number};
+ghost use Rattle.pp_numbers.specs.ChannelNo.{channel_count};
 ghost use Rattle.pp_numbers.specs.PpNo.{processor_count, processor_number};
 ghost use Rattle.pp_text.specs.PrintedText.{each_below};
 ghost use Rattle.pp_text.specs.TextWriter.{Prints};
@@ -27,7 +27,6 @@ use std::io::Write;
 /// each processor shown, by its steps in the window; and flushes the writer. The machine is as
 /// after the last turn of the window. The text goes out in pieces, and takes no memory. Where the
 /// writer fails, the rest of the text is lost.
-#[tactic(auto, unfolding(crate::specs::DrawingText::drawing))]
 pub fn write_drawing<A: Allocator, W: Write>(
     writer: &mut W,
     machine: &Machine<A>,
@@ -44,24 +43,12 @@ pub fn write_drawing<A: Allocator, W: Write>(
     print_style(&mut text);
     print_legend(&mut text);
     print_ticks(&mut text, window, rows);
-    print_channel_lanes(&mut text, window, machine);
+    for place in 0..CHANNELS {
+        print_channel_lane(&mut text, window, machine, ChannelNo::at(place));
+    }
     print_processor_lanes(&mut text, window, shown, machine, steps);
     print_foot(&mut text, rows);
     text.finish()
-}
-
-/// Prints the lanes of the channels used.
-fn print_channel_lanes<A: Allocator, W: Write>(
-    text: &mut TextWriter<W>,
-    window: Window,
-    machine: &Machine<A>,
-)
-    ensures { Prints W.contents text.old text.new (each_below channel_count
-        (λ place. channel_lane window machine.now (channel_number place))) }
-{
-    for place in 0..CHANNELS {
-        print_channel_lane(text, window, machine, ChannelNo::at(place));
-    }
 }
 
 /// Prints the lanes of the processors shown.

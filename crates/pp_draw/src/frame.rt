@@ -3,7 +3,7 @@
 
 ghost use Rattle.std.specs.Prelude.{◌≡◌, ◌<◌, ◌^◌};
 ghost use Rattle.pp_text.specs.TextWriter.{Prints};
-ghost use Rattle.pp_draw.specs.Frame.{are_few, band_width, foot_text, head_text, lane_top, legend_text, place, rectangle_tag, style_text, text_tag, tick_text, ticks_text};
+ghost use Rattle.pp_draw.specs.Frame.{are_few, band_width, foot_text, head_text, lane_top, legend_text, place, rectangle_tag, style_text, text_tag, ticks_text};
 
 use pp_numbers::Window;
 use pp_text::{TextWriter, print_short_decimal};
@@ -147,30 +147,23 @@ pub(crate) fn print_legend<W: Write>(text: &mut TextWriter<W>)
     );
 }
 
-/// Prints the lines of the scale.
+/// Prints the scale: a line and the number of a turn, if it has any.
 pub(crate) fn print_ticks<W: Write>(text: &mut TextWriter<W>, window: Window, rows: u8)
     ensures { Prints W.contents text.old text.new (ticks_text window rows) }
 {
     let from = u64::from(window.from);
-    for i in 0..(u64::from(window.to) + 1).saturating_sub(from) {
-        print_tick(text, window, rows, from + i);
-    }
-}
-
-/// Prints the line and the number of a turn, if it has any.
-fn print_tick<W: Write>(text: &mut TextWriter<W>, window: Window, rows: u8, turn: u64)
-    ensures { Prints W.contents text.old text.new (tick_text window rows turn) }
-{
     let spacing = if are_few(window) { 10 } else { 20 };
-    if turn % spacing != 0 {
-        return;
+    for i in 0..(u64::from(window.to) + 1).saturating_sub(from) {
+        let turn = from + i;
+        if turn % spacing == 0 {
+            let x = place(window, turn) + 80;
+            print_rectangle_tag(text, *b"g", x, 32, 1, 36 * u64::from(rows) + 8);
+            text.print(b"/>\n");
+            print_text_tag(text, *b"t", x, lane_top(rows) + 18);
+            print_short_decimal(text, turn);
+            text.print(b"</text>\n");
+        }
     }
-    let x = place(window, turn) + 80;
-    print_rectangle_tag(text, *b"g", x, 32, 1, 36 * u64::from(rows) + 8);
-    text.print(b"/>\n");
-    print_text_tag(text, *b"t", x, lane_top(rows) + 18);
-    print_short_decimal(text, turn);
-    text.print(b"</text>\n");
 }
 
 /// Prints what the scale counts, and the end of the picture.

@@ -1,9 +1,8 @@
 //! A lane that is printed phase by phase, and what is drawn of a phase.
 
 ghost use Rattle.std.specs.Prelude.{◌≡◌, ◌<◌, ◌^◌, ◌++◌, [], ◌∷◌, ℕ, List, None};
-ghost use Rattle.std.specs.Option.{unwrap_or};
 ghost use Rattle.pp_text.specs.TextWriter.{Prints};
-ghost use Rattle.pp_draw.specs.Lane.{band_element, free_after, is_visible, label_from, lane_head, part_class, part_elements, part_of, still_drawn};
+ghost use Rattle.pp_draw.specs.Lane.{band_element, free_after, lane_head, part_class, part_elements, part_of, still_drawn};
 ghost use Rattle.pp_draw.specs.declared.condition.Phase.{Phase};
 
 use crate::condition::{Look, Phase};
@@ -48,13 +47,6 @@ impl Part {
         }
     }
 
-    /// Whether some of it falls into the window.
-    fn is_visible(&self) -> bool
-        ensures { result ≡ is_visible self.now }
-    {
-        self.start < self.end
-    }
-
     /// Its class: a lost word has one of its own.
     fn class(&self) -> [u8; 1]
         ensures { result ≡ part_class self.now }
@@ -63,17 +55,6 @@ impl Part {
             *b"l"
         } else {
             self.look.face().class
-        }
-    }
-
-    /// The label above it, if it has one, and there is room from this place on.
-    fn label_from(&self, free: u64) -> Option<[u8; 4]>
-        ensures { result ≡ label_from free self.now }
-    {
-        if self.is_visible() && free <= self.start {
-            self.look.face().label
-        } else {
-            None
         }
     }
 }
@@ -152,18 +133,20 @@ fn print_part<W: Write>(text: &mut TextWriter<W>, name: &[u8; 4], free: u64, par
     ensures text { Prints W.contents text.old text.new (part_elements name.now free part.now) }
     ensures free { result ≡ free_after free part.now }
 {
-    if part.is_visible() {
-        print_band(text, name, part);
+    if part.start >= part.end {
+        return free;
     }
-    match part.label_from(free) {
-        Some(label) => {
-            print_text_tag(text, part.class(), part.start, 10);
-            text.print(&label);
-            text.print(b"</text>\n");
-            part.start + 30
-        }
-        None => free,
+    print_band(text, name, part);
+    let Some(label) = part.look.face().label else {
+        return free;
+    };
+    if free > part.start {
+        return free;
     }
+    print_text_tag(text, part.class(), part.start, 10);
+    text.print(&label);
+    text.print(b"</text>\n");
+    part.start + 30
 }
 
 /// Prints the band of a part, with a title as `CH05 full 0007 lost from 20 to 30`.
@@ -177,7 +160,9 @@ fn print_band<W: Write>(text: &mut TextWriter<W>, name: &[u8; 4], part: &Part)
     text.print(b" ");
     let face = part.look.face();
     text.print(face.words);
-    print_label_in_title(text, &face.label);
+    if let Some(label) = &face.label {
+        text.print(label);
+    }
     let lost: &[u8] = if part.is_lost { b" lost" } else { b"" };
     text.print(lost);
     text.print(b" from ");
@@ -185,12 +170,4 @@ fn print_band<W: Write>(text: &mut TextWriter<W>, name: &[u8; 4], part: &Part)
     text.print(b" to ");
     print_short_decimal(text, part.until);
     text.print(b"</title></rect>\n");
-}
-
-fn print_label_in_title<W: Write>(text: &mut TextWriter<W>, label: &Option<[u8; 4]>)
-    ensures { Prints W.contents text.old text.new (unwrap_or label.now []) }
-{
-    if let Some(label) = label {
-        text.print(label);
-    }
 }

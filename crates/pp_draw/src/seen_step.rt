@@ -41,10 +41,8 @@ pub fn run_seeing_steps<A: Allocator>(
         window,
         steps: Vec::new(alloc),
     };
-    match run_observed(machine, window.to, &mut shown) {
-        Ok(()) => Ok(shown.steps),
-        Err(cut) => Err(cut),
-    }
+    run_observed(machine, window.to, &mut shown)?;
+    Ok(shown.steps)
 }
 
 /// The steps that are shown in a window.

@@ -12,7 +12,7 @@ use Rattle.pp_machine.specs.declared.trace.Trace.{Trace}
 use Rattle.pp_sessions.specs.SessionsText.{channel_lines, lines_from}
 use Rattle.pp_sessions.specs.Stretches.{stretches}
 use Rattle.pp_sessions.specs.TimedEvents.{events_in, opening_events, timed_event, timed_events, timed_on}
-use Rattle.pp_sessions.specs.declared.moment.TimedEvent.{TimedEvent}
+use Rattle.pp_sessions.specs.declared.tally.TimedEvent.{TimedEvent}
 use Rattle.pp_sessions.proofs.TakeInLemmas.{dead_start_event}
 
 opening : (b : Bool) → events_in (cond b (dead_start_event ∷ []) []) ≡ cond b (Activate ∷ []) []

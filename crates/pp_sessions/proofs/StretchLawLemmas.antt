@@ -17,7 +17,7 @@ use Rattle.pp_sessions.specs.SessionsLaw.{TellsIdle, TellsSession, idle_part, se
 use Rattle.pp_sessions.specs.SessionsText.{lines_from, next_number, stretch_text}
 use Rattle.pp_sessions.specs.Stretches.{is_session, begins_session, cut_between, ends_session, is_over, is_take, stretches, tally_of, untaken, word_of, words_in}
 use Rattle.pp_sessions.specs.TimedEvents.{events_in}
-use Rattle.pp_sessions.specs.declared.moment.TimedEvent.{TimedEvent}
+use Rattle.pp_sessions.specs.declared.tally.TimedEvent.{TimedEvent}
 use Rattle.pp_sessions.proofs.CourseLemmas.{BeginsSession, begins_with_session, course_parts, lone_word, passed_words, sessions_on, whole_then}
 use Rattle.pp_sessions.proofs.CutLemmas.{IsCutBefore, cut-append, cut-map, last_in, uncut-push}
 

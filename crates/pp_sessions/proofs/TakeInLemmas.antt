@@ -1,5 +1,6 @@
 -- The lines of a channel, event by event.
 use Rattle.std.proofs.Common.{◌≡◌, ◌≢◌, ℕ, ◌+◌, ◌-◌, ◌<◌, ◌≤◌, Bool, true, false, ◌||◌, cond, eqb, List, [], ◌∷◌, ◌++◌, length, drop, take, get_or, Option, None, Some, refl, sym, ap, subst, ◌∙◌, append_assoc, arith}
+use Rattle.std.specs.Int.{from_bool}
 use Rattle.std.specs.List.{cons_option}
 use Rattle.std.proofs.lemmas.Bool.{cond-true, eq-eqb, ne_eqb}
 use Rattle.std.proofs.lemmas.List.{append-nil, length-drop, take_all, take_more, drop-append-le, drop_at}
@@ -11,8 +12,8 @@ use Rattle.pp_sessions.specs.OpenStretch.{IsOpen, IsUncut, Open, TakesIn, open_a
 use Rattle.pp_sessions.specs.SessionsText.{lines_from, line_and_words}
 use Rattle.pp_sessions.specs.Stretches.{are_parted, begins_session, ends_session, stretches, tally_of, word_of, words_in}
 use Rattle.pp_sessions.specs.TimedEvents.{opening_events, timed_event, timed_events, timed_on}
-use Rattle.pp_sessions.specs.declared.moment.Moment.TheVariants.{DeadStart}
-use Rattle.pp_sessions.specs.declared.{moment.TimedEvent.TimedEvent, open_stretch.OpenStretch.OpenStretch, tally.Tally.Tally}
+use Rattle.pp_sessions.specs.declared.tally.Moment.TheVariants.{DeadStart}
+use Rattle.pp_sessions.specs.declared.{tally.TimedEvent.TimedEvent, open_stretch.OpenStretch.OpenStretch, tally.Tally.Tally}
 use Rattle.pp_sessions.proofs.CutLemmas.{cut-append, last_in, uncut-push}
 
 -- ---- the stretch that is open
@@ -203,3 +204,8 @@ takes_other w c past entry o low none =
     sym (open_words_more c o.start past entry low ∙ ap (λ (es : List TimedEvent). words_in (timed_on c (drop o.start past)) ++ words_in es) none ∙ append-nil (words_in (timed_on c (drop o.start past)))) in
     subst (λ (ws : List ℕ). TakesIn w c (open_at c past o) (timed_on c (entry ∷ [])) [] (record { number = o.number; tally = o.tally; words = ws })) same
     (takes_these w c (open_at c past o) (open_at c past o) [] (timed_on c (entry ∷ [])) [] (sym none) (takes_none w c (open_at c past o)))
+
+-- the number of the next session
+pub number_after : (b : Bool) (number one : ℕ) → one ≡ from_bool b → number + one ≡ cond b (number + 1) number
+number_after true number one is = ap (λ (k : ℕ). number + k) is
+number_after false number one is = omega (arith, is)

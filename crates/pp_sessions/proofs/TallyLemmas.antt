@@ -1,5 +1,5 @@
 -- What the line of a stretch tells, with an event more.
-use Rattle.std.proofs.Common.{◌≡◌, ℕ, ◌+◌, Bool, false, List, [], ◌∷◌, ◌++◌, length, Option, None, Some, refl, sym, ap, ◌∙◌}
+use Rattle.std.proofs.Common.{◌≡◌, ℕ, ◌+◌, false, List, [], ◌∷◌, ◌++◌, length, Option, None, Some, refl, sym, ap, ◌∙◌, arith}
 use Rattle.std.specs.List.{after_last, last_or}
 use Rattle.std.specs.Option.{option_map}
 use Rattle.std.proofs.lemmas.List.{append-nil, length-append, length_push, map-append}
@@ -9,11 +9,11 @@ use Rattle.pp_channel.specs.Session.{puts, takes, word_put, word_taken}
 use Rattle.pp_channel.specs.declared.event.Event.{Event}
 use Rattle.pp_channel.specs.declared.event.Event.TheVariants.{Put, Take}
 use Rattle.pp_numbers.proofs.LastElements.{after_last-found, after_last-push, last_or-push}
-use Rattle.pp_sessions.specs.OpenStretch.{untaken_after}
+use Rattle.pp_sessions.specs.OpenStretch.{untaken_after, with_event}
 use Rattle.pp_sessions.specs.SessionsLaw.{TellsMoments}
 use Rattle.pp_sessions.specs.Stretches.{begins_session, ends_session, is_take, tally_of, untaken}
 use Rattle.pp_sessions.specs.TimedEvents.{events_in}
-use Rattle.pp_sessions.specs.declared.{moment.TimedEvent.TimedEvent, tally.Tally.Tally}
+use Rattle.pp_sessions.specs.declared.{tally.TimedEvent.TimedEvent, tally.Tally.Tally}
 use Rattle.pp_sessions.proofs.CutLemmas.{last_in}
 
 -- the word put and not taken
@@ -32,18 +32,6 @@ untaken_more events (Take w) = ap (λ (es : List Event). last_or None (puts es))
 untaken_more events other = stays events other refl refl
 
 -- a stretch with an event more
-abbrev with_event : Tally → TimedEvent → Tally
-with_event told e = record {
-  is_session = told.is_session;
-  has_ended = ends_session e.event;
-  from = told.from;
-  to = e.moment;
-  events = told.events + 1;
-  put = told.put + length (puts (e.event ∷ []));
-  taken = told.taken + length (takes (e.event ∷ []));
-  untaken = untaken_after e.event told.untaken;
-}
-
 tally_more : (first : TimedEvent) (others : List TimedEvent) (e : TimedEvent) → tally_of first (others ++ e ∷ []) ≡ with_event (tally_of first others) e
 unfolding tally_of
 tally_more first others e = with_fields (last_in first (others ++ e ∷ [])) (events_in (first ∷ others ++ e ∷ [])) (fold_push (λ before event. event) first others e) (map-append (λ (x : TimedEvent). x.event) (first ∷ others) (e ∷ []))
@@ -62,16 +50,15 @@ tally_more first others e = with_fields (last_in first (others ++ e ∷ [])) (ev
       length-append (takes (events_in (first ∷ others))) (takes (e.event ∷ [])),
     ) refl
 
-pub tally_with : (told : Tally) (first : TimedEvent) (others : List TimedEvent) (e : TimedEvent) (ended : Bool) (put taken : ℕ) (word : Option ℕ) → told ≡ tally_of first others
-    → ended ≡ ends_session e.event → put ≡ length (puts (e.event ∷ [])) → taken ≡ length (takes (e.event ∷ [])) → word ≡ untaken_after e.event told.untaken
-    → record { is_session = told.is_session; has_ended = ended; from = told.from; to = e.moment; events = told.events + 1; put = told.put + put; taken = told.taken + taken; untaken = word } ≡ tally_of first (others ++ e ∷ [])
-tally_with told first others e ended put taken word is e1 e2 e3 e4 =
-    rw (e1, e2, e3, e4) (ap (λ (t : Tally). with_event t e) is ∙ sym (tally_more first others e))
+pub tally_with : (told more : Tally) (first : TimedEvent) (others : List TimedEvent) (e : TimedEvent) → more ≡ with_event told e → told ≡ tally_of first others → more ≡ tally_of first (others ++ e ∷ [])
+tally_with told more first others e made is = made ∙ ap (λ (t : Tally). with_event t e) is ∙ sym (tally_more first others e)
 
-pub tally_alone : (e : TimedEvent) (begins ended : Bool) (put taken : ℕ) (word : Option ℕ) → begins ≡ begins_session e.event → ended ≡ ends_session e.event → put ≡ length (puts (e.event ∷ [])) → taken ≡ length (takes (e.event ∷ [])) → word ≡ untaken_after e.event None
-    → record { is_session = begins; has_ended = ended; from = e.moment; to = e.moment; events = 1; put = put; taken = taken; untaken = word } ≡ tally_of e []
+pub tally_alone : (e : TimedEvent) → with_event (record { is_session = begins_session e.event; has_ended = false; from = e.moment; to = e.moment; events = 0; put = 0; taken = 0; untaken = None }) e ≡ tally_of e []
 unfolding tally_of
-tally_alone e begins ended put taken word e1 e2 e3 e4 e5 = rw (e1, e2, e3, e4, e5) (ap (λ (o : Option ℕ). record { is_session = begins_session e.event; has_ended = ends_session e.event; from = e.moment; to = e.moment; events = 1; put = length (puts (e.event ∷ [])); taken = length (takes (e.event ∷ [])); untaken = o }) (sym (untaken_more [] e.event)))
+tally_alone e =
+    let put : 0 + length (puts (e.event ∷ [])) ≡ length (puts (e.event ∷ [])) = omega arith in
+    let taken : 0 + length (takes (e.event ∷ [])) ≡ length (takes (e.event ∷ [])) = omega arith in
+    rw (put, taken) (ap (λ (o : Option ℕ). record { is_session = begins_session e.event; has_ended = ends_session e.event; from = e.moment; to = e.moment; events = 1; put = length (puts (e.event ∷ [])); taken = length (takes (e.event ∷ [])); untaken = o }) (sym (untaken_more [] e.event)))
 
 last_is : (first : TimedEvent) (others : List TimedEvent) → last_or (Some first) others ≡ Some (last_in first others)
 last_is first [] = refl

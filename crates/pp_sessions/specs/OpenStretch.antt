@@ -1,13 +1,14 @@
 -- How far the lines of a channel are printed: the stretch that is not over yet, and the number of
 -- the next session. (Private contracts alone cite this.)
-use Rattle.std.specs.Prelude.{◌≡◌, ℕ, ◌+◌, ◌≤◌, Bool, false, List, [], ◌∷◌, ◌++◌, drop, Option, None, Some, IfSome}
+use Rattle.std.specs.Prelude.{◌≡◌, ℕ, ◌+◌, ◌≤◌, Bool, false, List, [], ◌∷◌, ◌++◌, drop, length, Option, None, Some, IfSome}
+use Rattle.pp_channel.specs.Session.{puts, takes}
 use Rattle.pp_channel.specs.declared.event.Event.{Event}
 use Rattle.pp_channel.specs.declared.event.Event.TheVariants.{Put, Take}
 use Rattle.pp_machine.specs.declared.trace.Trace.{Trace}
 use Rattle.pp_sessions.specs.SessionsText.{lines_from}
-use Rattle.pp_sessions.specs.Stretches.{are_parted, stretches, tally_of, words_in}
+use Rattle.pp_sessions.specs.Stretches.{are_parted, ends_session, stretches, tally_of, words_in}
 use Rattle.pp_sessions.specs.TimedEvents.{timed_on}
-use Rattle.pp_sessions.specs.declared.{moment.TimedEvent.TimedEvent, open_stretch.OpenStretch.OpenStretch, tally.Tally.Tally}
+use Rattle.pp_sessions.specs.declared.{tally.TimedEvent.TimedEvent, open_stretch.OpenStretch.OpenStretch, tally.Tally.Tally}
 
 -- a list is cut nowhere: no two neighbours pass the test
 abbrev pub IsUncut : {X : Type 0} → (X → X → Bool) → X → List X → Type 0
@@ -52,6 +53,19 @@ abbrev pub untaken_after : Event → Option ℕ → Option ℕ
 untaken_after (Put w) word = Some w
 untaken_after (Take w) word = None
 untaken_after event word = word
+
+-- what the line of a stretch says, with an event more
+abbrev pub with_event : Tally → TimedEvent → Tally
+with_event told e = record {
+  is_session = told.is_session;
+  has_ended = ends_session e.event;
+  from = told.from;
+  to = e.moment;
+  events = told.events + 1;
+  put = told.put + length (puts (e.event ∷ []));
+  taken = told.taken + length (takes (e.event ∷ []));
+  untaken = untaken_after e.event told.untaken;
+}
 
 -- the counts of a stretch are at most this
 pub record CountsAtMost (most : ℕ) (tally : Tally) : Type 0 where

@@ -7,7 +7,7 @@ use Rattle.pp_channel.specs.History.{Course, idle_stretch}
 use Rattle.pp_channel.specs.Session.{Session, body}
 use Rattle.pp_channel.specs.declared.event.Event.{Event}
 use Rattle.pp_channel.specs.declared.event.Event.TheVariants.{Disconnect}
-use Rattle.pp_sessions.specs.declared.{moment.TimedEvent.TimedEvent, tally.Tally.Tally}
+use Rattle.pp_sessions.specs.declared.{tally.TimedEvent.TimedEvent, tally.Tally.Tally}
 
 -- the events of a session, with the Disconnect that ended it if one did
 abbrev pub session_events : Session → Bool → List Event

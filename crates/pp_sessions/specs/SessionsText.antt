@@ -15,8 +15,8 @@ use Rattle.pp_run.specs.RunSteps.{run_steps}
 use Rattle.pp_run.specs.StepCounts.{each_step_counts, no_steps}
 use Rattle.pp_sessions.specs.Stretches.{is_session, stretches, tally_of, words_in}
 use Rattle.pp_sessions.specs.TimedEvents.{timed_events}
-use Rattle.pp_sessions.specs.declared.{moment.Moment.Moment, moment.TimedEvent.TimedEvent, tally.Tally.Tally}
-use Rattle.pp_sessions.specs.declared.moment.Moment.TheVariants.{DeadStart, Turn}
+use Rattle.pp_sessions.specs.declared.{tally.Moment.Moment, tally.TimedEvent.TimedEvent, tally.Tally.Tally}
+use Rattle.pp_sessions.specs.declared.tally.Moment.TheVariants.{DeadStart, Turn}
 use Rattle.pp_run.specs.declared.step_counts.StepCounts.{StepCounts}
 
 -- ---- channels

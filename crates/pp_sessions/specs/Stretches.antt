@@ -5,7 +5,7 @@ use Rattle.pp_channel.specs.Session.{puts, takes}
 use Rattle.pp_channel.specs.declared.event.Event.{Event}
 use Rattle.pp_channel.specs.declared.event.Event.TheVariants.{Activate, Disconnect, Function, Put, Take}
 use Rattle.pp_sessions.specs.TimedEvents.{events_in}
-use Rattle.pp_sessions.specs.declared.{moment.TimedEvent.TimedEvent, tally.Tally.Tally}
+use Rattle.pp_sessions.specs.declared.{tally.TimedEvent.TimedEvent, tally.Tally.Tally}
 
 abbrev pub begins_session : Event → Bool
 begins_session Activate = true

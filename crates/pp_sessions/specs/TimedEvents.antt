@@ -5,8 +5,8 @@ use Rattle.pp_channel.specs.declared.event.Event.{Event}
 use Rattle.pp_channel.specs.declared.event.Event.TheVariants.{Activate}
 use Rattle.pp_machine.specs.MachineState.{MachineState, is_opened}
 use Rattle.pp_machine.specs.declared.trace.Trace.{Trace}
-use Rattle.pp_sessions.specs.declared.moment.Moment.TheVariants.{DeadStart, Turn}
-use Rattle.pp_sessions.specs.declared.moment.TimedEvent.{TimedEvent}
+use Rattle.pp_sessions.specs.declared.tally.Moment.TheVariants.{DeadStart, Turn}
+use Rattle.pp_sessions.specs.declared.tally.TimedEvent.{TimedEvent}
 
 -- what happened on channel c before the first turn: an Activate, if dead start opened it
 abbrev pub opening_events : ℕ → MachineState → List TimedEvent

@@ -15,7 +15,7 @@ ghost use Rattle.pp_sessions.specs.SessionsText.{lines_from};
 ghost use Rattle.pp_run.specs.StepCounts.{step_counts};
 ghost use Rattle.pp_sessions.specs.Stretches.{is_session, stretches, tally_of, words_in};
 ghost use Rattle.pp_sessions.specs.TimedEvents.{events_in, timed_events};
-ghost use Rattle.pp_sessions.specs.declared.moment.TimedEvent.{TimedEvent};
+ghost use Rattle.pp_sessions.specs.declared.tally.TimedEvent.{TimedEvent};
 
 /// A lawful history has exactly one course.
 pub fn course_law()

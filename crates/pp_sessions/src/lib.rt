@@ -4,7 +4,6 @@
 
 mod laws;
 mod lines;
-mod moment;
 mod open_stretch;
 mod sessions_text;
 mod tally;

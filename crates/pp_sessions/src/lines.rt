@@ -1,38 +1,25 @@
 //! The lines of stretches and of processors.
 
 ghost use Rattle.pp_text.specs.TextWriter.{Prints};
-ghost use Rattle.pp_sessions.specs.SessionsText.{counts_line, end_text, idle_line, moment_text, session_line, tally_line, word_text};
+ghost use Rattle.pp_sessions.specs.SessionsText.{counts_line, idle_line, moment_text, session_line};
 
-use crate::moment::Moment;
-use crate::tally::Tally;
+use crate::tally::{Moment, Tally};
 use pp_channel::ChannelNo;
 use pp_machine::PpNo;
 use pp_run::StepCounts;
 use pp_text::{
     TextWriter, channel_name, octal4, print_decimal, print_short_decimal, processor_name,
 };
-use pp_word::Word12;
 use std::io::Write;
 
-/// Prints the line of a stretch of a channel and a line feed; if it is a session, it has this
-/// number.
-pub(crate) fn print_stretch_line<W: Write>(
+/// Prints `CH05 SESSION 1 FROM 000000 TO 000030 PUT 1 TAKEN 0 LOST 0007` and a line feed; if the
+/// session has not ended, ` GOING ON` for ` TO 000030` and ` WAITING` for ` LOST`.
+pub(crate) fn print_session<W: Write>(
     text: &mut TextWriter<W>,
     c: ChannelNo,
     number: u64,
-    stretch: &Tally,
+    session: &Tally,
 )
-    ensures { Prints W.contents text.old text.new (tally_line c number stretch.now) }
-{
-    if stretch.is_session {
-        print_session(text, c, number, stretch);
-    } else {
-        print_idle(text, c, stretch);
-    }
-}
-
-/// Prints `CH05 SESSION 1 FROM 000000 TO 000030 PUT 1 TAKEN 0 LOST 0007` and a line feed.
-fn print_session<W: Write>(text: &mut TextWriter<W>, c: ChannelNo, number: u64, session: &Tally)
     ensures { Prints W.contents text.old text.new (session_line c number session.now) }
 {
     text.print(&channel_name(c));
@@ -40,17 +27,29 @@ fn print_session<W: Write>(text: &mut TextWriter<W>, c: ChannelNo, number: u64, 
     print_short_decimal(text, number);
     text.print(b" FROM ");
     print_moment(text, session.from);
-    print_end(text, session.has_ended, session.to);
+    if session.has_ended {
+        text.print(b" TO ");
+        print_moment(text, session.to);
+    } else {
+        text.print(b" GOING ON");
+    }
     text.print(b" PUT ");
     print_short_decimal(text, session.put);
     text.print(b" TAKEN ");
     print_short_decimal(text, session.taken);
-    print_word(text, session.has_ended, session.untaken);
+    if let Some(word) = session.untaken {
+        text.print(if session.has_ended {
+            b" LOST "
+        } else {
+            b" WAITING "
+        });
+        text.print(&octal4(word.get()));
+    }
     text.print(b"\n");
 }
 
 /// Prints `CH05 IDLE FUNCTIONS 2 FROM 000010 TO 000030` and a line feed.
-fn print_idle<W: Write>(text: &mut TextWriter<W>, c: ChannelNo, idle: &Tally)
+pub(crate) fn print_idle<W: Write>(text: &mut TextWriter<W>, c: ChannelNo, idle: &Tally)
     ensures { Prints W.contents text.old text.new (idle_line c idle.now) }
 {
     text.print(&channel_name(c));
@@ -84,27 +83,5 @@ fn print_moment<W: Write>(text: &mut TextWriter<W>, moment: Moment)
     match moment {
         Moment::DeadStart => text.print(b"DEAD START"),
         Moment::Turn(turn) => print_decimal(text, turn),
-    }
-}
-
-/// Prints ` TO 000030`, if a session has ended, else ` GOING ON`.
-fn print_end<W: Write>(text: &mut TextWriter<W>, has_ended: bool, moment: Moment)
-    ensures { Prints W.contents text.old text.new (end_text has_ended moment) }
-{
-    if has_ended {
-        text.print(b" TO ");
-        print_moment(text, moment);
-    } else {
-        text.print(b" GOING ON");
-    }
-}
-
-/// Prints ` LOST 0007`, or ` WAITING 0007` if the session has not ended.
-fn print_word<W: Write>(text: &mut TextWriter<W>, has_ended: bool, untaken: Option<Word12>)
-    ensures { Prints W.contents text.old text.new (word_text has_ended untaken) }
-{
-    if let Some(word) = untaken {
-        text.print(if has_ended { b" LOST " } else { b" WAITING " });
-        text.print(&octal4(word.get()));
     }
 }

@@ -1,6 +1,6 @@
 //! The stretch of a channel that is not over yet.
 
-ghost use Rattle.std.specs.Prelude.{◌≡◌, ◌+◌, ◌<◌, ◌≤◌, ◌^◌, ◌∷◌, ◌++◌, [], ℕ, Bool, List, length, if◌then◌else◌};
+ghost use Rattle.std.specs.Prelude.{◌≡◌, ◌+◌, ◌≤◌, ◌^◌, ◌∷◌, ◌++◌, [], ℕ, Bool, List, length};
 ghost use Rattle.pp_text.specs.TextWriter.{Prints};
 ghost use Rattle.pp_sessions.specs.OpenStretch.{HasAtMost, TakesIn, open_at};
 ghost use Rattle.pp_sessions.specs.SessionsText.{line_and_words};
@@ -8,9 +8,8 @@ ghost use Rattle.pp_sessions.specs.Stretches.{words_in};
 ghost use Rattle.pp_sessions.specs.TimedEvents.{opening_events, timed_on};
 ghost use Rattle.pp_machine.specs.declared.trace.Trace.{Trace};
 
-use crate::lines::print_stretch_line;
-use crate::moment::{Moment, TimedEvent};
-use crate::tally::Tally;
+use crate::lines::{print_idle, print_session};
+use crate::tally::{Moment, Tally, TimedEvent};
 use crate::words::print_words;
 use pp_channel::{ChannelNo, Event};
 use pp_machine::{Machine, Trace};
@@ -37,20 +36,17 @@ impl OpenStretch {
         ensures few { HasAtMost 1 result }
         ensures start { result.start ≡ 0 }
     {
-        if !machine.opened(c) {
-            return OpenStretch {
-                number: 1,
-                tally: None,
-                start: 0,
-            };
-        }
         let event = TimedEvent {
             moment: Moment::DeadStart,
             event: Event::Activate,
         };
         OpenStretch {
             number: 1,
-            tally: Some(Tally::of(&event)),
+            tally: if machine.opened(c) {
+                Some(Tally::of(&event))
+            } else {
+                None
+            },
             start: 0,
         }
     }
@@ -74,45 +70,26 @@ pub(crate) fn take_in_entry<W: Write>(
     ensures few { (most : ℕ) → HasAtMost most current.old → HasAtMost (most + 1) current.new }
     ensures start { current.new.start ≤ length past.now }
 {
-    if entry.channel.get() == c.get() {
-        let event = TimedEvent {
-            moment: Moment::Turn(entry.turn),
-            event: entry.event,
-        };
-        take_in(text, c, with_words, current, past, &event);
+    if entry.channel.get() != c.get() {
+        return;
     }
-}
-
-fn take_in<W: Write>(
-    text: &mut TextWriter<W>,
-    c: ChannelNo,
-    with_words: bool,
-    current: &mut OpenStretch,
-    past: &[Trace],
-    event: &TimedEvent,
-)
-    requires few { HasAtMost (2 ^ 63) current.old }
-    requires start { current.old.start ≤ length past.now }
-    ensures lines { (entry : Trace) → timed_on c (entry ∷ []) ≡ event.now ∷ []
-        → (printed : List ℕ) × Prints W.contents text.old text.new printed
-        × TakesIn with_words c (open_at c past.now current.old) (event.now ∷ [])
-        printed (open_at c (past.now ++ entry ∷ []) current.new) }
-    ensures few { (most : ℕ) → HasAtMost most current.old → HasAtMost (most + 1) current.new }
-    ensures start { current.new.start ≤ length past.now }
-{
+    let event = TimedEvent {
+        moment: Moment::Turn(entry.turn),
+        event: entry.event,
+    };
     let Some(tally) = current.tally else {
-        current.tally = Some(Tally::of(event));
+        current.tally = Some(Tally::of(&event));
         current.start = past.len();
         return;
     };
     if !tally.is_over(&event.event) {
-        current.tally = Some(tally.with(event));
+        current.tally = Some(tally.with(&event));
         return;
     }
     let entries = &past[current.start..];
     print_stretch(text, c, with_words, current.number, &tally, entries);
-    current.number = next_number(current.number, &tally);
-    current.tally = Some(Tally::of(event));
+    current.number += u64::from(tally.is_session);
+    current.tally = Some(Tally::of(&event));
     current.start = past.len();
 }
 
@@ -129,20 +106,12 @@ pub(crate) fn print_stretch<W: Write>(
     ensures { Prints W.contents text.old text.new
         (line_and_words with_words c number stretch.now (words_in (timed_on c entries.now))) }
 {
-    print_stretch_line(text, c, number, stretch);
+    if stretch.is_session {
+        print_session(text, c, number, stretch);
+    } else {
+        print_idle(text, c, stretch);
+    }
     if with_words {
         print_words(text, c, entries);
-    }
-}
-
-/// The number of the next session after a stretch, if it was this before.
-fn next_number(number: u64, stretch: &Tally) -> u64
-    requires { number + 1 < 2 ^ 64 }
-    ensures { result ≡ (if stretch.now.is_session then number + 1 else number) }
-{
-    if stretch.is_session {
-        number + 1
-    } else {
-        number
     }
 }

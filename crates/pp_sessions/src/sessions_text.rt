@@ -1,6 +1,5 @@
 //! The text of the sessions of a run.
 ghost use Rattle.std.specs.List.{flat_map};
-ghost use Rattle.pp_numbers.specs.ChannelNo.{all_channels};
 ghost use Rattle.pp_numbers.specs.PpNo.{all_processors};
 ghost use Rattle.pp_text.specs.TextWriter.{Prints};
 ghost use Rattle.pp_text.specs.Written.{IsWritten};
@@ -20,7 +19,6 @@ use std::io::Write;
 /// the order of the barrel; and flushes the writer. `with_words` asks, after the line of each
 /// session, for the words put, and after that of an idle stretch for its function codes. The text
 /// goes out in pieces, and takes no memory. If the writer fails, the rest of the text is lost.
-#[tactic(auto, unfolding(crate::specs::SessionsText::sessions_text))]
 pub fn write_sessions<A: Allocator, W: Write>(
     writer: &mut W,
     machine: &Machine<A>,
@@ -32,35 +30,11 @@ pub fn write_sessions<A: Allocator, W: Write>(
         (W.contents writer.old) (W.contents writer.new) }
 {
     let mut text = TextWriter::new(writer);
-    print_channels(&mut text, with_words, machine);
+    for place in 0..CHANNELS {
+        print_channel(&mut text, with_words, machine, ChannelNo::at(place));
+    }
     print_processors(&mut text, shown, counts);
     text.finish()
-}
-
-fn print_channels<A: Allocator, W: Write>(
-    text: &mut TextWriter<W>,
-    with_words: bool,
-    machine: &Machine<A>,
-)
-    ensures { Prints W.contents text.old text.new
-        (flat_map (channel_lines with_words machine.now) all_channels) }
-{
-    for place in 0..CHANNELS {
-        print_used_channel(text, with_words, machine, ChannelNo::at(place));
-    }
-}
-
-fn print_used_channel<A: Allocator, W: Write>(
-    text: &mut TextWriter<W>,
-    with_words: bool,
-    machine: &Machine<A>,
-    c: ChannelNo,
-)
-    ensures { Prints W.contents text.old text.new (channel_lines with_words machine.now c) }
-{
-    if !machine.channel(c).history().is_empty() {
-        print_channel(text, with_words, machine, c);
-    }
 }
 
 /// Prints a line for each stretch of a channel.
@@ -72,6 +46,9 @@ fn print_channel<A: Allocator, W: Write>(
 )
     ensures { Prints W.contents text.old text.new (channel_lines with_words machine.now c) }
 {
+    if machine.channel(c).history().is_empty() {
+        return;
+    }
     let mut current = OpenStretch::opening(machine, c);
     let entries = machine.events();
     for index in 0..entries.len() {
@@ -93,19 +70,8 @@ fn print_processors<W: Write>(
         (flat_map (shown_counts_line shown.now counts.now) all_processors) }
 {
     for place in 0..PROCESSORS {
-        print_shown_processor(text, shown, counts, PpNo::at(place));
-    }
-}
-
-fn print_shown_processor<W: Write>(
-    text: &mut TextWriter<W>,
-    shown: &[bool; PROCESSORS],
-    counts: &[StepCounts; PROCESSORS],
-    n: PpNo,
-)
-    ensures { Prints W.contents text.old text.new (shown_counts_line shown.now counts.now n) }
-{
-    if shown[n.index()] {
-        print_counts(text, n, &counts[n.index()]);
+        if shown[place] {
+            print_counts(text, PpNo::at(place), &counts[place]);
+        }
     }
 }

@@ -1,14 +1,27 @@
 //! What a line says of a stretch.
 
-ghost use Rattle.std.specs.Prelude.{◌≡◌, ◌+◌, ◌≤◌, ◌^◌, ◌++◌, ◌∷◌, ◌||◌, [], ℕ, List, length};
-ghost use Rattle.pp_channel.specs.Session.{puts, takes};
-ghost use Rattle.pp_sessions.specs.OpenStretch.{CountsAtMost, untaken_after};
+ghost use Rattle.std.specs.Prelude.{◌≡◌, ◌+◌, ◌^◌, ◌||◌, [], ℕ};
+ghost use Rattle.pp_sessions.specs.OpenStretch.{CountsAtMost, with_event};
 ghost use Rattle.pp_sessions.specs.Stretches.{begins_session, ends_session, tally_of};
-ghost use Rattle.pp_sessions.specs.declared.moment.TimedEvent.{TimedEvent};
 
-use crate::moment::{Moment, TimedEvent};
 use pp_channel::Event;
 use pp_word::Word12;
+
+/// When something happened.
+#[derive(Clone, Copy)]
+pub(crate) enum Moment {
+    /// At dead start, before the first turn.
+    DeadStart,
+    /// In the step of this turn (decimal).
+    Turn(u64),
+}
+
+/// An event of a channel, and when it happened.
+#[derive(Clone, Copy)]
+pub(crate) struct TimedEvent {
+    pub(crate) moment: Moment,
+    pub(crate) event: Event,
+}
 
 /// What a line says of a stretch: whether it is a session, and whether a Disconnect has ended it;
 /// when its first and its last event happened, and how many it has (decimal); how many words were
@@ -31,35 +44,38 @@ impl Tally {
         ensures tally { result ≡ tally_of event.now [] }
         ensures few { CountsAtMost 1 result }
     {
-        Tally {
+        let nothing = Tally {
             is_session: begins_session(&event.event),
-            has_ended: ends_session(&event.event),
+            has_ended: false,
             from: event.moment,
             to: event.moment,
-            events: 1,
-            put: put_by(&event.event),
-            taken: taken_by(&event.event),
-            untaken: untaken_after(&event.event, None),
-        }
+            events: 0,
+            put: 0,
+            taken: 0,
+            untaken: None,
+        };
+        nothing.with(event)
     }
 
     /// That of the same stretch with an event more.
     pub(crate) fn with(&self, event: &TimedEvent) -> Tally
         requires { CountsAtMost (2 ^ 63) self.now }
-        ensures tally { (first : TimedEvent) (others : List TimedEvent)
-            → self.now ≡ tally_of first others
-            → result ≡ tally_of first (others ++ event.now ∷ []) }
+        ensures tally { result ≡ with_event self.now event.now }
         ensures few { (most : ℕ) → CountsAtMost most self.now → CountsAtMost (most + 1) result }
     {
+        let (put, taken, untaken) = match event.event {
+            Event::Put(word) => (1, 0, Some(word)),
+            Event::Take(_) => (0, 1, None),
+            Event::Activate | Event::Disconnect | Event::Function(_) => (0, 0, self.untaken),
+        };
         Tally {
-            is_session: self.is_session,
             has_ended: ends_session(&event.event),
-            from: self.from,
             to: event.moment,
             events: self.events + 1,
-            put: self.put + put_by(&event.event),
-            taken: self.taken + taken_by(&event.event),
-            untaken: untaken_after(&event.event, self.untaken),
+            put: self.put + put,
+            taken: self.taken + taken,
+            untaken,
+            ..*self
         }
     }
 
@@ -74,50 +90,11 @@ impl Tally {
 fn begins_session(event: &Event) -> bool
     ensures { result ≡ begins_session event.now }
 {
-    match event {
-        Event::Activate => true,
-        Event::Disconnect | Event::Put(_) | Event::Take(_) | Event::Function(_) => false,
-    }
+    matches!(event, Event::Activate)
 }
 
 fn ends_session(event: &Event) -> bool
     ensures { result ≡ ends_session event.now }
 {
-    match event {
-        Event::Disconnect => true,
-        Event::Activate | Event::Put(_) | Event::Take(_) | Event::Function(_) => false,
-    }
-}
-
-/// How many words an event puts.
-fn put_by(event: &Event) -> u64
-    ensures count { result ≡ length (puts (event.now ∷ [])) }
-    ensures most { result ≤ 1 }
-{
-    match event {
-        Event::Put(_) => 1,
-        Event::Activate | Event::Disconnect | Event::Take(_) | Event::Function(_) => 0,
-    }
-}
-
-/// How many words it takes.
-fn taken_by(event: &Event) -> u64
-    ensures count { result ≡ length (takes (event.now ∷ [])) }
-    ensures most { result ≤ 1 }
-{
-    match event {
-        Event::Take(_) => 1,
-        Event::Activate | Event::Disconnect | Event::Put(_) | Event::Function(_) => 0,
-    }
-}
-
-/// The word put and not taken after an event, if it was this before.
-fn untaken_after(event: &Event, word: Option<Word12>) -> Option<Word12>
-    ensures { result ≡ untaken_after event.now word }
-{
-    match event {
-        Event::Put(word) => Some(*word),
-        Event::Take(_) => None,
-        Event::Activate | Event::Disconnect | Event::Function(_) => word,
-    }
+    matches!(event, Event::Disconnect)
 }

@@ -3,7 +3,7 @@
 ghost use Rattle.std.specs.Prelude.{◌≡◌, ◌<◌, ◌++◌, [], ◌∷◌, ℕ, List};
 ghost use Rattle.pp_text.specs.TextWriter.{Prints};
 ghost use Rattle.pp_sessions.specs.SessionsText.{one_word, words_from};
-ghost use Rattle.pp_sessions.specs.Stretches.{word_of, words_in};
+ghost use Rattle.pp_sessions.specs.Stretches.{words_in};
 ghost use Rattle.pp_sessions.specs.TimedEvents.{timed_on};
 
 use pp_channel::{ChannelNo, Event};
@@ -42,7 +42,7 @@ fn print_entry<W: Write>(text: &mut TextWriter<W>, c: ChannelNo, entry: &Trace, 
     if entry.channel.get() != c.get() {
         return count;
     }
-    let Some(word) = word_of(&entry.event) else {
+    let (Event::Put(word) | Event::Function(word)) = entry.event else {
         return count;
     };
     print_word(text, count, word);
@@ -58,15 +58,5 @@ fn print_word<W: Write>(text: &mut TextWriter<W>, count: u32, word: Word12)
     text.print(&octal4(word.get()));
     if count == WORDS_ON_A_LINE - 1 {
         text.print(b"\n");
-    }
-}
-
-/// The word that an event puts, or the function code that it sends.
-fn word_of(event: &Event) -> Option<Word12>
-    ensures { result ≡ word_of event.now }
-{
-    match event {
-        Event::Put(word) | Event::Function(word) => Some(*word),
-        Event::Activate | Event::Disconnect | Event::Take(_) => None,
     }
 }

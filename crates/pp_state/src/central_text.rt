@@ -1,9 +1,7 @@
 //! The text of central memory.
 
-ghost use Rattle.std.specs.Prelude.{◌<◌, length};
-ghost use Rattle.pp_text.specs.TextWriter.{Prints};
 ghost use Rattle.pp_text.specs.Written.{IsWritten};
-ghost use Rattle.pp_state.specs.CentralText.{central_line, central_text, shown_word};
+ghost use Rattle.pp_state.specs.CentralText.{central_text};
 
 use crate::display_code::print_displayed;
 use pp_machine::Central;
@@ -13,8 +11,8 @@ use std::alloc::Allocator;
 use std::io::Write;
 
 /// Writes the central words within the bounds that are not 0, a line each, in octal and in display
-/// code; and flushes the writer. The text goes out in pieces, and takes no memory. Where the writer
-/// fails, the rest of the text is lost.
+/// code, as `000010  00010002000300040005   A B C D E`; and flushes the writer. The text goes out in
+/// pieces, and takes no memory. Where the writer fails, the rest of the text is lost.
 pub fn write_central<A: Allocator, W: Write>(
     writer: &mut W,
     central: &Central<A>,
@@ -24,47 +22,16 @@ pub fn write_central<A: Allocator, W: Write>(
         (W.contents writer.old) (W.contents writer.new) }
 {
     let mut text = TextWriter::new(writer);
-    print_central(&mut text, central, bounds);
-    text.finish()
-}
-
-#[tactic(auto, unfolding(crate::specs::CentralText::central_text))]
-fn print_central<A: Allocator, W: Write>(
-    text: &mut TextWriter<W>,
-    central: &Central<A>,
-    bounds: Bounds,
-)
-    ensures { Prints W.contents text.old text.new (central_text bounds central.now) }
-{
     for address in 0..central.size() {
-        print_shown_word(text, central, bounds, address);
+        let word = central.words()[address as usize].get();
+        if bounds.meets(address, address) && word != 0 {
+            print_octal(&mut text, 6, u64::from(address));
+            text.print(b"  ");
+            print_octal(&mut text, 20, word);
+            text.print(b"  ");
+            print_displayed(&mut text, 10, word);
+            text.print(b"\n");
+        }
     }
-}
-
-#[tactic(auto, unfolding(crate::specs::CentralText::shown_word))]
-fn print_shown_word<A: Allocator, W: Write>(
-    text: &mut TextWriter<W>,
-    central: &Central<A>,
-    bounds: Bounds,
-    address: u32,
-)
-    requires { address < length central.now }
-    ensures { Prints W.contents text.old text.new (shown_word bounds central.now address) }
-{
-    let word = central.words()[address as usize].get();
-    if bounds.meets(address, address) && word != 0 {
-        print_line(text, address, word);
-        text.print(b"\n");
-    }
-}
-
-/// Prints `000010  00010002000300040005   A B C D E`.
-fn print_line<W: Write>(text: &mut TextWriter<W>, address: u32, word: u64)
-    ensures { Prints W.contents text.old text.new (central_line address word) }
-{
-    print_octal(text, 6, u64::from(address));
-    text.print(b"  ");
-    print_octal(text, 20, word);
-    text.print(b"  ");
-    print_displayed(text, 10, word);
+    text.finish()
 }

@@ -3,11 +3,11 @@
 ghost use Rattle.std.specs.Prelude.{◌≡◌, ◌+◌, ◌∷◌, ◌<◌, ◌^◌, suc, true};
 ghost use Rattle.std.specs.List.{flat_map};
 ghost use Rattle.pp_word.specs.Address.{place_count};
-ghost use Rattle.pp_deck.specs.DeckLine.{section, words};
+ghost use Rattle.pp_deck.specs.DeckLine.{section};
 ghost use Rattle.pp_text.specs.TextWriter.{Prints};
 ghost use Rattle.pp_listing.specs.ListedLine.{after_blank, deck_line};
 ghost use Rattle.pp_text.specs.Differences.{differs};
-ghost use Rattle.pp_state.specs.Changes.{central_line, changed_central, changed_lines, has_changes, line_from, neighbours, position_on_line};
+ghost use Rattle.pp_state.specs.Changes.{changed_central, changed_lines, has_changes, line_from, neighbours, position_on_line};
 
 use pp_listing::{print_central_line, print_section_line};
 use pp_machine::{Central, Pp, PpNo};
@@ -36,22 +36,14 @@ pub(crate) fn print_section<W: Write>(text: &mut TextWriter<W>, n: PpNo, before:
         (flat_map deck_line (section n ∷ changed_lines before.now.memory after.now.memory)) }
 {
     print_section_line(text, n);
-    print_changed_lines(text, before, after);
-}
-
-/// Prints the lines of all places whose word differs.
-fn print_changed_lines<W: Write>(text: &mut TextWriter<W>, before: &Pp, after: &Pp)
-    ensures { Prints W.contents text.old text.new
-        (flat_map deck_line (changed_lines before.now.memory after.now.memory)) }
-{
     let mut in_front = 0;
     for place in 0..PLACES {
         in_front = print_line_from(text, before, after, place, in_front);
     }
 }
 
-/// Prints the line that begins at a place, if one does, where `in_front` words come before this
-/// place on its line. Says how many come before the next place.
+/// Prints the line that begins at a place, `0200 1412 3460`, if one does, where `in_front` words
+/// come before this place on its line. Says how many come before the next place.
 fn print_line_from<W: Write>(
     text: &mut TextWriter<W>,
     before: &Pp,
@@ -71,7 +63,9 @@ fn print_line_from<W: Write>(
         return 0;
     }
     if in_front == 0 {
-        print_words(text, before, after, place);
+        text.print(&octal4(Word12::truncated(place).get()));
+        print_neighbours(text, before, after, place, WORDS_ON_A_LINE);
+        text.print(b"\n");
     }
     (in_front + 1) % WORDS_ON_A_LINE
 }
@@ -85,17 +79,6 @@ fn differs(before: &Pp, after: &Pp, place: u32) -> bool
     let old = before.get(at);
     let new = after.get(at);
     place < PLACES && old.get() != new.get()
-}
-
-/// Prints `0200 1412 3460` and a line feed: the words from a place on that differ.
-fn print_words<W: Write>(text: &mut TextWriter<W>, before: &Pp, after: &Pp, place: u32)
-    requires { place < place_count }
-    ensures { Prints W.contents text.old text.new (deck_line (words place
-        (neighbours before.now.memory after.now.memory WORDS_ON_A_LINE place))) }
-{
-    text.print(&octal4(Word12::truncated(place).get()));
-    print_neighbours(text, before, after, place, WORDS_ON_A_LINE);
-    text.print(b"\n");
 }
 
 /// Prints the words from a place on, as long as they differ, but at most this many.
@@ -128,24 +111,10 @@ pub(crate) fn print_changed_central<A: Allocator, W: Write>(
         (flat_map deck_line (changed_central before.now after.now)) }
 {
     for address in 0..after.size() {
-        print_changed_word(text, before, after, address);
-    }
-}
-
-/// Prints the line of a central word that differs.
-fn print_changed_word<A: Allocator, W: Write>(
-    text: &mut TextWriter<W>,
-    before: &Central<A>,
-    after: &Central<A>,
-    address: u32,
-)
-    requires { address < 2 ^ 18 }
-    ensures { Prints W.contents text.old text.new
-        (flat_map deck_line (central_line before.now after.now address)) }
-{
-    let place = Word18::truncated(address);
-    let word = central_word(after, place);
-    if word != central_word(before, place) {
-        print_central_line(text, address, word);
+        let place = Word18::truncated(address);
+        let word = central_word(after, place);
+        if word != central_word(before, place) {
+            print_central_line(text, address, word);
+        }
     }
 }

@@ -7,14 +7,12 @@ mod changes;
 mod display_code;
 mod held_steps;
 mod laws;
-mod memory_laws;
 mod memory_text;
 mod whole_text;
 
 pub use central_text::write_central;
 pub use held_steps::run_counting_held;
-pub use laws::state_law;
-pub use memory_laws::{central_law, memory_law};
+pub use laws::{central_law, memory_law, state_law};
 pub use memory_text::write_memory;
 pub use pp_numbers::Bounds;
 pub use whole_text::write_state;

@@ -1,11 +1,11 @@
 //! The text of a processor's memory.
 
-ghost use Rattle.std.specs.Prelude.{◌≡◌, ◌+◌, ◌<◌, ◌≤◌, ◌++◌, codes, length};
+ghost use Rattle.std.specs.Prelude.{◌≡◌, ◌+◌, ◌<◌, ◌≤◌, ◌++◌, codes};
 ghost use Rattle.pp_word.specs.Address.{place_count};
 ghost use Rattle.pp_machine.specs.Processor.{word_at};
 ghost use Rattle.pp_text.specs.TextWriter.{Prints};
 ghost use Rattle.pp_text.specs.Written.{IsWritten};
-ghost use Rattle.pp_state.specs.MemoryText.{displayed_words, has_words, memory_line, memory_text, octal_words, shown_line, trimmed};
+ghost use Rattle.pp_state.specs.MemoryText.{displayed_words, has_words, memory_text, octal_words};
 
 use crate::display_code::displayed2;
 use pp_machine::Pp;
@@ -20,37 +20,26 @@ const LINES: u32 = 0o1000;
 /// How many words a line has (decimal).
 const WORDS_ON_A_LINE: u32 = 8;
 
-/// Writes the words of a processor's memory, eight a line, in octal and in display code; and
-/// flushes the writer. The lines are those in which a place within the bounds stands and a word is
-/// not 0. The text goes out in pieces, and takes no memory. Where the writer fails, the rest of the
-/// text is lost.
+/// Writes the words of a processor's memory, eight a line, in octal and in display code, as
+/// `0020  0004 0000 0017 0000 0000 0000 0000 0000   D   O`; and flushes the writer. The lines are
+/// those in which a place within the bounds stands and a word is not 0. The text goes out in pieces,
+/// and takes no memory. Where the writer fails, the rest of the text is lost.
 pub fn write_memory<W: Write>(writer: &mut W, pp: &Pp, bounds: Bounds) -> Result<(), WriteFault>
     ensures { IsWritten (memory_text bounds pp.now) result
         (W.contents writer.old) (W.contents writer.new) }
 {
     let mut text = TextWriter::new(writer);
-    print_memory(&mut text, pp, bounds);
-    text.finish()
-}
-
-#[tactic(auto, unfolding(crate::specs::MemoryText::memory_text))]
-fn print_memory<W: Write>(text: &mut TextWriter<W>, pp: &Pp, bounds: Bounds)
-    ensures { Prints W.contents text.old text.new (memory_text bounds pp.now) }
-{
     for number in 0..LINES {
-        print_shown_line(text, pp, bounds, number * WORDS_ON_A_LINE);
+        let place = number * WORDS_ON_A_LINE;
+        if bounds.meets(place, place + 7) && has_words(pp, place) {
+            print_octal(&mut text, 4, u64::from(place));
+            text.print(b" ");
+            print_octal_words(&mut text, pp, place);
+            text.print(displayed_field(pp, place).trim_ascii_end());
+            text.print(b"\n");
+        }
     }
-}
-
-#[tactic(auto, unfolding(crate::specs::MemoryText::shown_line))]
-fn print_shown_line<W: Write>(text: &mut TextWriter<W>, pp: &Pp, bounds: Bounds, place: u32)
-    requires { place + 8 ≤ place_count }
-    ensures { Prints W.contents text.old text.new (shown_line bounds pp.now place) }
-{
-    if bounds.meets(place, place + 7) && has_words(pp, place) {
-        print_line(text, pp, place);
-        text.print(b"\n");
-    }
+    text.finish()
 }
 
 /// Whether one of eight words from a place on is not 0.
@@ -67,18 +56,6 @@ fn word_at(pp: &Pp, place: u32) -> u64
     ensures { result ≡ word_at pp.now place }
 {
     u64::from(pp.get(Word12::truncated(place)).get())
-}
-
-/// Prints `0020  0004 0000 0017 0000 0000 0000 0000 0000   D   O`.
-fn print_line<W: Write>(text: &mut TextWriter<W>, pp: &Pp, place: u32)
-    requires { place + 8 ≤ place_count }
-    ensures { Prints W.contents text.old text.new (memory_line pp.now place) }
-{
-    print_octal(text, 4, u64::from(place));
-    text.print(b" ");
-    print_octal_words(text, pp, place);
-    let characters = displayed_field(pp, place);
-    text.print(trimmed(&characters));
 }
 
 /// Prints eight words in octal digits, with a space before each.
@@ -108,12 +85,4 @@ fn displayed_field(pp: &Pp, place: u32) -> [u8; 18]
     [
         b' ', b' ', a0, a1, b0, b1, c0, c1, d0, d1, e0, e1, f0, f1, g0, g1, h0, h1,
     ]
-}
-
-/// A text without the spaces at its end.
-fn trimmed(text: &[u8]) -> &[u8]
-    ensures text { result.now ≡ trimmed text.now }
-    ensures fits { length result.now ≤ length text.now }
-{
-    text.trim_ascii_end()
 }

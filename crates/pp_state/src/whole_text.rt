@@ -1,15 +1,11 @@
 //! The whole text of how things stand.
 
 ghost use Rattle.std.specs.List.{flat_map};
-ghost use Rattle.pp_machine.specs.MachineState.{processor_of};
-ghost use Rattle.pp_numbers.specs.PpNo.{all_processors};
-ghost use Rattle.pp_text.specs.PrintedText.{processor_line};
-ghost use Rattle.pp_text.specs.Standing.{standing};
 ghost use Rattle.pp_text.specs.TextWriter.{Prints};
 ghost use Rattle.pp_text.specs.Written.{IsWritten};
 ghost use Rattle.pp_listing.specs.ListedLine.{deck_line};
-ghost use Rattle.pp_state.specs.Changes.{changed_section, changed_sections};
-ghost use Rattle.pp_state.specs.StateText.{standing_line, state_text};
+ghost use Rattle.pp_state.specs.Changes.{changed_sections};
+ghost use Rattle.pp_state.specs.StateText.{state_text};
 
 use crate::changes::{has_changes, print_changed_central, print_section};
 use pp_machine::{Machine, PROCESSORS, PpNo};
@@ -17,13 +13,13 @@ use pp_text::{TextWriter, WriteFault, print_channels, print_standing, processor_
 use std::alloc::Allocator;
 use std::io::Write;
 
-/// Writes how things stand after a run: the processors shown, each with the instruction that runs,
+/// Writes how things stand after a run: the processors shown, as
+/// `PP00 P=0113 A=000006 RUNNING IAN 01 HELD CH01 ACTIVE EMPTY x376`, with the instruction that runs,
 /// the place of a block in progress and the channel that holds it; the words that differ from the
 /// machine as it was loaded, `before`; and the channels that have a history; and flushes the
 /// writer. `held` has for each processor, in the order of the barrel, the count of its last steps
 /// in a row that were held. Numbers are octal, but this count. The text goes out in pieces, and
 /// takes no memory. If the writer fails, the rest of the text is lost.
-#[tactic(auto, unfolding(crate::specs::StateText::state_text))]
 pub fn write_state<A: Allocator, W: Write>(
     writer: &mut W,
     shown: &[bool; PROCESSORS],
@@ -35,55 +31,18 @@ pub fn write_state<A: Allocator, W: Write>(
         (W.contents writer.old) (W.contents writer.new) }
 {
     let mut text = TextWriter::new(writer);
-    print_processors(&mut text, shown, after, held);
+    for place in 0..PROCESSORS {
+        if shown[place] {
+            let n = PpNo::at(place);
+            text.print(&processor_heading(n, after.pp(n)));
+            print_standing(&mut text, after, n, held[place]);
+            text.print(b"\n");
+        }
+    }
     print_memories(&mut text, before, after);
     print_changed_central(&mut text, before.central(), after.central());
     print_channels(&mut text, after);
     text.finish()
-}
-
-/// Prints the lines of all processors shown, in order of number.
-fn print_processors<A: Allocator, W: Write>(
-    text: &mut TextWriter<W>,
-    shown: &[bool; PROCESSORS],
-    machine: &Machine<A>,
-    held: &[u32; PROCESSORS],
-)
-    ensures { Prints W.contents text.old text.new
-        (flat_map (standing_line shown.now machine.now held.now) all_processors) }
-{
-    for place in 0..PROCESSORS {
-        print_shown_processor(text, shown, machine, held, PpNo::at(place));
-    }
-}
-
-fn print_shown_processor<A: Allocator, W: Write>(
-    text: &mut TextWriter<W>,
-    shown: &[bool; PROCESSORS],
-    machine: &Machine<A>,
-    held: &[u32; PROCESSORS],
-    n: PpNo,
-)
-    ensures { Prints W.contents text.old text.new (standing_line shown.now machine.now held.now n) }
-{
-    if shown[n.index()] {
-        print_processor(text, machine, n, held[n.index()]);
-    }
-}
-
-/// Prints `PP00 P=0113 A=000006 RUNNING IAN 01 HELD CH01 ACTIVE EMPTY x376` and a line feed.
-fn print_processor<A: Allocator, W: Write>(
-    text: &mut TextWriter<W>,
-    machine: &Machine<A>,
-    n: PpNo,
-    count: u32,
-)
-    ensures { Prints W.contents text.old text.new
-        (processor_line n (processor_of n machine.now) (standing n machine.now count)) }
-{
-    text.print(&processor_heading(n, machine.pp(n)));
-    print_standing(text, machine, n, count);
-    text.print(b"\n");
 }
 
 /// Prints the lines of all words of processors that differ from the load.
@@ -96,20 +55,9 @@ fn print_memories<A: Allocator, W: Write>(
         (flat_map deck_line (changed_sections before.now after.now)) }
 {
     for place in 0..PROCESSORS {
-        print_memory(text, before, after, PpNo::at(place));
-    }
-}
-
-fn print_memory<A: Allocator, W: Write>(
-    text: &mut TextWriter<W>,
-    before: &Machine<A>,
-    after: &Machine<A>,
-    n: PpNo,
-)
-    ensures { Prints W.contents text.old text.new
-        (flat_map deck_line (changed_section before.now after.now n)) }
-{
-    if has_changes(before.pp(n), after.pp(n)) {
-        print_section(text, n, before.pp(n), after.pp(n));
+        let n = PpNo::at(place);
+        if has_changes(before.pp(n), after.pp(n)) {
+            print_section(text, n, before.pp(n), after.pp(n));
+        }
     }
 }

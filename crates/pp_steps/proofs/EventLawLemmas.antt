@@ -22,8 +22,8 @@ use Rattle.pp_steps.specs.Choice.{chooses_channel, chooses_need, chooses_turn, c
 use Rattle.pp_steps.specs.HeldRuns.{last_of, progress_of}
 use Rattle.pp_steps.specs.StepsLaw.{entry_of, event_on, is_chosen_event, line_event}
 use Rattle.pp_steps.specs.StepsText.{line_kind, lines_from, with_line, with_lines}
-use Rattle.pp_steps.specs.declared.{choice.Choice.Choice, line_kind.LineKind.LineKind}
-use Rattle.pp_steps.specs.declared.line_kind.LineKind.TheVariants.{OneStep}
+use Rattle.pp_steps.specs.declared.{choice.Choice.Choice, cursor.LineKind.LineKind}
+use Rattle.pp_steps.specs.declared.cursor.LineKind.TheVariants.{OneStep}
 use Rattle.pp_run.specs.declared.progress.Progress.{Progress}
 use Rattle.pp_run.specs.declared.progress.Progress.TheVariants.{Moved}
 

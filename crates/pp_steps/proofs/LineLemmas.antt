@@ -1,15 +1,23 @@
 -- The line of a step, put together from its parts.
-use Rattle.std.proofs.Common.{get_or-set_same, ◌≡◌, ℕ, ◌/◌, ◌%◌, ◌^◌, ◌<◌, List, ◌++◌, codes, length, refl, append_assoc}
+use Rattle.std.proofs.Common.{get_or-set_same, ◌≡◌, ℕ, ◌/◌, ◌%◌, ◌^◌, ◌<◌, List, ◌++◌, codes, length, [], refl, sym, ap, subst, ◌∙◌, true, false, append_assoc}
+use Rattle.std.specs.Prelude.{Result, Ok, Err, MatchResult, IfOk, is_ok}
 use Rattle.pp_word.specs.Address.{next_place}
+use Rattle.pp_channel.specs.declared.chan_op.ChanOp.{ChanOp}
+use Rattle.pp_machine.specs.declared.need.Need.{Need}
+use Rattle.pp_machine.specs.declared.need.Need.TheVariants.{Channel}
+use Rattle.pp_machine.specs.declared.outcome.Outcome.TheVariants.{Held}
+use Rattle.pp_text.specs.Standing.{held_text}
 use Rattle.pp_machine.specs.MachineState.{MachineState, processor_of}
 use Rattle.pp_machine.specs.MachineStep.{answer_to, central_after, stepped}
 use Rattle.pp_numbers.specs.PpNo.{processor_index}
 use Rattle.pp_machine.specs.NeedAndEffect.{need, processor_after}
-use Rattle.pp_machine.specs.Processor.{Processor, no_processor, word_at}
+use Rattle.pp_machine.specs.Processor.{Processor, is_running, no_processor, word_at}
+use Rattle.pp_machine.specs.declared.pp_state.PpState.{PpState}
+use Rattle.pp_machine.specs.declared.pp_state.PpState.TheVariants.{Fault, Running, Stopped}
 use Rattle.pp_text.specs.InstructionText.{running_instruction}
-use Rattle.pp_text.specs.PrintedText.{padded}
+use Rattle.pp_text.specs.PrintedText.{padded, state_text}
 use Rattle.pp_word.specs.Numeral.{decimal, digits, octal, unpadded}
-use Rattle.pp_steps.specs.StepLine.{heading, words_text}
+use Rattle.pp_steps.specs.StepLine.{end_text, heading, words_text}
 
 -- the turn, the processor and P, the words, the instruction, A
 pub heading_in_pieces : (upper first words instruction last : List ℕ) (turn n : ℕ) (pp : Processor) (a : ℕ) → upper ≡ unpadded 14 (turn / 10 ^ 6)
@@ -30,3 +38,24 @@ stepped_processor n m within = get_or-set_same m.processors (processor_index n) 
 pub stepped_central : (n : ℕ) (m : MachineState) → (stepped n m).central ≡ central_after (need (processor_of n m)) m
 unfolding stepped
 stepped_central n m = refl
+
+-- no channel is needed
+pub not_held : (x : Need) (m : MachineState) (count : ℕ) → ((c : ℕ) (operation : ChanOp) → x ≡ Channel c operation → ⊥) → held_text x Held m count ≡ []
+not_held (Channel c operation) m count other = absurd (other c operation refl)
+not_held x m count other = refl
+
+-- what is known of a value, of the same after another error was named
+pub kept_ok : {T E F : Type 0} (P : T → Type 0) (r : Result T E) (s : Result T F) (x : T) (Q : E → Type 0) → MatchResult r (λ y. s ≡ Ok y) Q → is_ok s ≡ is_ok r → IfOk r P → s ≡ Ok x → P x
+kept_ok P (Ok y) s x Q is same h was = let here : y ≡ x = cc in subst P here h
+kept_ok P (Err e) s x Q is same h was = absurd (let wrong : true ≡ false = sym (ap is_ok was) ∙ same in cc)
+
+-- a processor that goes on no more, and one that goes on
+pub end_told : (state : PpState) → is_running state ≡ false → codes " " ++ state_text state ≡ end_text state
+end_told Running e = absurd (cc)
+end_told Stopped e = refl
+end_told (Fault number) e = refl
+
+pub no_end : (state : PpState) → is_running state ≡ true → [] ≡ end_text state
+no_end Running e = refl
+no_end Stopped e = absurd (cc)
+no_end (Fault number) e = absurd (cc)

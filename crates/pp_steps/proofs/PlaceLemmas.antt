@@ -55,30 +55,30 @@ pub same_central : (before after : List ℕ) (a : ℕ) → slice_index after a �
 same_central before after a same = let is : eqb (get_or before a 0) (get_or after a 0) ≡ true = eq-eqb _ _ (sym same) in rw is refl
 
 -- all words stay but those at places one behind another
-pub places_here : (before after : List ℕ) (first count : ℕ) → first + count ≤ place_count → ((place : ℕ) → IsApart place (record { first = first; count = count }) → slice_index after place ≡ slice_index before place)
-    → places_text before after ≡ flat_map (place_text before after) (range_with_len first count)
+pub places_here : (before after : List ℕ) (first : ℕ) → first + 5 ≤ place_count → ((place : ℕ) → IsApart place first → slice_index after place ≡ slice_index before place)
+    → places_text before after ≡ flat_map (place_text before after) (range_with_len first 5)
 unfolding places
-places_here before after first count within same =
+places_here before after first within same =
     let f = place_text before after in
-    let all : place_count ≡ first + (count + (place_count - (first + count))) = omega (arith, within) in
+    let all : place_count ≡ first + (5 + (place_count - (first + 5))) = omega (arith, within) in
     ap (λ (n : ℕ). flat_map f (range_with_len 0 n)) all
-    ∙ middle f first count (place_count - (first + count))
+    ∙ middle f first 5 (place_count - (first + 5))
     (λ k below. same_place before after k (same k (λ i lt e. omega (arith, e, lt, below, within))))
-    (λ k below. same_place before after (first + count + k) (same (first + count + k) (λ i lt e. omega (arith, e, lt, below, within))))
+    (λ k below. same_place before after (first + 5 + k) (same (first + 5 + k) (λ i lt e. omega (arith, e, lt, below, within))))
 
 -- the same where they go on at place 0000
-pub places_round : (before after : List ℕ) (first count : ℕ) → first < place_count → count ≤ 5 → place_count < first + count → ((place : ℕ) → IsApart place (record { first = first; count = count }) → slice_index after place ≡ slice_index before place)
-    → places_text before after ≡ flat_map (place_text before after) (range_with_len 0 (first + count - place_count)) ++ flat_map (place_text before after) (range_with_len first (place_count - first))
+pub places_round : (before after : List ℕ) (first : ℕ) → first < place_count → place_count < first + 5 → ((place : ℕ) → IsApart place first → slice_index after place ≡ slice_index before place)
+    → places_text before after ≡ flat_map (place_text before after) (range_with_len 0 (first + 5 - place_count)) ++ flat_map (place_text before after) (range_with_len first (place_count - first))
 unfolding places
-places_round before after first count low few past same =
+places_round before after first low past same =
     let f = place_text before after in
-    let a = first + count - place_count in
+    let a = first + 5 - place_count in
     let b = first - a in
     let c = place_count - first in
-    let all : place_count ≡ a + (b + c) = omega (arith, low, few, past) in
-    let there : a + b ≡ first = omega (arith, low, few, past) in
+    let all : place_count ≡ a + (b + c) = omega (arith, low, past) in
+    let there : a + b ≡ first = omega (arith, low, past) in
     ap (λ (n : ℕ). flat_map f (range_with_len 0 n)) all
-    ∙ ends f a b c (λ k below. same_place before after (a + k) (same (a + k) (λ i lt e. omega (arith, e, lt, below, low, few, past))))
+    ∙ ends f a b c (λ k below. same_place before after (a + k) (same (a + k) (λ i lt e. omega (arith, e, lt, below, low, past))))
     ∙ ap (λ (i : ℕ). flat_map f (range_with_len 0 a) ++ flat_map f (range_with_len i c)) there
 
 -- a central memory that stays

@@ -9,7 +9,7 @@ use Rattle.pp_run.proofs.RunStepLemmas.{seen_other}
 use Rattle.pp_steps.specs.HeldRuns.{is_held_with, last_of, progress_of}
 use Rattle.pp_steps.specs.StepsLaw.{is_by, is_running, line_steps, steps_on}
 use Rattle.pp_steps.specs.StepsText.{line_kind, lines_from, with_line, with_lines}
-use Rattle.pp_steps.specs.declared.line_kind.LineKind.TheVariants.{HeldSteps, NoLine}
+use Rattle.pp_steps.specs.declared.cursor.LineKind.TheVariants.{HeldSteps, NoLine}
 use Rattle.pp_run.specs.declared.progress.Progress.{Progress}
 use Rattle.pp_run.specs.declared.progress.Progress.TheVariants.{AtRest, Moved, Held}
 use Rattle.pp_steps.proofs.RunCountLemmas.{first_of, with_other, with_same}

@@ -20,7 +20,7 @@ use Rattle.pp_machine.specs.declared.{answer.Answer.Answer, block.Block.Block, b
 use Rattle.pp_machine.specs.declared.answer.Answer.TheVariants as answers
 use Rattle.pp_machine.specs.declared.block.BlockKind.TheVariants.{CentralIn, CentralOut, Input, Output}
 use Rattle.pp_machine.specs.declared.pp_state.PpState.TheVariants.{Running}
-use Rattle.pp_steps.specs.Stores.{IsApart, KeepsOthers, block_stores, five_places, instruction_stores, one_place, stores_of}
+use Rattle.pp_steps.specs.Stores.{IsApart, KeepsOthers, first_of, first_stored}
 
 -- the word at a place is as before
 abbrev Same : ℕ → Processor → Processor → Type 0
@@ -31,7 +31,7 @@ either place true old new other h k = h
 either place false old new other h k = k
 
 -- a word stored at another place
-stored_one : (memory : List ℕ) (place x word : ℕ) → x < place_count → IsApart place (one_place x) → slice_index (slice_set memory x word) place ≡ slice_index memory place
+stored_one : (memory : List ℕ) (place x word : ℕ) → x < place_count → IsApart place x → slice_index (slice_set memory x word) place ≡ slice_index memory place
 stored_one memory place x word low apart = get_or-set_other memory x place word 0 (λ e. apart 0 (omega arith) (omega (arith, e, low)))
 
 -- words stored at other places
@@ -46,7 +46,7 @@ stored_words (word ∷ words) memory first i place apart =
     ∙ stored_words words (slice_set memory here word) first (i + 1) place (λ j k e. apart (suc j) (omega (arith, k)) (omega (arith, e)))
     ∙ get_or-set_other memory here place word 0 not_here
 
-stored_five : (memory : List ℕ) (place x central : ℕ) → x < place_count → IsApart place (five_places x) → slice_index (stored_from memory x (parts_of central)) place ≡ slice_index memory place
+stored_five : (memory : List ℕ) (place x central : ℕ) → x < place_count → IsApart place x → slice_index (stored_from memory x (parts_of central)) place ≡ slice_index memory place
 stored_five memory place x central low apart =
     let here : x ≡ (x + 0) % place_count = omega (arith, low) in
     ap (λ (p : ℕ). slice_index (stored_from memory p (parts_of central)) place) here
@@ -74,7 +74,7 @@ branches_same : (test : Bool) (pp : Processor) (place : ℕ) → Same place pp (
 branches_same true pp place = refl
 branches_same false pp place = refl
 
-row_same : (op : Opcode) (pp : Processor) (d place : ℕ) → (instruction_stores op pp d).first < place_count → IsApart place (instruction_stores op pp d) → StepSame place pp (row op pp d)
+row_same : (op : Opcode) (pp : Processor) (d place : ℕ) → first_of op pp d < place_count → IsApart place (first_of op pp d) → StepSame place pp (row op pp d)
 row_same RJM pp d place low apart = stored_one pp.memory place _ _ low apart
 row_same STD pp d place low apart = stored_one pp.memory place _ _ low apart
 row_same RAD pp d place low apart = stored_one pp.memory place _ _ low apart
@@ -105,24 +105,24 @@ row_same EJM pp d place low apart = λ flags. branches_same (not flags.full) pp 
 row_same IAN pp d place low apart = λ word. refl
 row_same op pp d place low apart = refl
 
-block_same : (kind : BlockKind) (at : ℕ) (pp : Processor) (place : ℕ) → (block_stores kind at).first < place_count → IsApart place (block_stores kind at) → StepSame place pp (block_word kind at pp)
+block_same : (kind : BlockKind) (at : ℕ) (pp : Processor) (place : ℕ) → at < place_count → IsApart place at → StepSame place pp (block_word kind at pp)
 block_same (CentralIn left) at pp place low apart = λ central. either place (left - 1 == 0) pp _ _ (stored_five pp.memory place at central low apart) (stored_five pp.memory place at central low apart)
 block_same (CentralOut left) at pp place low apart = either place (left - 1 == 0) pp _ _ refl refl
 block_same (Input channel) at pp place low apart = λ word. either place (difference pp.a 1 == 0) pp _ _ (stored_one pp.memory place at word low apart) (stored_one pp.memory place at word low apart)
 block_same (Output channel) at pp place low apart = either place (difference pp.a 1 == 0) pp _ _ refl refl
 
-step_same : (block : Option Block) (pp : Processor) (place : ℕ) → (stores_of block pp).first < place_count → IsApart place (stores_of block pp) → StepSame place pp (step_of block pp)
+step_same : (block : Option Block) (pp : Processor) (place : ℕ) → first_stored block pp < place_count → IsApart place (first_stored block pp) → StepSame place pp (step_of block pp)
 step_same None pp place low apart =
     let op = operation pp in
     let d = lower_six pp in
     either_step place (works_on_channel op && not (has_channel pp.profile d)) pp (local (faults pp 3)) (row op pp d) refl (row_same op pp d place low apart)
 step_same (Some block) pp place low apart = block_same block.kind block.place pp place low apart
 
-cut_same : (kind : BlockKind) (at : ℕ) (pp : Processor) (place : ℕ) → (block_stores kind at).first < place_count → IsApart place (block_stores kind at) → Same place pp (cut_short kind at pp)
+cut_same : (kind : BlockKind) (at : ℕ) (pp : Processor) (place : ℕ) → at < place_count → IsApart place at → Same place pp (cut_short kind at pp)
 cut_same (Input channel) at pp place low apart = stored_one pp.memory place at 0 low apart
 cut_same other at pp place low apart = refl
 
-held_same : (block : Option Block) (pp : Processor) (flags : Flags) (place : ℕ) → (stores_of block pp).first < place_count → IsApart place (stores_of block pp) → Same place pp (held block pp flags)
+held_same : (block : Option Block) (pp : Processor) (flags : Flags) (place : ℕ) → first_stored block pp < place_count → IsApart place (first_stored block pp) → Same place pp (held block pp flags)
 held_same None pp flags place low apart = refl
 held_same (Some block) pp flags place low apart = either place flags.active pp pp (cut_short block.kind block.place pp) refl (cut_same block.kind block.place pp place low apart)
 
@@ -139,10 +139,10 @@ answered_same (writes address word after) pp (answers.Wrote true) place holds h 
 answered_same (writes address word after) pp (answers.Wrote false) place holds h = refl
 answered_same step pp answer place holds h = refl
 
-after_same : (state : PpState) (pp : Processor) (answer : Answer) (place : ℕ) → (stores_of pp.block pp).first < place_count → IsApart place (stores_of pp.block pp) → Same place pp (if_running state (answered (next_step pp) pp answer) pp)
+after_same : (state : PpState) (pp : Processor) (answer : Answer) (place : ℕ) → first_stored pp.block pp < place_count → IsApart place (first_stored pp.block pp) → Same place pp (if_running state (answered (next_step pp) pp answer) pp)
 after_same Running pp answer place low apart = answered_same (next_step pp) pp answer place (λ flags. held_same pp.block pp flags place low apart) (step_same pp.block pp place low apart)
 after_same other pp answer place low apart = refl
 
-pub others_kept : (pp : Processor) → (stores_of pp.block pp).first < place_count → KeepsOthers pp (stores_of pp.block pp)
+pub others_kept : (pp : Processor) → first_stored pp.block pp < place_count → KeepsOthers pp (first_stored pp.block pp)
 unfolding processor_after
 others_kept pp low = λ answer place apart. after_same pp.state pp answer place low apart

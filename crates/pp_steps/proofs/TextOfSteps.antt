@@ -10,8 +10,8 @@ use Rattle.pp_run.proofs.RunStepLemmas.{seen-append, seen_more}
 use Rattle.pp_steps.specs.Cursor.{each_cursor, line_at, no_cursor, past_step}
 use Rattle.pp_steps.specs.HeldRuns.{HeldSpells, each_spells, last_of, no_spells, progress_of, with_step}
 use Rattle.pp_steps.specs.StepsText.{kind_text, line_kind, line_text, lines_from, with_lines}
-use Rattle.pp_steps.specs.declared.{cursor.Cursor.Cursor, line_kind.LineKind.LineKind}
-use Rattle.pp_steps.specs.declared.line_kind.LineKind.TheVariants.{NoLine}
+use Rattle.pp_steps.specs.declared.{cursor.Cursor.Cursor, cursor.LineKind.LineKind}
+use Rattle.pp_steps.specs.declared.cursor.LineKind.TheVariants.{NoLine}
 use Rattle.pp_run.specs.declared.progress.Progress.{Progress}
 use Rattle.pp_run.specs.declared.progress.Progress.TheVariants.{AtRest}
 use Rattle.pp_steps.proofs.CountedRuns.{made_at}

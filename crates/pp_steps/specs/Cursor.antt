@@ -3,8 +3,8 @@
 use Rattle.std.specs.Prelude.{◌+◌, List, slice_index_or, if◌then◌else◌}
 use Rattle.pp_run.specs.RunSteps.{RunStep}
 use Rattle.pp_steps.specs.HeldRuns.{HeldSpells, each_after, is_held_with}
-use Rattle.pp_steps.specs.declared.{cursor.Cursor.Cursor, line_kind.LineKind.LineKind}
-use Rattle.pp_steps.specs.declared.line_kind.LineKind.TheVariants.{NoLine, OneStep, HeldSteps}
+use Rattle.pp_steps.specs.declared.{cursor.Cursor.Cursor, cursor.LineKind.LineKind}
+use Rattle.pp_steps.specs.declared.cursor.LineKind.TheVariants.{NoLine, OneStep, HeldSteps}
 use Rattle.pp_run.specs.declared.progress.Progress.{Progress}
 use Rattle.pp_run.specs.declared.progress.Progress.TheVariants.{AtRest, Moved, Held}
 

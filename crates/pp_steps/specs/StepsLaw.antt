@@ -9,9 +9,9 @@ use Rattle.pp_machine.specs.declared.need.Need.TheVariants.{Channel}
 use Rattle.pp_run.specs.RunSteps.{is_of}
 use Rattle.pp_steps.specs.Choice.{chooses_channel, chooses_turn}
 use Rattle.pp_steps.specs.HeldRuns.{progress_of}
-use Rattle.pp_steps.specs.declared.{choice.Choice.Choice, line_kind.LineKind.LineKind}
+use Rattle.pp_steps.specs.declared.{choice.Choice.Choice, cursor.LineKind.LineKind}
 use Rattle.pp_steps.specs.StepsText.{StepWithLine}
-use Rattle.pp_steps.specs.declared.line_kind.LineKind.TheVariants.{NoLine, OneStep, HeldSteps}
+use Rattle.pp_steps.specs.declared.cursor.LineKind.TheVariants.{NoLine, OneStep, HeldSteps}
 use Rattle.pp_run.specs.declared.progress.Progress.{Progress}
 use Rattle.pp_run.specs.declared.progress.Progress.TheVariants.{AtRest}
 

@@ -7,8 +7,8 @@ use Rattle.pp_run.specs.RunSteps.{RunStep, seen_of}
 use Rattle.pp_steps.specs.Choice.{chosen_steps}
 use Rattle.pp_steps.specs.HeldRuns.{is_held_with, last_of, progress_of}
 use Rattle.pp_steps.specs.StepLine.{held_line, step_line}
-use Rattle.pp_steps.specs.declared.{choice.Choice.Choice, line_kind.LineKind.LineKind}
-use Rattle.pp_steps.specs.declared.line_kind.LineKind.TheVariants.{NoLine, OneStep, HeldSteps}
+use Rattle.pp_steps.specs.declared.{choice.Choice.Choice, cursor.LineKind.LineKind}
+use Rattle.pp_steps.specs.declared.cursor.LineKind.TheVariants.{NoLine, OneStep, HeldSteps}
 use Rattle.pp_run.specs.declared.progress.Progress.{Progress}
 use Rattle.pp_run.specs.declared.progress.Progress.TheVariants.{AtRest, Moved, Held}
 

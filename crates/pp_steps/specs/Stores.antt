@@ -1,65 +1,43 @@
--- The places that a step may store to: one behind another, and 0000 follows 7777 (octal).
+-- The places that a step may store to: five, one behind another, and 0000 follows 7777 (octal).
 -- (Private contracts alone cite this.)
 use Rattle.std.specs.Prelude.{◌≡◌, ◌≢◌, ℕ, ◌+◌, ◌<◌, ◌%◌, Option, None, Some, slice_index}
 use Rattle.pp_word.specs.Address.{place_count}
 use Rattle.pp_word.specs.declared.opcode.Opcode.{Opcode}
-use Rattle.pp_word.specs.declared.opcode.Opcode.TheVariants.{RJM, STD, RAD, AOD, SOD, STI, RAI, AOI, SOI, STM, RAM, AOM, SOM, CRD, CRM, CWM, IAM, OAM}
+use Rattle.pp_word.specs.declared.opcode.Opcode.TheVariants.{RJM, STD, RAD, AOD, SOD, STI, RAI, AOI, SOI, STM, RAM, AOM, SOM, CRD}
 use Rattle.pp_machine.specs.NeedAndEffect.{processor_after}
 use Rattle.pp_machine.specs.Operand.{index, lower_six, operation}
 use Rattle.pp_machine.specs.Processor.{Processor, word_at}
-use Rattle.pp_machine.specs.declared.{answer.Answer.Answer, block.Block.Block, block.BlockKind.BlockKind}
-use Rattle.pp_machine.specs.declared.block.BlockKind.TheVariants.{CentralIn, Input}
-use Rattle.pp_steps.specs.declared.stores.Stores.{Stores}
+use Rattle.pp_machine.specs.declared.{answer.Answer.Answer, block.Block.Block}
 
--- no place, one, and those of the five parts of a central word
-abbrev pub no_place : Stores
-no_place = record { first = 0; count = 0 }
+-- the first place of an instruction: of a return address, an operand, the parts of a central word;
+-- and 0000, where the start of a block stores a word, and the others none
+abbrev pub first_of : Opcode → Processor → ℕ → ℕ
+first_of RJM pp d = index pp d
+first_of STD pp d = d
+first_of RAD pp d = d
+first_of AOD pp d = d
+first_of SOD pp d = d
+first_of STI pp d = word_at pp d
+first_of RAI pp d = word_at pp d
+first_of AOI pp d = word_at pp d
+first_of SOI pp d = word_at pp d
+first_of STM pp d = index pp d
+first_of RAM pp d = index pp d
+first_of AOM pp d = index pp d
+first_of SOM pp d = index pp d
+first_of CRD pp d = d
+first_of operation pp d = 0
 
-abbrev pub one_place : ℕ → Stores
-one_place place = record { first = place; count = 1 }
+-- the first place of the next step: in a block that of its next word
+abbrev pub first_stored : Option Block → Processor → ℕ
+first_stored None pp = first_of (operation pp) pp (lower_six pp)
+first_stored (Some block) pp = block.place
 
-abbrev pub five_places : ℕ → Stores
-five_places place = record { first = place; count = 5 }
-
--- those of an instruction: a return address, an operand, the parts of a central word, and for the
--- start of a block place 0000
-abbrev pub instruction_stores : Opcode → Processor → ℕ → Stores
-instruction_stores RJM pp d = one_place (index pp d)
-instruction_stores STD pp d = one_place d
-instruction_stores RAD pp d = one_place d
-instruction_stores AOD pp d = one_place d
-instruction_stores SOD pp d = one_place d
-instruction_stores STI pp d = one_place (word_at pp d)
-instruction_stores RAI pp d = one_place (word_at pp d)
-instruction_stores AOI pp d = one_place (word_at pp d)
-instruction_stores SOI pp d = one_place (word_at pp d)
-instruction_stores STM pp d = one_place (index pp d)
-instruction_stores RAM pp d = one_place (index pp d)
-instruction_stores AOM pp d = one_place (index pp d)
-instruction_stores SOM pp d = one_place (index pp d)
-instruction_stores CRD pp d = five_places d
-instruction_stores CRM pp d = one_place 0
-instruction_stores CWM pp d = one_place 0
-instruction_stores IAM pp d = one_place 0
-instruction_stores OAM pp d = one_place 0
-instruction_stores operation pp d = no_place
-
--- those of a word of a block
-abbrev pub block_stores : BlockKind → ℕ → Stores
-block_stores (CentralIn left) place = five_places place
-block_stores (Input channel) place = one_place place
-block_stores kind place = no_place
-
--- those of the next step
-abbrev pub stores_of : Option Block → Processor → Stores
-stores_of None pp = instruction_stores (operation pp) pp (lower_six pp)
-stores_of (Some block) pp = block_stores block.kind block.place
-
--- a place is none of these
-abbrev pub IsApart : ℕ → Stores → Type 0
-IsApart place stores = (i : ℕ) → i < stores.count → place ≢ (stores.first + i) % place_count
+-- a place is none of five
+abbrev pub IsApart : ℕ → ℕ → Type 0
+IsApart place first = (i : ℕ) → i < 5 → place ≢ (first + i) % place_count
 
 -- whatever the answer, the next step keeps the words at all other places
-abbrev pub KeepsOthers : Processor → Stores → Type 0
-KeepsOthers pp stores = (answer : Answer) (place : ℕ) → IsApart place stores
+abbrev pub KeepsOthers : Processor → ℕ → Type 0
+KeepsOthers pp first = (answer : Answer) (place : ℕ) → IsApart place first
     → slice_index (processor_after pp answer).memory place ≡ slice_index pp.memory place

@@ -4,7 +4,7 @@ ghost use Rattle.std.specs.Prelude.{◌≡◌};
 ghost use Rattle.pp_machine.specs.MachineState.{MachineState};
 ghost use Rattle.pp_machine.specs.NeedAndEffect.{need};
 ghost use Rattle.pp_run.specs.BareMachine.{StandsFor};
-ghost use Rattle.pp_steps.specs.Choice.{chooses_need, chooses_turn, is_chosen};
+ghost use Rattle.pp_steps.specs.Choice.{chooses_need, is_chosen};
 
 use pp_channel::CHANNELS;
 use pp_machine::{Need, PROCESSORS, Pp, PpNo};
@@ -31,14 +31,11 @@ impl Choice {
         ensures { (m : MachineState) → StandsFor machine.now m
             → result ≡ is_chosen self.now (record { processor = n; before = m }) }
     {
-        self.has_turn(n, machine.turns()) && has_need(&self.channels, machine.pp(n))
-    }
-
-    /// Whether the step of a processor in a turn is chosen, if its channel is.
-    fn has_turn(&self, n: PpNo, turn: u64) -> bool
-        ensures { result ≡ chooses_turn self.now n turn }
-    {
-        self.processors[n.index()] && u64::from(self.from) <= turn && turn < u64::from(self.to)
+        let turn = machine.turns();
+        self.processors[n.index()]
+            && u64::from(self.from) <= turn
+            && turn < u64::from(self.to)
+            && has_need(&self.channels, machine.pp(n))
     }
 }
 

@@ -1,16 +1,22 @@
 //! How far a processor has come in the times that it is held.
 
-ghost use Rattle.std.specs.Prelude.{◌≡◌, ◌+◌, ◌<◌, ◌^◌, length, slice_index_or, slice_set, if◌then◌else◌};
-ghost use Rattle.pp_numbers.specs.PpNo.{processor_count, processor_index};
-ghost use Rattle.pp_steps.specs.Cursor.{line_at, no_cursor, past_step};
-ghost use Rattle.pp_steps.specs.HeldRuns.{no_spells};
-ghost use Rattle.pp_steps.specs.declared.line_kind.LineKind.TheVariants.{NoLine};
+ghost use Rattle.std.specs.Prelude.{◌≡◌, ◌+◌, ◌<◌, ◌^◌};
+ghost use Rattle.pp_steps.specs.Cursor.{line_at, past_step};
 
 use crate::held_runs::{HeldRuns, goes_on};
-use crate::line_kind::LineKind;
-use pp_machine::{PROCESSORS, PpNo};
 use pp_run::Progress;
 use std::alloc::Allocator;
+
+/// Which line a step has.
+#[derive(Clone, Copy)]
+pub(crate) enum LineKind {
+    /// None: the processor was at rest, or held as before.
+    NoLine,
+    /// That of a step that moved the processor.
+    OneStep,
+    /// That of this number of held steps in a row, this one the first (decimal).
+    HeldSteps(u32),
+}
 
 /// How many times a processor has been held, and its last step.
 #[derive(Clone, Copy)]
@@ -20,16 +26,6 @@ pub(crate) struct Cursor {
 }
 
 impl Cursor {
-    /// Before the first step.
-    pub(crate) fn new() -> Cursor
-        ensures { result ≡ no_cursor }
-    {
-        Cursor {
-            times: 0,
-            last: Progress::AtRest,
-        }
-    }
-
     /// Goes past a step, and says which line it has: how many steps in a row are held from it on
     /// was counted before.
     pub(crate) fn pass<A: Allocator>(&mut self, runs: &HeldRuns<A>, step: Progress) -> LineKind
@@ -50,28 +46,4 @@ impl Cursor {
             }
         }
     }
-}
-
-/// The cursor of a processor goes past a step, where the step is chosen.
-pub(crate) fn pass_step<A: Allocator>(
-    cursors: &mut [Cursor; PROCESSORS],
-    runs: &Vec<HeldRuns<A>, A>,
-    is_chosen: bool,
-    n: PpNo,
-    step: Progress,
-) -> LineKind
-    requires as_many { length runs.now.items ≡ processor_count }
-    requires low { (slice_index_or cursors.old (processor_index n) no_cursor).times + 1 < 2 ^ 64 }
-    ensures cursors { cursors.new ≡ if is_chosen then slice_set cursors.old (processor_index n)
-        (past_step (slice_index_or cursors.old (processor_index n) no_cursor) step)
-        else cursors.old }
-    ensures line { result ≡ if is_chosen then
-        line_at (slice_index_or runs.now.items (processor_index n) no_spells)
-        (slice_index_or cursors.old (processor_index n) no_cursor) step
-        else NoLine }
-{
-    if !is_chosen {
-        return LineKind::NoLine;
-    }
-    cursors[n.index()].pass(&runs[n.index()], step)
 }

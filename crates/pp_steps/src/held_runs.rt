@@ -1,7 +1,7 @@
 //! How long processors are held each time.
 
-ghost use Rattle.std.specs.Prelude.{◌≡◌, ◌+◌, ◌<◌, ◌^◌, ◌++◌, [], slice_index_or, OnOk};
-ghost use Rattle.pp_steps.specs.HeldRuns.{current_spell, goes_on, no_spells, with_step};
+ghost use Rattle.std.specs.Prelude.{◌≡◌, ◌+◌, ◌<◌, ◌^◌, slice_index_or, OnOk};
+ghost use Rattle.pp_steps.specs.HeldRuns.{goes_on, no_spells, with_step};
 
 use pp_channel::Memory;
 use pp_run::Progress;
@@ -46,22 +46,11 @@ impl<A: Allocator> HeldRuns<A> {
             self.last = step;
             return Ok(());
         }
-        self.end()?;
+        if let Progress::Held(_) = self.last {
+            self.counts.push(self.current)?;
+        }
         self.current = 1;
         self.last = step;
-        Ok(())
-    }
-
-    /// The last time is over, if the last step was held.
-    fn end(&mut self) -> Result<(), Memory>
-        ensures { OnOk result (self.new ≡ record self.old {
-          counts = self.old.counts ++ current_spell self.old.last self.old.current [];
-        }) }
-    {
-        match self.last {
-            Progress::Held(_) => self.counts.push(self.current)?,
-            Progress::AtRest | Progress::Moved => {}
-        }
         Ok(())
     }
 
@@ -69,10 +58,7 @@ impl<A: Allocator> HeldRuns<A> {
     pub(crate) fn count(&self, time: usize) -> u32
         ensures { result ≡ slice_index_or self.now.counts time self.now.current }
     {
-        match self.counts.get(time) {
-            Some(count) => *count,
-            None => self.current,
-        }
+        self.counts.get(time).copied().unwrap_or(self.current)
     }
 }
 

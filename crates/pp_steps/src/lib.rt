@@ -6,12 +6,10 @@ mod choice;
 mod cursor;
 mod held_runs;
 mod laws;
-mod line_kind;
 mod run_counts;
 mod step_line;
 mod steps_text;
 mod stores;
-mod words_field;
 
 pub use choice::Choice;
 pub use laws::steps_law;

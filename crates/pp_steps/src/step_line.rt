@@ -7,25 +7,22 @@ ghost use Rattle.pp_machine.specs.MachineState.{MachineState};
 ghost use Rattle.pp_machine.specs.MachineStep.{central_after, stepped};
 ghost use Rattle.pp_machine.specs.NeedAndEffect.{processor_after};
 ghost use Rattle.pp_machine.specs.declared.answer.Answer.{Answer};
-ghost use Rattle.pp_machine.specs.declared.outcome.Outcome.TheVariants.{Held};
 ghost use Rattle.pp_word.specs.Numeral.{digits, octal};
-ghost use Rattle.pp_text.specs.PrintedText.{event_text};
-ghost use Rattle.pp_text.specs.Standing.{held_text};
+ghost use Rattle.pp_text.specs.PrintedText.{event_text, padded};
 ghost use Rattle.pp_text.specs.TextWriter.{Prints};
 ghost use Rattle.pp_run.specs.BareMachine.{StandsFor};
-ghost use Rattle.pp_steps.specs.StepLine.{central_text, centrals_text, channel_text, end_text, event_or_flags, heading, held_line, place_text, places_text, step_line};
+ghost use Rattle.pp_steps.specs.StepLine.{centrals_text, channel_text, heading, held_line, place_text, places_text, step_line, words_text};
 ghost use Rattle.pp_steps.specs.Stores.{KeepsOthers};
 
-use crate::stores::Stores;
-use crate::words_field::words_field;
-use pp_channel::{ChannelNo, Event, Flags};
-use pp_machine::{Central, Need, Pp, PpNo, PpState};
+use crate::stores::first_stored;
+use pp_channel::Event;
+use pp_machine::{Block, Central, Need, Pp, PpNo};
 use pp_run::BareMachine;
 use pp_text::{
     TextWriter, central_word, channel_name, decimal6, octal2, octal4, octal6, print_flags_text,
     print_held_text, print_octal, print_state_text, print_upper_digits, running_field,
 };
-use pp_word::{Word12, Word18, next};
+use pp_word::{Word12, Word18, decode, next};
 use std::alloc::Allocator;
 use std::io::Write;
 
@@ -47,10 +44,13 @@ pub(crate) fn print_step_line<A: Allocator, W: Write>(
     let new = after.pp(n);
     let need = old.wants();
     print_heading(text, before.turns(), n, old, new.a());
-    print_places(text, old, new, Stores::of(old));
+    print_places(text, old, new, first_stored(old));
     print_central(text, &need, before.central(), after.central());
     print_channel(text, &need, before);
-    print_end(text, new.state());
+    if !new.state().is_running() {
+        text.print(b" ");
+        print_state_text(text, new.state());
+    }
     text.print(b"\n");
 }
 
@@ -67,7 +67,9 @@ pub(crate) fn print_held_line<A: Allocator, W: Write>(
 {
     let pp = machine.pp(n);
     print_heading(text, machine.turns(), n, pp, pp.a());
-    print_held(text, &pp.wants(), machine, count);
+    if let Need::Channel(c, _) = pp.wants() {
+        print_held_text(text, c, machine.channel(c).flags, count);
+    }
     text.print(b"\n");
 }
 
@@ -82,15 +84,8 @@ fn print_heading<W: Write>(text: &mut TextWriter<W>, turn: u64, n: PpNo, pp: &Pp
     text.print(&turn_and_place(lower, n, place));
     text.print(&words_field(pp.block(), word, m));
     text.print(&running_field(pp.block(), place, word, m));
-    text.print(&accumulator_field(a));
-}
-
-/// ` A=000004`
-fn accumulator_field(a: Word18) -> [u8; 9]
-    ensures { result ≡ codes " A=" ++ octal 6 a }
-{
-    let [a0, a1, a2, a3, a4, a5] = octal6(a.get());
-    [b' ', b'A', b'=', a0, a1, a2, a3, a4, a5]
+    text.print(b" A=");
+    text.print(&octal6(a.get()));
 }
 
 /// `000031 PP01 0201 `
@@ -107,19 +102,34 @@ fn turn_and_place(turn: u32, n: PpNo, place: Word12) -> [u8; 17]
     ]
 }
 
-/// Prints ` (0300)=0001` for each of some places whose word differs, in order of place.
-fn print_places<W: Write>(text: &mut TextWriter<W>, old: &Pp, new: &Pp, stores: Stores)
-    requires few { stores.count ≤ 5 }
-    requires within { stores.first < place_count }
-    ensures { (answer : Answer) → KeepsOthers old.now stores
+/// `7105 0300  `, or `1405       ` where the instruction has one word: a word, the next, and two
+/// spaces. A block in progress reads none: spaces alone.
+fn words_field(block: Option<Block>, word: Word12, m: Word12) -> [u8; 11]
+    ensures { result ≡ padded 9 (words_text block word m) ++ codes "  " }
+{
+    if block.is_some() {
+        return *b"           ";
+    }
+    let [w0, w1, w2, w3] = octal4(word.get());
+    if decode(word).0.is_long() {
+        let [m0, m1, m2, m3] = octal4(m.get());
+        [w0, w1, w2, w3, b' ', m0, m1, m2, m3, b' ', b' ']
+    } else {
+        [w0, w1, w2, w3, b' ', b' ', b' ', b' ', b' ', b' ', b' ']
+    }
+}
+
+/// Prints ` (0300)=0001` for each of five places from one on whose word differs, in order of place.
+fn print_places<W: Write>(text: &mut TextWriter<W>, old: &Pp, new: &Pp, first: Word12)
+    ensures { (answer : Answer) → KeepsOthers old.now first
         → new.now ≡ processor_after old.now answer
         → Prints W.contents text.old text.new (places_text old.now.memory new.now.memory) }
 {
-    let Stores { first, count } = stores;
-    if first + count <= PLACES {
-        print_range(text, old, new, first, count);
+    let first = u32::from(first.get());
+    if first + 5 <= PLACES {
+        print_range(text, old, new, first, 5);
     } else {
-        print_range(text, old, new, 0, first + count - PLACES);
+        print_range(text, old, new, 0, first + 5 - PLACES);
         print_range(text, old, new, first, PLACES - first);
     }
 }
@@ -131,22 +141,14 @@ fn print_range<W: Write>(text: &mut TextWriter<W>, old: &Pp, new: &Pp, first: u3
         (flat_map (place_text old.now.memory new.now.memory) (range_with_len first count)) }
 {
     for i in 0..count {
-        print_place(text, old, new, Word12::truncated(first + i));
+        let place = Word12::truncated(first + i);
+        let word = new.get(place);
+        if old.get(place).get() != word.get() {
+            let [p0, p1, p2, p3] = octal4(place.get());
+            let [w0, w1, w2, w3] = octal4(word.get());
+            text.print(&[b' ', b'(', p0, p1, p2, p3, b')', b'=', w0, w1, w2, w3]);
+        }
     }
-}
-
-/// Prints ` (0300)=0001`, where the word at a place differs.
-fn print_place<W: Write>(text: &mut TextWriter<W>, old: &Pp, new: &Pp, place: Word12)
-    ensures { Prints W.contents text.old text.new
-        (place_text old.now.memory new.now.memory place) }
-{
-    let word = new.get(place);
-    if old.get(place).get() == word.get() {
-        return;
-    }
-    let [p0, p1, p2, p3] = octal4(place.get());
-    let [w0, w1, w2, w3] = octal4(word.get());
-    text.print(&[b' ', b'(', p0, p1, p2, p3, b')', b'=', w0, w1, w2, w3]);
 }
 
 /// Prints ` CM 000100=00060007001000110012`, where the step wrote a central word that differs.
@@ -159,21 +161,11 @@ fn print_central<A: Allocator, W: Write>(
     ensures { (m : MachineState) → before.now ≡ m.central → after.now ≡ central_after need.now m
         → Prints W.contents text.old text.new (centrals_text before.now after.now) }
 {
-    if let Need::Write(address, _) = need {
-        print_central_word(text, *address, before, after);
-    }
-}
-
-fn print_central_word<A: Allocator, W: Write>(
-    text: &mut TextWriter<W>,
-    address: Word18,
-    before: &Central<A>,
-    after: &Central<A>,
-)
-    ensures { Prints W.contents text.old text.new (central_text before.now after.now address) }
-{
-    let word = central_word(after, address);
-    if word == central_word(before, address) {
+    let Need::Write(address, _) = need else {
+        return;
+    };
+    let word = central_word(after, *address);
+    if word == central_word(before, *address) {
         return;
     }
     text.print(b" CM ");
@@ -197,16 +189,10 @@ fn print_channel<A: Allocator, W: Write>(
         text.print(b" ");
         text.print(&channel_name(*c));
         text.print(b" ");
-        print_event_or_flags(text, state.next_event(op), state.flags);
-    }
-}
-
-fn print_event_or_flags<W: Write>(text: &mut TextWriter<W>, event: Option<Event>, flags: Flags)
-    ensures { Prints W.contents text.old text.new (event_or_flags event flags) }
-{
-    match event {
-        Some(event) => print_event(text, event),
-        None => print_flags_text(text, flags),
+        match state.next_event(op) {
+            Some(event) => print_event(text, event),
+            None => print_flags_text(text, state.flags),
+        }
     }
 }
 
@@ -230,32 +216,4 @@ fn name_and_word(name: [u8; 3], word: Word12) -> [u8; 8]
     let [n0, n1, n2] = name;
     let [w0, w1, w2, w3] = octal4(word.get());
     [n0, n1, n2, b' ', w0, w1, w2, w3]
-}
-
-/// Prints ` HELD CH05 ACTIVE EMPTY x1`, where a channel was needed.
-fn print_held<A: Allocator, W: Write>(
-    text: &mut TextWriter<W>,
-    need: &Need,
-    machine: &BareMachine<A>,
-    count: u32,
-)
-    ensures { (m : MachineState) → StandsFor machine.now m
-        → Prints W.contents text.old text.new (held_text need.now Held m count) }
-{
-    if let Need::Channel(c, _) = need {
-        print_held_text(text, *c, machine.channel(*c).flags, count);
-    }
-}
-
-/// Prints ` STOPPED`, where the processor goes on no more.
-fn print_end<W: Write>(text: &mut TextWriter<W>, state: PpState)
-    ensures { Prints W.contents text.old text.new (end_text state) }
-{
-    match state {
-        PpState::Running => {}
-        PpState::Stopped | PpState::Fault(_) => {
-            text.print(b" ");
-            print_state_text(text, state);
-        }
-    }
 }

@@ -1,5 +1,7 @@
 use Rattle.std.proofs.Common.{◌≡◌, ◌<◌, ◌+◌, ◌∷◌, ◌++◌, [], List, length, take, sym, ap, subst, ◌∙◌, append_assoc, arith, rules}
 use Rattle.std.proofs.lemmas.List.{append-nil, length-take, take_more}
+use Rattle.std.proofs.lemmas.Bool.{eqb-true}
+use Rattle.std.proofs.lemmas.List.{nil_from_length}
 use Rattle.pp_text.specs.TextWriter.{Prints}
 use Rattle.pp_text.proofs.PrintingLemmas.{prints_nothing, prints_on, prints_then}
 use Rattle.pp_machine.specs.declared.trace.Trace.{Trace}
@@ -7,7 +9,8 @@ use Rattle.pp_sessions.specs.OpenStretch.{TakesIn, open_at}
 use Rattle.pp_sessions.specs.SessionsText.{line_and_words}
 use Rattle.pp_sessions.specs.Stretches.{words_in}
 use Rattle.pp_sessions.specs.TimedEvents.{opening_events, timed_events, timed_on}
-use Rattle.pp_sessions.specs.declared.moment.TimedEvent.{TimedEvent}
+use Rattle.pp_sessions.specs.declared.tally.TimedEvent.{TimedEvent}
+use Rattle.pp_sessions.proofs.HistoryLemmas.{lines_of_none}
 use Rattle.pp_sessions.proofs.TakeInLemmas.{nothing_open, rest_of, takes_all, takes_nothing, takes_then, takes_these, takes_whole, timed_more}
 use Rattle.pp_sessions.proofs.sessions_text.print_channel.Goals as goal
 
@@ -68,3 +71,9 @@ returns-in_default g c =
     let current = c.loop-index.current in
     let (printed, prints, takes) = c.loop-index.invariant.lines in
     subst (Prints _ _ _) (sym (takes_nothing w n (timed_events n c.args.machine.now) printed (open_at n trace current) (takes_whole w n c.args.machine.now trace c.loop-index.index printed current c.loop-index-test.false c.events-entries.ensures takes) (search rules))) prints
+
+pub returns-then-is_empty : goal.returns-then-is_empty
+returns-then-is_empty g c =
+    let empty : length c.history.result.now ≡ 0 = eqb-true (length c.history.result.now) 0 (sym c.is_empty.ensures ∙ c.if-is_empty.true) in
+    let none : c.channel.result.now ≡ [] = sym c.history.ensures.value ∙ nil_from_length c.history.result.now empty in
+    subst (Prints _ _ _) (sym (lines_of_none c.args.with_words c.args.machine.now c.args.c c.channel.result.now none c.channel.ensures.traced)) (prints_nothing _ _)

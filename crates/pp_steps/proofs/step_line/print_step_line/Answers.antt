@@ -1,14 +1,16 @@
-use Rattle.std.proofs.Common.{◌≡◌, ◌<◌, length, ap, ◌∙◌, sym, arith}
+use Rattle.std.proofs.Common.{◌≡◌, ◌<◌, length, ap, ◌∙◌, sym, subst, arith}
 use Rattle.pp_machine.specs.MachineState.{processor_of}
 use Rattle.pp_machine.specs.MachineStep.{answer_to, central_after, stepped}
 use Rattle.pp_machine.specs.NeedAndEffect.{need, processor_after}
-use Rattle.pp_machine.specs.Processor.{Processor}
+use Rattle.pp_machine.specs.Processor.{Processor, is_running}
 use Rattle.pp_numbers.specs.PpNo.{processor_index}
 use Rattle.pp_machine.specs.declared.need.Need.{Need}
-use Rattle.pp_text.proofs.PrintingLemmas.{◌▹◌}
-use Rattle.pp_steps.specs.StepLine.{step_line}
-use Rattle.pp_steps.proofs.LineLemmas.{stepped_central, stepped_processor}
+use Rattle.pp_text.proofs.PrintingLemmas.{◌▹◌, prints_nothing}
+use Rattle.pp_text.specs.TextWriter.{Prints}
+use Rattle.pp_steps.specs.StepLine.{end_text, step_line}
+use Rattle.pp_steps.proofs.LineLemmas.{end_told, no_end, stepped_central, stepped_processor}
 use Rattle.pp_steps.proofs.step_line.print_step_line.Goals as goal
+use Rattle.pp_steps.proofs.step_line.print_step_line.Goals.{then-not-is_running, else-not-is_running}
 
 pub returns : goal.returns
 unfolding step_line
@@ -26,9 +28,14 @@ returns g c = λ m stands further.
     let later = c.central-2.ensures after further in
     let written : c.central-2.result.now ≡ central_after c.wants-need.result m =
     later ∙ stepped_central n m ∙ ap (λ (y : Need). central_after y m) (sym needs) in
+    let runs : is_running (processor_of n after).state ≡ c.is_running.result = ap (λ (pp : Processor). is_running pp.state) (sym new) ∙ ap is_running (sym c.state.ensures.value) ∙ sym c.is_running.ensures in
+    let ended : Prints g.W.Write.contents c.print_channel.new.text c.if-not-is_running.text (end_text (processor_of n after).state) = elim c.if-not-is_running.branch [
+      | then-not-is_running w ↦ rw w.text-is (subst (Prints _ _ _) (end_told (processor_of n after).state (runs ∙ w.if-not-is_running.true)) (w.print.ensures ▹ (rw (w.state-then-not-is_running.ensures.value, new) at w.print_state_text.ensures)))
+      | else-not-is_running w ↦ rw w.text-is (subst (Prints _ _ _) (no_end (processor_of n after).state (runs ∙ w.if-not-is_running.false)) (prints_nothing _ _))
+    ] in
     (rw (c.turns.ensures m stands, c.a.ensures, new, old) at c.print_heading.ensures)
-    ▹ (rw (new, old) at (c.print_places.ensures (answer_to x m) c.of.ensures.others is))
+    ▹ (rw (new, old) at (c.print_places.ensures (answer_to x m) c.first_stored.ensures.others is))
     ▹ (rw (central, later) at (c.print_central.ensures m central written))
     ▹ (rw needs at (c.print_channel.ensures m stands))
-    ▹ (rw (c.state.ensures.value, new) at c.print_end.ensures)
-    ▹ c.print.ensures
+    ▹ ended
+    ▹ c.print-2.ensures
