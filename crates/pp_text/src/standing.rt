@@ -4,7 +4,6 @@ ghost use Rattle.std.specs.Prelude.{◌≡◌, ◌↔◌, IsTrue};
 ghost use Rattle.pp_machine.specs.MachineState.{processor_of};
 ghost use Rattle.pp_machine.specs.MachineStep.{step_outcome};
 ghost use Rattle.pp_machine.specs.NeedAndEffect.{need};
-ghost use Rattle.pp_text.specs.InstructionText.{running_instruction};
 ghost use Rattle.pp_text.specs.Standing.{block_place_text, held_text, standing};
 ghost use Rattle.pp_text.specs.TextWriter.{Prints};
 
@@ -14,7 +13,7 @@ use crate::instruction::print_running;
 use crate::state_text::print_state_text;
 use crate::text_writer::TextWriter;
 use pp_channel::{ChanOp, ChannelNo};
-use pp_machine::{Block, Machine, Need, Outcome, Pp, PpNo};
+use pp_machine::{Block, Machine, Need, Outcome, PpNo};
 use pp_word::next;
 use std::alloc::Allocator;
 use std::io::Write;
@@ -33,17 +32,10 @@ pub fn print_standing<A: Allocator, W: Write>(
     let pp = machine.pp(n);
     print_state_text(text, pp.state());
     text.print(b" ");
-    print_instruction(text, pp);
-    print_block_place(text, pp.block());
-    print_held(text, machine, n, count);
-}
-
-/// Prints the text of the instruction that runs.
-fn print_instruction<W: Write>(text: &mut TextWriter<W>, pp: &Pp)
-    ensures { Prints W.contents text.old text.new (running_instruction pp.now) }
-{
     let place = pp.p();
     print_running(text, pp.block(), place, pp.get(place), pp.get(next(place)));
+    print_block_place(text, pp.block());
+    print_held(text, machine, n, count);
 }
 
 /// Prints ` BLOCK 0302`, if a block is in progress.
@@ -82,10 +74,7 @@ fn is_held<A: Allocator>(machine: &Machine<A>, n: PpNo, c: ChannelNo, operation:
     ensures { IsTrue result ↔ (step_outcome n machine.now ≡ Outcome.Held) }
 {
     let channel = machine.channel(c);
-    if operation.only_looks() {
-        return false;
-    }
-    if channel.next_event(&operation).is_some() {
+    if operation.only_looks() || channel.next_event(&operation).is_some() {
         return false;
     }
     match machine.pp(n).block() {
