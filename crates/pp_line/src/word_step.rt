@@ -49,18 +49,8 @@ pub fn advance(word: u64, op: ChanOp) -> WordStep
     }
     match event_by(&op, flags_in(word), waiting_in(word)) {
         Some(event) => WordStep::Next(word_with(word, &event), reply_made(&event), event),
-        None => step_shown(&op, word),
-    }
-}
-
-/// The step if an operation makes no event.
-fn step_shown(op: &ChanOp, word: u64) -> WordStep
-    ensures { result ≡ step_by op.now word None }
-{
-    if op.only_looks() {
-        WordStep::Look(flags_in(word))
-    } else {
-        WordStep::Held(flags_in(word))
+        None if op.only_looks() => WordStep::Look(flags_in(word)),
+        None => WordStep::Held(flags_in(word)),
     }
 }
 
