@@ -122,6 +122,7 @@ fn print_event_by<W: Write>(
     }
 }
 
+/// Prints the line of each processor that is named and has a worker.
 fn print_workers<A: Allocator, W: Write>(
     text: &mut TextWriter<W>,
     workers: &[Worker<A>],
@@ -133,25 +134,11 @@ fn print_workers<A: Allocator, W: Write>(
         → IfSome (option_map shown_end (slice_get workers.now (processor_index n))) FitsItsEnd }
 {
     for place in 0..PROCESSORS {
-        print_named_worker(text, workers, named, PpNo::at(place));
-    }
-}
-
-/// Prints the line of a processor, if it is named and has a worker.
-fn print_named_worker<A: Allocator, W: Write>(
-    text: &mut TextWriter<W>,
-    workers: &[Worker<A>],
-    named: &[bool; PROCESSORS],
-    n: PpNo,
-)
-    ensures text { Prints W.contents text.old text.new
-        (named_worker_line named.now workers.now n) }
-    ensures fits { IsTrue (is_named named.now n)
-        → IfSome (option_map shown_end (slice_get workers.now (processor_index n))) FitsItsEnd }
-{
-    if named[n.index()] {
-        if let Some(worker) = workers.get(n.index()) {
-            print_worker_line(text, n, worker);
+        let n = PpNo::at(place);
+        if named[n.index()] {
+            if let Some(worker) = workers.get(n.index()) {
+                print_worker_line(text, n, worker);
+            }
         }
     }
 }
