@@ -319,18 +319,10 @@ impl<A: Allocator + Copy> Line<A> {
         if let Err(memory) = self.log.append(&other.log) {
             return Err((self, other, memory));
         }
-        let Line {
-            alloc: _,
-            words,
-            log: _,
-            seen,
-            shares,
-            whole: _,
-        } = other;
-        self.words.join(words);
+        self.words.join(other.words);
         self.words.check_shares(ChannelNo::at(0));
-        self.shares += shares;
-        self.seen = greater_of_each(&self.seen, &seen);
+        self.shares += other.shares;
+        self.seen = greater_of_each(&self.seen, &other.seen);
         Ok(self)
     }
 
