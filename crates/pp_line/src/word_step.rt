@@ -2,7 +2,7 @@
 
 ghost use Rattle.std.specs.Prelude.{◌≡◌, ◌<◌, ◌≤◌, ℕ, List, None};
 ghost use Rattle.pp_line.specs.Types.{Event, Reply};
-ghost use Rattle.pp_line.specs.ChannelWord.{history_word, number_in, flags_in, greatest_number, step_from, step_by, state_in, waiting_in, word_with, StepsFrom};
+ghost use Rattle.pp_line.specs.ChannelWord.{history_word, number_in, flags_in, greatest_number, step_from, state_in, waiting_in, word_with, StepsFrom};
 ghost use Rattle.pp_channel.specs.History.{IsLawful, HasTwelveBitWord, HasTwelveBitWords};
 
 use pp_channel::{ChanOp, ChannelState, Event, Flags, Reply, event_by, flags_after, reply_made};
