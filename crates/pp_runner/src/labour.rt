@@ -60,8 +60,8 @@ fn ask<A: Allocator + Copy>(line: &mut Line<A>, needed: Need) -> Result<Answer, 
 }
 
 impl<A: Allocator + Copy> Labour<A> {
-    /// One try of the next step. Its answer is kept only if the processor moves, and with it the look
-    /// that gave it.
+    /// One try of the next step. Its answer is kept only if the processor moves, and with it the
+    /// look that gave it.
     fn try_step(&mut self, site: &Site<A>, load: &Pp) -> Try
         requires running { self.old.pp.state ≡ PpState.Running }
         requires steps_left { vec_len self.old.answers < site.now.limits.steps }

@@ -18,9 +18,9 @@ use pp_word::next;
 use std::alloc::Allocator;
 use std::io::Write;
 
-/// Prints `RUNNING IAM 01 BLOCK 0302 HELD CH01 ACTIVE EMPTY x376`, what the line of a processor says
-/// after its registers, where this many of its last steps in a row (decimal) were held. A count of 0
-/// is left out, and so is the place where no block is in progress.
+/// Prints `RUNNING IAN 01 HELD CH01 ACTIVE EMPTY x376`, what the line of a processor says after its
+/// registers, where this many of its last steps in a row (decimal) were held. A count of 0 is left
+/// out. If a block is in progress, ` BLOCK 0302` stands before ` HELD`.
 pub fn print_standing<A: Allocator, W: Write>(
     text: &mut TextWriter<W>,
     machine: &Machine<A>,
