@@ -1,5 +1,4 @@
-//! The law of a circle. The function does nothing: its contract says what is proved of the
-//! definitions.
+//! The law of a circle.
 
 ghost use Rattle.std.specs.Prelude.{List, ◌++◌};
 ghost use Rattle.pp_numbers.specs.Subsequence.{IsSubsequence};

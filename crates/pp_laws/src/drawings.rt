@@ -1,5 +1,4 @@
-//! The law of the text of drawings. The function does nothing: its contract says what is proved of
-//! the definitions.
+//! The law of the text of drawings.
 
 ghost use Rattle.std.specs.Prelude.{ℕ, Bool, List, codes};
 ghost use Rattle.pp_machine.specs.MachineState.{MachineState};

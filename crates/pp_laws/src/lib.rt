@@ -1,6 +1,7 @@
 //! Laws across layers, proved apart from the program: what a printed text says of runs, why it is a
 //! lawful trace, that a drawing is well-formed XML, and what one run says of every order of its
-//! steps and of every run by threads.
+//! steps and of every run by threads. A law does nothing: its contract says what is proved of the
+//! definitions.
 #![tactic(auto)]
 
 mod circle;

@@ -1,5 +1,4 @@
-//! Laws of all orders of steps. These functions do nothing: their contracts say what is proved of
-//! the definitions.
+//! Laws of all orders of steps.
 
 ghost use Rattle.std.specs.Prelude.{◌≡◌, ℕ, List, length, All, Ok, ◌++◌};
 ghost use Rattle.pp_numbers.specs.ChannelNo.{channel_count};

@@ -1,5 +1,4 @@
-//! Laws of the texts of runs. These functions do nothing: their contracts say what is proved of
-//! the definitions.
+//! Laws of the texts of runs.
 
 ghost use Rattle.std.specs.Prelude.{ℕ, List};
 ghost use Rattle.pp_deck.specs.DeckMeaning.{LoadedDeck};

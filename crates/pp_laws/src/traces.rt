@@ -1,5 +1,4 @@
-//! Laws of printed texts as traces. These functions do nothing: their contracts say what is proved
-//! of the definitions.
+//! Laws of printed texts as traces.
 
 ghost use Rattle.std.specs.Prelude.{ℕ, ◌≡◌, ◌<◌, ◌^◌, Bool, List, Ok, length, IsTrue};
 ghost use Rattle.pp_deck.specs.DeckMeaning.{LoadedDeck, deck_meaning};

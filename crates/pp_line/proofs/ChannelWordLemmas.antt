@@ -107,13 +107,6 @@ Stays (WordStep.Held f) = Unit {0}
 Stays (WordStep.Next next reply e) = ⊥
 Stays WordStep.Worn = ⊥
 
-pub stays_where_shown : (op : ChanOp) (word : ℕ) (step : WordStep) → step ≡ step_by op word None → Stays step
-stays_where_shown op word step is = subst Stays (sym is) (either_stays (only_looks op))
-  where
-    either_stays : (looks : Bool) → Stays (if looks then WordStep.Look (flags_in word) else WordStep.Held (flags_in word))
-    either_stays true = tt
-    either_stays false = tt
-
 pub stays_either : (step : WordStep) → ((f : Flags) × (step ≡ WordStep.Look f)) ⊎ ((f : Flags) × (step ≡ WordStep.Held f)) → Stays step
 stays_either step (inl (f, is)) = subst Stays (sym is) tt
 stays_either step (inr (f, is)) = subst Stays (sym is) tt

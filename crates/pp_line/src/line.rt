@@ -99,14 +99,14 @@ impl<A: Allocator + Copy> Line<A> {
         ensures within { IsWithin self.now.view.seen self.now.log.entries }
         ensures each_channel { length self.now.view.seen ≡ channel_count }
     {
-        self.log.entries()
+        self.log.entries.as_slice()
     }
 
     /// How many more entries its log has room for.
     pub fn room(&self) -> u32
         ensures { result ≡ self.now.log.room }
     {
-        self.log.room()
+        self.log.room
     }
 
     /// How many events of the channel it has seen.
@@ -136,14 +136,14 @@ impl<A: Allocator + Copy> Line<A> {
     pub fn kept(&self) -> bool
         ensures { result ≡ self.now.log.kept }
     {
-        self.log.kept()
+        self.log.kept
     }
 
     /// Keeps the last entry of its log, even if a look at the same channel follows.
     pub fn keep(&mut self)
         ensures { self.new ≡ record self.old { log = record self.old.log { kept = true } } }
     {
-        self.log.keep();
+        self.log.kept = true;
     }
 
     /// A line of one share, for another thread, with room for `room` entries in a log of its own.
@@ -319,18 +319,10 @@ impl<A: Allocator + Copy> Line<A> {
         if let Err(memory) = self.log.append(&other.log) {
             return Err((self, other, memory));
         }
-        let Line {
-            alloc: _,
-            words,
-            log: _,
-            seen,
-            shares,
-            whole: _,
-        } = other;
-        self.words.join(words);
+        self.words.join(other.words);
         self.words.check_shares(ChannelNo::at(0));
-        self.shares += shares;
-        self.seen = greater_of_each(&self.seen, &seen);
+        self.shares += other.shares;
+        self.seen = greater_of_each(&self.seen, &other.seen);
         Ok(self)
     }
 
@@ -349,7 +341,7 @@ impl<A: Allocator + Copy> Line<A> {
         self.words.check_shares(ChannelNo::at(0));
         let line = &self;
         let others: [((), Vec<Entry, A>); 0] = [];
-        match recorded_channels(line.alloc, line.log.entries(), &others, &line.seen) {
+        match recorded_channels(line.alloc, line.log.entries.as_slice(), &others, &line.seen) {
             Ok(channels) => Ok(channels),
             Err(memory) => Err((self, memory)),
         }

@@ -11,9 +11,11 @@ use std::marker::Model;
 /// A log whose memory is taken when it is made.
 #[derive(Drop)]
 pub struct LineLog<A: Allocator> {
-    entries: Vec<Entry, A>,
-    room: u32,
-    kept: bool,
+    pub entries: Vec<Entry, A>,
+    /// How many more entries it has room for.
+    pub room: u32,
+    /// Whether its last entry stays when a look at the same channel follows.
+    pub kept: bool,
 }
 
 impl<A: Allocator> Model for LineLog<A> {
@@ -42,41 +44,6 @@ impl<A: Allocator> LineLog<A> {
             room,
             kept: true,
         })
-    }
-
-    /// Its entries.
-    pub fn entries(&self) -> &[Entry]
-        ensures { result.now ≡ self.now.entries }
-    {
-        self.entries.as_slice()
-    }
-
-    /// Its entries; the log is consumed.
-    pub fn into_entries(self) -> Vec<Entry, A>
-        ensures { result.items ≡ self.entries }
-    {
-        self.entries
-    }
-
-    /// How many more entries it has room for.
-    pub fn room(&self) -> u32
-        ensures { result ≡ self.now.room }
-    {
-        self.room
-    }
-
-    /// Whether its last entry stays when a look at the same channel follows.
-    pub fn kept(&self) -> bool
-        ensures { result ≡ self.now.kept }
-    {
-        self.kept
-    }
-
-    /// Keeps its last entry, even if a look at the same channel follows.
-    pub fn keep(&mut self)
-        ensures { self.new ≡ record self.old { kept = true } }
-    {
-        self.kept = true;
     }
 
     /// Logs an event.
@@ -136,7 +103,7 @@ impl<A: Allocator> LineLog<A> {
         }) }
         ensures unchanged_after_memory { OnErr result (self.new ≡ self.old) }
     {
-        let more = other.entries();
+        let more = other.entries.as_slice();
         self.entries.reserve(more.len() + self.room as usize)?;
         let Ok(()) = self.entries.extend_from_slice(more) else {
             unreachable!()

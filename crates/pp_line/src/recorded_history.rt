@@ -28,14 +28,6 @@ impl<A: Allocator> Model for EventsByNumber<A> {
 }
 
 impl<A: Allocator> EventsByNumber<A> {
-    /// `count` events, none of them placed yet.
-    fn unplaced(alloc: A, count: u64) -> Result<Self, Memory>
-        ensures { IfOk result (λ unplaced. length unplaced ≡ count) }
-    {
-        let events = vec![in alloc; Event::Disconnect; count as usize]?;
-        Ok(EventsByNumber { events })
-    }
-
     /// Puts an event at this number, if the list has it.
     #[tactic(auto, using(std::proofs::lemmas::List::set_past))]
     fn put(&mut self, number: u64, event: Event)
@@ -66,7 +58,8 @@ pub fn recorded_channels<T, A: Allocator + Copy>(
     let mut histories = recorded_histories(alloc, log, others, seen)?;
     let mut channels = array::from_fn(|_| Channel::new(alloc));
     for place in 0..CHANNELS {
-        let events = take_events(alloc, &mut histories, place);
+        let history = &mut histories[place];
+        let events = mem::replace(&mut history.events, Vec::new(alloc));
         put_channel(&mut channels, place, Channel::of_history(events));
     }
     Ok(channels)
@@ -77,20 +70,6 @@ fn put_channel<A: Allocator>(channels: &mut [Channel<A>], place: usize, channel:
     ensures { channels.new ≡ slice_set channels.old place channel }
 {
     channels[place] = channel;
-}
-
-/// Takes the events of the history at a place, and leaves none there.
-fn take_events<A: Allocator>(
-    alloc: A,
-    histories: &mut Vec<EventsByNumber<A>, A>,
-    place: usize,
-) -> Vec<Event, A>
-    requires { place < length histories.old.items }
-    ensures events { result.items ≡ slice_index_or histories.old.items place [] }
-    ensures taken { histories.new.items ≡ slice_set histories.old.items place [] }
-{
-    let history = &mut histories[place];
-    mem::replace(&mut history.events, Vec::new(alloc))
 }
 
 /// The histories of all channels in order, by one pass over the logs.
@@ -133,7 +112,8 @@ fn unrecorded_histories<A: Allocator + Copy>(
 {
     let mut unplaced = Vec::with_capacity(alloc, CHANNELS)?;
     for count in seen {
-        unplaced.push_reserved(EventsByNumber::unplaced(alloc, *count)?);
+        let events = vec![in alloc; Event::Disconnect; *count as usize]?;
+        unplaced.push_reserved(EventsByNumber { events });
     }
     Ok(unplaced)
 }

@@ -2,7 +2,7 @@
 
 ghost use Rattle.std.specs.Prelude.{◌≡◌, ◌<◌, ◌≤◌, ℕ, List, None};
 ghost use Rattle.pp_line.specs.Types.{Event, Reply};
-ghost use Rattle.pp_line.specs.ChannelWord.{history_word, number_in, flags_in, register_in, greatest_number, step_from, step_by, state_in, waiting_in, word_with, StepsFrom};
+ghost use Rattle.pp_line.specs.ChannelWord.{history_word, number_in, flags_in, greatest_number, step_from, state_in, waiting_in, word_with, StepsFrom};
 ghost use Rattle.pp_channel.specs.History.{IsLawful, HasTwelveBitWord, HasTwelveBitWords};
 
 use pp_channel::{ChanOp, ChannelState, Event, Flags, Reply, event_by, flags_after, reply_made};
@@ -49,18 +49,8 @@ pub fn advance(word: u64, op: ChanOp) -> WordStep
     }
     match event_by(&op, flags_in(word), waiting_in(word)) {
         Some(event) => WordStep::Next(word_with(word, &event), reply_made(&event), event),
-        None => step_shown(&op, word),
-    }
-}
-
-/// The step if an operation makes no event.
-fn step_shown(op: &ChanOp, word: u64) -> WordStep
-    ensures { result ≡ step_by op.now word None }
-{
-    if op.only_looks() {
-        WordStep::Look(flags_in(word))
-    } else {
-        WordStep::Held(flags_in(word))
+        None if op.only_looks() => WordStep::Look(flags_in(word)),
+        None => WordStep::Held(flags_in(word)),
     }
 }
 
@@ -98,17 +88,10 @@ fn waiting_in(word: u64) -> Option<Word12>
 {
     let Flags { active, full } = flags_in(word);
     if active && full {
-        Some(register_in(word))
+        Some(Word12::truncated((word % FULL) as u32))
     } else {
         None
     }
-}
-
-/// Its register.
-fn register_in(word: u64) -> Word12
-    ensures { result ≡ register_in word }
-{
-    Word12::truncated((word % FULL) as u32)
 }
 
 /// The word after an event.

@@ -1,5 +1,7 @@
 -- The lines of a history, one event after another.
-use Rattle.std.proofs.Common.{◌≡◌, ◌∙◌, ℕ, ◌+◌, ◌<◌, List, [], ◌∷◌, ◌++◌, length, take, slice_index_or, sym, ap, arith, add-one}
+use Rattle.std.proofs.Common.{◌≡◌, ◌∙◌, ℕ, ◌+◌, ◌<◌, List, [], ◌∷◌, ◌++◌, length, take, slice_index_or, Option, Some, None, refl, sym, ap, arith, add-one}
+use Rattle.std.specs.Prelude.{option_map, unwrap_or}
+use Rattle.pp_numbers.specs.PpNo.{processor_number}
 use Rattle.std.proofs.Math.Seq.{take-suc}
 use Rattle.std.proofs.lemmas.Grind.{flat_map-append}
 use Rattle.std.proofs.lemmas.List.{append-nil, length-take-le}
@@ -29,3 +31,12 @@ lines_go_on {Z} c i workers h e l at =
     let f : ℕ × Event → List ℕ = numbered_event_line c workers in
     sym (ap (flat_map f) (enumerate_more h i e l at) ∙ (flat_map-append f (enumerate_from 0 (take i h)) ((i, e) ∷ [])
     ∙ ap (λ line. flat_map f (enumerate_from 0 (take i h)) ++ line) (append-nil (line_by c i e (author_place c workers i)))))
+
+-- the author is the processor at the place of one worker, or there is none
+pub named_by : (place : Option ℕ) (author : ℕ) → Some author ≡ option_map processor_number place → (p : ℕ) × (place ≡ Some p) × (author ≡ processor_number p)
+named_by None author is = absurd (cc)
+named_by (Some p) author is = (p, refl, ap (λ (o : Option ℕ). unwrap_or o 0) is)
+
+pub no_author : (place : Option ℕ) → None ≡ option_map processor_number place → place ≡ None
+no_author None is = refl
+no_author (Some p) is = absurd (cc)

@@ -31,18 +31,11 @@ pub(crate) fn print_numbered_event<W: Write>(
         ++ line_end) }
     ensures fits { FitsItsLine (record { number = number; author = author; event = event }) }
 {
-    text.print(&channel_heading(c));
+    text.print(&channel_name(c));
+    text.print(b" ");
     let lower = print_upper_digits(text, number);
     text.print(&author_heading(lower, author));
     print_event_end(text, event);
-}
-
-/// `CH05 `
-fn channel_heading(c: ChannelNo) -> [u8; 5]
-    ensures { result ≡ codes "CH" ++ octal 2 c ++ codes " " }
-{
-    let [name0, name1, c0, c1] = channel_name(c);
-    [name0, name1, c0, c1, b' ']
 }
 
 /// `000001 PP00 `

@@ -1,22 +1,22 @@
 //! The whole printed text of a report.
 
-ghost use Rattle.std.specs.Prelude.{◌≡◌, ◌≢◌, ◌≤◌, ℕ, All, List, Option, Err, length, slice_get, IfSome, IsTrue, option_map};
+ghost use Rattle.std.specs.Prelude.{◌≡◌, ◌≢◌, ◌≤◌, ℕ, All, List, Err, length, slice_get, IfSome, IsTrue, option_map};
 ghost use Rattle.std.specs.List.{enumerate_from, flat_map};
 ghost use Rattle.pp_numbers.specs.ChannelNo.{all_channels, channel_count, names_channel};
 ghost use Rattle.pp_channel.specs.History.{history_on};
-ghost use Rattle.pp_numbers.specs.PpNo.{all_processors, processor_count, processor_index, processor_number, is_named};
+ghost use Rattle.pp_numbers.specs.PpNo.{all_processors, processor_count, processor_index, is_named};
 ghost use Rattle.pp_runner.specs.declared.worker.Worker.{Worker};
 ghost use Rattle.pp_report.specs.Authors.{AreAuthors, AreAuthorsOn};
 ghost use Rattle.pp_text.specs.TextWriter.{Prints};
 ghost use Rattle.pp_text.specs.PrintedText.{used_channel_line};
-ghost use Rattle.pp_report.specs.PrintedReport.{channel_events, line_by, named_worker_line, numbered_event_line, printed_report};
-ghost use Rattle.pp_report.specs.ReportLaw.{FitsItsEnd, FitsItsLine, FitsItsReport, shown_end, printed_by, printed_events};
+ghost use Rattle.pp_report.specs.PrintedReport.{channel_events, named_worker_line, numbered_event_line, printed_report};
+ghost use Rattle.pp_report.specs.ReportLaw.{FitsItsEnd, FitsItsLine, FitsItsReport, shown_end, printed_events};
 ghost use Rattle.pp_text.specs.TextLaw.{HistoryFits};
 ghost use Rattle.pp_text.specs.Written.{IsReportWritten, IsWritten};
 
 use crate::authors::{ChannelAuthors, authors};
 use crate::report_line::{print_numbered_event, print_worker_line};
-use pp_channel::{CHANNELS, Channel, ChannelNo, Event};
+use pp_channel::{CHANNELS, Channel, ChannelNo};
 use pp_machine::{PROCESSORS, PpNo};
 use pp_runner::{Report, Worker};
 use pp_text::{ReportFault, TextWriter, WriteFault, print_channel_line};
@@ -86,6 +86,7 @@ fn print_events<A: Allocator, W: Write>(
     }
 }
 
+/// Prints the line of each event that has an author.
 fn print_history<A: Allocator, W: Write>(
     text: &mut TextWriter<W>,
     c: ChannelNo,
@@ -99,29 +100,13 @@ fn print_history<A: Allocator, W: Write>(
         → All FitsItsLine (printed_events c workers channel.now) }
 {
     for (number, event) in channel.history().iter().enumerate() {
-        print_event_by(text, c, number, &authors.of(number), event);
+        if let Some(author) = authors.of(number) {
+            print_numbered_event(text, c, number as u64, author, *event);
+        }
     }
 }
 
-/// Prints the line of an event, if it has an author.
-fn print_event_by<W: Write>(
-    text: &mut TextWriter<W>,
-    c: ChannelNo,
-    number: usize,
-    author: &Option<PpNo>,
-    event: &Event,
-)
-    ensures text { (place : Option ℕ) → author.now ≡ option_map processor_number place
-        → Prints W.contents text.old text.new (line_by c number event.now place) }
-    ensures fits { (place : Option ℕ) → author.now ≡ option_map processor_number place
-        → IfSome (printed_by number event.now place) FitsItsLine }
-{
-    match author {
-        Some(author) => print_numbered_event(text, c, number as u64, *author, *event),
-        None => {}
-    }
-}
-
+/// Prints the line of each processor that is named and has a worker.
 fn print_workers<A: Allocator, W: Write>(
     text: &mut TextWriter<W>,
     workers: &[Worker<A>],
@@ -133,25 +118,11 @@ fn print_workers<A: Allocator, W: Write>(
         → IfSome (option_map shown_end (slice_get workers.now (processor_index n))) FitsItsEnd }
 {
     for place in 0..PROCESSORS {
-        print_named_worker(text, workers, named, PpNo::at(place));
-    }
-}
-
-/// Prints the line of a processor, if it is named and has a worker.
-fn print_named_worker<A: Allocator, W: Write>(
-    text: &mut TextWriter<W>,
-    workers: &[Worker<A>],
-    named: &[bool; PROCESSORS],
-    n: PpNo,
-)
-    ensures text { Prints W.contents text.old text.new
-        (named_worker_line named.now workers.now n) }
-    ensures fits { IsTrue (is_named named.now n)
-        → IfSome (option_map shown_end (slice_get workers.now (processor_index n))) FitsItsEnd }
-{
-    if named[n.index()] {
-        if let Some(worker) = workers.get(n.index()) {
-            print_worker_line(text, n, worker);
+        let n = PpNo::at(place);
+        if named[n.index()] {
+            if let Some(worker) = workers.get(n.index()) {
+                print_worker_line(text, n, worker);
+            }
         }
     }
 }

@@ -21,8 +21,7 @@ pub fn run_observed<A: Allocator, O: Observer<A>>(
     ensures seen { OnOk result (O.HasSeen observer.old
         (run_steps (barrel machine.old.profile turns) machine.old) observer.new) }
     // A run is cut only when an event or a step had to be kept.
-    ensures cut_at { IfErr result (λ c.
-        IsCutAt (O.Keeps observer.old) turns machine.old c.done) }
+    ensures cut_at { IfErr result (λ c. IsCutAt (O.Keeps observer.old) turns machine.old c.done) }
     // An observer that keeps no step has seen those that were made.
     ensures unkept { IfErr result (λ c. ((step : RunStep) → ¬ O.Keeps observer.old step)
         → O.HasSeen observer.old (run_steps (barrel machine.old.profile c.done) machine.old)

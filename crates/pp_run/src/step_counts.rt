@@ -13,7 +13,7 @@ use pp_machine::{Cut, Machine, Outcome, PROCESSORS, PpNo};
 use std::alloc::Allocator;
 
 /// How many steps of a processor did what (decimal).
-#[derive(Clone, Copy)]
+#[derive(Clone, Copy, Default)]
 pub struct StepCounts {
     /// Steps in which it went on, stopped, or ended in a fault.
     pub moved: u32,
@@ -26,14 +26,6 @@ pub struct StepCounts {
 }
 
 impl StepCounts {
-    /// No steps.
-    const NONE: StepCounts = StepCounts {
-        moved: 0,
-        held: 0,
-        at_rest: 0,
-        last_held: 0,
-    };
-
     /// Those with a step more.
     fn with(self, outcome: Outcome) -> StepCounts
         ensures { (steps : List Outcome) → length steps + 1 < 2 ^ 32 → self ≡ counts_of steps
@@ -66,7 +58,7 @@ pub fn run_counting_steps<A: Allocator>(
         counts ≡ each_step_counts (run_steps (barrel machine.old.profile turns) machine.old)) }
     ensures cut_at_event { IfErr result (λ c. IsCutAtEvent turns machine.old c.done) }
 {
-    let mut counts = EachStepCounts([StepCounts::NONE; PROCESSORS]);
+    let mut counts = EachStepCounts([StepCounts::default(); PROCESSORS]);
     run_observed(machine, turns, &mut counts)?;
     Ok(counts.0)
 }

@@ -1,6 +1,6 @@
 //! A worker, from its load to its end.
 
-ghost use Rattle.std.specs.Prelude.{◌≡◌, ◌<◌, ◌≤◌, ◌+◌, ◌-◌, ◌*◌, ◌^◌, ◌++◌, ◌∷◌, [], true, ℕ, List, length, vec_len, vec_capacity, IfOk, IfSome, IfNone, OnErr};
+ghost use Rattle.std.specs.Prelude.{◌≡◌, ◌<◌, ◌≤◌, ◌+◌, ◌-◌, ◌*◌, ◌^◌, ℕ, List, length, vec_len, vec_capacity, IfOk, IfSome, IfNone, OnErr};
 ghost use Rattle.pp_line.specs.LineLog.{seen_on};
 ghost use Rattle.pp_runner.specs.Types.{Answer, Entry};
 ghost use Rattle.pp_machine.specs.NeedAndEffect.{need};
@@ -60,21 +60,8 @@ fn ask<A: Allocator + Copy>(line: &mut Line<A>, needed: Need) -> Result<Answer, 
 }
 
 impl<A: Allocator + Copy> Labour<A> {
-    /// Notes that the answer moved the processor: a look that gave it stays in the log.
-    fn note(&mut self, answer: Answer)
-        requires { vec_len self.old.answers < vec_capacity self.old.answers }
-        ensures items { self.new.answers.items ≡ self.old.answers.items ++ (answer ∷ []) }
-        ensures len { vec_len self.new.answers ≡ vec_len self.old.answers + 1 }
-        ensures line { self.new.line
-            ≡ record self.old.line { log = record self.old.line.log { kept = true } } }
-        ensures pp { self.new.pp ≡ self.old.pp }
-        ensures tries { self.new.tries ≡ self.old.tries }
-    {
-        self.line.keep();
-        self.answers.push_reserved(answer);
-    }
-
-    /// One try of the next step. Its answer is kept only if the processor moves.
+    /// One try of the next step. Its answer is kept only if the processor moves, and with it the
+    /// look that gave it.
     fn try_step(&mut self, site: &Site<A>, load: &Pp) -> Try
         requires running { self.old.pp.state ≡ PpState.Running }
         requires steps_left { vec_len self.old.answers < site.now.limits.steps }
@@ -103,7 +90,8 @@ impl<A: Allocator + Copy> Labour<A> {
             Ok(answer) => match self.pp.give_next(&next, d, *answer) {
                 Outcome::Held => Try::Held,
                 Outcome::Moved => {
-                    self.note(*answer);
+                    self.line.keep();
+                    self.answers.push_reserved(*answer);
                     Try::Moved
                 }
                 Outcome::AtRest => unreachable!(),

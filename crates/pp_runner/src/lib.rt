@@ -2,7 +2,6 @@
 //! memory.
 #![tactic(auto)]
 
-mod banks;
 mod crew;
 mod end;
 mod gate;

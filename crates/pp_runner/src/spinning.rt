@@ -41,17 +41,10 @@ impl Spinning {
         ensures most { (result.most ≡ 1) ⊎ (result.most ≡ MOST) }
         ensures tries { result.tries ≡ result.most }
     {
-        match thread::available_parallelism(rt) {
-            Ok(cores) if cores.get() == 1 => Spinning::new(1),
-            _ => Spinning::new(MOST),
-        }
-    }
-
-    fn new(most: u32) -> Self
-        requires { 1 ≤ most }
-        ensures most { result.most ≡ most }
-        ensures tries { result.tries ≡ most }
-    {
+        let most = match thread::available_parallelism(rt) {
+            Ok(cores) if cores.get() == 1 => 1,
+            _ => MOST,
+        };
         Spinning {
             most,
             tries: most,

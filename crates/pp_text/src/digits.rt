@@ -3,17 +3,10 @@
 ghost use Rattle.std.specs.Prelude.{◌≡◌, ◌<◌, ◌^◌};
 ghost use Rattle.pp_word.specs.Numeral.{decimal_pairs, digits, octal};
 
-/// The last octal digit of a number.
-pub fn octal1(n: u8) -> [u8; 1]
-    ensures { result ≡ octal 1 n }
-{
-    [b'0' + n % 8]
-}
-
 // Each event's line has some of these fields: octal digits are put together in one register,
 // decimal ones come from a table.
 
-/// The last two octal digits.
+/// The last two octal digits of a number.
 pub fn octal2(n: u8) -> [u8; 2]
     ensures { result ≡ octal 2 n }
 {

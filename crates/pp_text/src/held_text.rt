@@ -1,6 +1,6 @@
 //! What holds a processor, in words.
 
-ghost use Rattle.pp_text.specs.Standing.{channel_held_text, count_text, flags_text};
+ghost use Rattle.pp_text.specs.Standing.{channel_held_text, flags_text};
 ghost use Rattle.pp_text.specs.TextWriter.{Prints};
 
 use crate::numbers::print_unpadded;
@@ -18,7 +18,10 @@ pub fn print_held_text<W: Write>(text: &mut TextWriter<W>, c: ChannelNo, flags: 
     text.print(&channel_name(c));
     text.print(b" ");
     print_flags_text(text, flags);
-    print_count(text, count);
+    if count != 0 {
+        text.print(b" x");
+        print_unpadded(text, 10, u64::from(count));
+    }
 }
 
 /// Prints `ACTIVE FULL`, `ACTIVE EMPTY` or `INACTIVE`.
@@ -35,15 +38,5 @@ pub fn print_flags_text<W: Write>(text: &mut TextWriter<W>, flags: Flags)
             full: false,
         } => text.print(b"ACTIVE EMPTY"),
         Flags { active: false, .. } => text.print(b"INACTIVE"),
-    }
-}
-
-/// Prints ` x376`, or nothing for 0.
-fn print_count<W: Write>(text: &mut TextWriter<W>, count: u32)
-    ensures { Prints W.contents text.old text.new (count_text count) }
-{
-    if count != 0 {
-        text.print(b" x");
-        print_unpadded(text, 10, u64::from(count));
     }
 }

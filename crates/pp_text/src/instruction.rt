@@ -1,6 +1,6 @@
 //! The text of an instruction.
 
-ghost use Rattle.std.specs.Prelude.{◌≡◌, ◌≤◌, ◌++◌, ℕ, codes, length, take};
+ghost use Rattle.std.specs.Prelude.{◌≡◌, ◌++◌, codes};
 ghost use Rattle.pp_text.specs.InstructionText.{block_text, instruction_text, operands_text, running_text};
 ghost use Rattle.pp_text.specs.PrintedText.{padded};
 ghost use Rattle.pp_text.specs.TextWriter.{Prints};
@@ -23,17 +23,7 @@ pub fn print_running<W: Write>(
 )
     ensures { Prints W.contents text.old text.new (running_text block place word m) }
 {
-    let columns = running_length(&block, word);
-    let field = running_field(block, place, word, m);
-    print_front(text, &field, columns);
-}
-
-/// Prints the first columns of a field.
-fn print_front<W: Write>(text: &mut TextWriter<W>, field: &[u8; 13], columns: usize)
-    requires { columns ≤ 13 }
-    ensures { Prints W.contents text.old text.new (take columns field.now) }
-{
-    text.print(&field[..columns]);
+    text.print(running_field(block, place, word, m).trim_ascii_end());
 }
 
 /// The text of the instruction that runs, in 13 columns: `IAM 05       `, of the block in progress;
@@ -47,17 +37,6 @@ pub fn running_field(block: Option<Block>, place: Word12, word: Word12, m: Word1
     }
 }
 
-/// How many columns of the field the text takes.
-fn running_length(block: &Option<Block>, word: Word12) -> usize
-    ensures length { (place m : ℕ) → result ≡ length (running_text block.now place word m) }
-    ensures most { result ≤ 13 }
-{
-    match block {
-        Some(block) => block_length(&block.kind),
-        None => instruction_length(word),
-    }
-}
-
 /// `IAM 05       `, of a block in progress.
 fn block_field(kind: BlockKind) -> [u8; 13]
     ensures { result ≡ padded 13 (block_text kind) }
@@ -67,16 +46,6 @@ fn block_field(kind: BlockKind) -> [u8; 13]
         BlockKind::Output { channel } => channel_field(*b"OAM", octal2(channel.get())),
         BlockKind::CentralIn { .. } => *b"CRM          ",
         BlockKind::CentralOut { .. } => *b"CWM          ",
-    }
-}
-
-fn block_length(kind: &BlockKind) -> usize
-    ensures length { result ≡ length (block_text kind.now) }
-    ensures most { result ≤ 13 }
-{
-    match kind {
-        BlockKind::Input { .. } | BlockKind::Output { .. } => 6,
-        BlockKind::CentralIn { .. } | BlockKind::CentralOut { .. } => 3,
     }
 }
 
@@ -103,14 +72,6 @@ fn instruction_field(place: Word12, word: Word12, m: Word12) -> [u8; 13]
     ]
 }
 
-fn instruction_length(word: Word12) -> usize
-    ensures length { (place m : ℕ) → result ≡ length (instruction_text place word m) }
-    ensures most { result ≤ 13 }
-{
-    let (operation, d) = decode(word);
-    4 + operands_length(Operands::of(operation), d)
-}
-
 /// `0300,05  `
 fn operands_field(operands: Operands, place: Word12, d: Word6, m: Word12) -> [u8; 9]
     ensures { result ≡ padded 9 (operands_text operands place d m) }
@@ -125,19 +86,6 @@ fn operands_field(operands: Operands, place: Word12, d: Word6, m: Word12) -> [u8
         Operands::JumpPlace => alone(octal4(relative(place, d).get())),
         Operands::Constant => [d0, d1, m0, m1, m2, m3, b' ', b' ', b' '],
         Operands::Number => [d0, d1, b' ', b' ', b' ', b' ', b' ', b' ', b' '],
-    }
-}
-
-fn operands_length(operands: Operands, d: Word6) -> usize
-    ensures length { (place m : ℕ) → result ≡ length (operands_text operands place d m) }
-    ensures most { result ≤ 9 }
-{
-    match operands {
-        Operands::IndexedPlace if d.get() == 0 => 4,
-        Operands::IndexedPlace | Operands::PlaceAndNumber => 7,
-        Operands::JumpPlace => 4,
-        Operands::Constant => 6,
-        Operands::Number => 2,
     }
 }
 

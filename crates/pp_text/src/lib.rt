@@ -9,7 +9,6 @@ mod laws;
 mod machine_text;
 mod numbers;
 mod operands;
-mod piece;
 mod printed_line;
 mod report_fault;
 mod standing;

@@ -60,22 +60,10 @@ fn print_processors<A: Allocator, W: Write>(
         → ProcessorFits (processor_of n machine.now) }
 {
     for place in 0..PROCESSORS {
-        print_named_processor(text, machine, named, PpNo::at(place));
-    }
-}
-
-fn print_named_processor<A: Allocator, W: Write>(
-    text: &mut TextWriter<W>,
-    machine: &Machine<A>,
-    named: &[bool; PROCESSORS],
-    n: PpNo,
-)
-    ensures text { Prints W.contents text.old text.new
-        (named_processor_line named.now machine.now n) }
-    ensures fits { IsTrue (is_named named.now n) → ProcessorFits (processor_of n machine.now) }
-{
-    if named[n.index()] {
-        print_processor(text, n, machine.pp(n));
+        let n = PpNo::at(place);
+        if named[n.index()] {
+            print_processor(text, n, machine.pp(n));
+        }
     }
 }
 

@@ -4,8 +4,7 @@ ghost use Rattle.std.specs.Prelude.{◌≡◌, ◌↔◌, IsTrue};
 ghost use Rattle.pp_machine.specs.MachineState.{processor_of};
 ghost use Rattle.pp_machine.specs.MachineStep.{step_outcome};
 ghost use Rattle.pp_machine.specs.NeedAndEffect.{need};
-ghost use Rattle.pp_text.specs.InstructionText.{running_instruction};
-ghost use Rattle.pp_text.specs.Standing.{block_place_text, held_text, standing};
+ghost use Rattle.pp_text.specs.Standing.{held_text, standing};
 ghost use Rattle.pp_text.specs.TextWriter.{Prints};
 
 use crate::digits::octal4;
@@ -14,14 +13,14 @@ use crate::instruction::print_running;
 use crate::state_text::print_state_text;
 use crate::text_writer::TextWriter;
 use pp_channel::{ChanOp, ChannelNo};
-use pp_machine::{Block, Machine, Need, Outcome, Pp, PpNo};
+use pp_machine::{Machine, Need, Outcome, PpNo};
 use pp_word::next;
 use std::alloc::Allocator;
 use std::io::Write;
 
 /// Prints `RUNNING IAN 01 HELD CH01 ACTIVE EMPTY x376`, what the line of a processor says after its
 /// registers, where this many of its last steps in a row (decimal) were held. A count of 0 is left
-/// out.
+/// out. If a block is in progress, ` BLOCK 0302` stands before ` HELD`.
 pub fn print_standing<A: Allocator, W: Write>(
     text: &mut TextWriter<W>,
     machine: &Machine<A>,
@@ -33,27 +32,13 @@ pub fn print_standing<A: Allocator, W: Write>(
     let pp = machine.pp(n);
     print_state_text(text, pp.state());
     text.print(b" ");
-    print_instruction(text, pp);
-    print_block_place(text, pp.block());
-    print_held(text, machine, n, count);
-}
-
-/// Prints the text of the instruction that runs.
-fn print_instruction<W: Write>(text: &mut TextWriter<W>, pp: &Pp)
-    ensures { Prints W.contents text.old text.new (running_instruction pp.now) }
-{
     let place = pp.p();
     print_running(text, pp.block(), place, pp.get(place), pp.get(next(place)));
-}
-
-/// Prints ` BLOCK 0302`, if a block is in progress.
-fn print_block_place<W: Write>(text: &mut TextWriter<W>, block: Option<Block>)
-    ensures { Prints W.contents text.old text.new (block_place_text block) }
-{
-    if let Some(block) = block {
+    if let Some(block) = pp.block() {
         text.print(b" BLOCK ");
         text.print(&octal4(block.place.get()));
     }
+    print_held(text, machine, n, count);
 }
 
 /// Prints ` HELD CH01 ACTIVE EMPTY x376`, if the next step of the processor is held.
@@ -82,10 +67,7 @@ fn is_held<A: Allocator>(machine: &Machine<A>, n: PpNo, c: ChannelNo, operation:
     ensures { IsTrue result ↔ (step_outcome n machine.now ≡ Outcome.Held) }
 {
     let channel = machine.channel(c);
-    if operation.only_looks() {
-        return false;
-    }
-    if channel.next_event(&operation).is_some() {
+    if operation.only_looks() || channel.next_event(&operation).is_some() {
         return false;
     }
     match machine.pp(n).block() {

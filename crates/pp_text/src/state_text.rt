@@ -7,7 +7,7 @@ ghost use Rattle.pp_text.specs.PrintedText.{channel_line, channel_text, state_te
 ghost use Rattle.pp_text.specs.TextLaw.{HistoryFits};
 ghost use Rattle.pp_text.specs.TextWriter.{Prints};
 
-use crate::digits::{octal1, octal2, octal4, octal6};
+use crate::digits::{octal2, octal4, octal6};
 use crate::text_writer::TextWriter;
 use pp_channel::{Channel, ChannelNo};
 use pp_machine::{Pp, PpNo, PpState};
@@ -62,7 +62,7 @@ pub fn print_fault_text<W: Write>(text: &mut TextWriter<W>, number: u8)
     ensures { Prints W.contents text.old text.new (codes "FAULT " ++ octal 1 number) }
 {
     text.print(b"FAULT ");
-    text.print(&octal1(number));
+    text.print(&[b'0' + number % 8]);
 }
 
 /// Prints `ACTIVE FULL 0007`, `ACTIVE EMPTY` or `INACTIVE`.

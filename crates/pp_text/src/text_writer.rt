@@ -1,10 +1,46 @@
 //! A writer that gets a text in pieces.
 
-ghost use Rattle.std.specs.Prelude.{◌≡◌, ◌≤◌, ℕ, List, [], length, Option};
+ghost use Rattle.std.specs.Prelude.{◌≡◌, ◌≤◌, ◌+◌, ◌++◌, ℕ, List, [], length, Option};
+ghost use Rattle.pp_text.specs.Piece.{piece_length};
 
-use crate::piece::Piece;
 use crate::write_fault::{WriteFault, write_bytes};
 use std::io::Write;
+use std::marker::Model;
+
+/// The most bytes that a piece holds (decimal).
+const PIECE_LENGTH: usize = 8192;
+
+/// The bytes of a text that are held back, to be written at once. It takes no memory. Contracts see
+/// the list of its bytes.
+#[derive(Drop)]
+struct Piece {
+    bytes: [u8; PIECE_LENGTH],
+    filled: usize,
+}
+
+impl Model for Piece {
+    ghost use Rattle.std.specs.Prelude.{ℕ, ◌≤◌, List, take};
+    ghost use Rattle.pp_text.specs.Piece.{piece_length};
+
+    ghost Value = { List ℕ };
+
+    ghost view = { λ p. take p.filled p.bytes };
+
+    ghost invariant = { λ p. p.filled ≤ piece_length };
+}
+
+impl Piece {
+    /// Adds these bytes.
+    #[inline]
+    fn push(&mut self, bytes: &[u8])
+        requires { length self.old + length bytes.now ≤ piece_length }
+        ensures { self.new ≡ self.old ++ bytes.now }
+    {
+        let end = self.filled + bytes.len();
+        self.bytes[self.filled..end].copy_from_slice(bytes);
+        self.filled = end;
+    }
+}
 
 /// Holds back what is printed until a piece is full, and then writes it. A writer that has failed
 /// is not written to again, and what is printed then is lost.
@@ -17,7 +53,6 @@ pub struct TextWriter<'a, W> {
 
 impl<'a, W: Write> TextWriter<'a, W> {
     ghost use Rattle.pp_text.specs.TextWriter.{HasPrinted, Prints};
-    ghost use Rattle.pp_text.specs.Piece.{piece_length};
     ghost use Rattle.pp_text.specs.Written.{IsWritten};
 
     /// Prints to this writer. Nothing is printed yet.
@@ -27,7 +62,10 @@ impl<'a, W: Write> TextWriter<'a, W> {
     {
         TextWriter {
             writer,
-            piece: Piece::new(),
+            piece: Piece {
+                bytes: [0; PIECE_LENGTH],
+                filled: 0,
+            },
             failed: false,
         }
     }
@@ -38,7 +76,7 @@ impl<'a, W: Write> TextWriter<'a, W> {
         requires { length bytes.now ≤ piece_length }
         ensures { Prints W.contents self.old self.new bytes.now }
     {
-        if self.piece.room() < bytes.len() {
+        if PIECE_LENGTH - self.piece.filled < bytes.len() {
             self.write_piece();
         }
         self.piece.push(bytes);
@@ -50,9 +88,9 @@ impl<'a, W: Write> TextWriter<'a, W> {
         ensures empty { self.new.piece ≡ [] }
     {
         if !self.failed {
-            self.failed = write_bytes(self.writer, self.piece.as_slice()).is_err();
+            self.failed = write_bytes(self.writer, &self.piece.bytes[..self.piece.filled]).is_err();
         }
-        self.piece.clear();
+        self.piece.filled = 0;
     }
 
     /// Ends the text: writes what is held back, and flushes the writer.

@@ -17,9 +17,8 @@ pub(crate) fn write_bytes<W: Write>(writer: &mut W, bytes: &[u8]) -> Result<(), 
     let mut done = 0;
     while done < bytes.len() {
         match writer.write(&bytes[done..]) {
-            Ok(0) => return Err(WriteFault),
+            Ok(0) | Err(_) => return Err(WriteFault),
             Ok(count) => done += count,
-            Err(_) => return Err(WriteFault),
         }
     }
     Ok(())

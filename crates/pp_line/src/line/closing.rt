@@ -56,7 +56,7 @@ impl<A: Allocator + Copy> Line<A> {
             logs.push_reserved((value, log));
         }
         words.check_shares(ChannelNo::at(0));
-        let channels = recorded_channels(alloc, log.entries(), logs.as_slice(), &seen)?;
+        let channels = recorded_channels(alloc, log.entries.as_slice(), logs.as_slice(), &seen)?;
         Ok(Closed { logs, channels })
     }
 }
@@ -78,5 +78,5 @@ fn absorb<A: Allocator + Copy>(
     words.join(other.words);
     words.check_shares(ChannelNo::at(0));
     *seen = greater_of_each(seen, &other.seen);
-    other.log.into_entries()
+    other.log.entries
 }

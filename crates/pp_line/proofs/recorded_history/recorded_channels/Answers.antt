@@ -1,5 +1,5 @@
-use Rattle.std.proofs.Common.{rules, List, length, [], get_or, arith, ap, subst, sym, ◌∙◌}
-use Rattle.std.proofs.lemmas.List.{ext_get_or, length-set, get_or-set_other}
+use Rattle.std.proofs.Common.{◌≡◌, rules, Vec, List, length, [], get_or, arith, ap, subst, sym, ◌∙◌}
+use Rattle.std.proofs.lemmas.List.{ext_get_or, get_or_read, length-set, get_or-set_other}
 use Rattle.pp_channel.specs.History.{IsLawful, HasTwelveBitWords}
 use Rattle.pp_channel.specs.declared.event.Event.{Event}
 use Rattle.pp_channel.proofs.EachHistory.{lawful_at, bits_at}
@@ -9,7 +9,10 @@ use Rattle.pp_line.proofs.recorded_history.recorded_channels.Goals as goal
 pub of_history-requires : goal.of_history-requires
 of_history-requires g c =
     let told = c.requires in
-    let is = c.take_events-events.ensures.events ∙ c.loop-place.invariant.left told.0 told.1 c.loop-place.place (omega arith) in record {
+    let taken : c.replace-events.result.items ≡ get_or c.loop-place.histories.items c.loop-place.place [] =
+    ap (λ (v : Vec Event g.row.A.Denot). v.items) c.replace-events.ensures.value ∙ (c.history.view_is
+    ∙ get_or_read c.loop-place.histories.items c.loop-place.place c.index_mut-history.result.now (omega (arith, c.loop-place.invariant.each_history, c.loop-place-test.true)) c.index_mut-history.ensures.value []) in
+    let is = taken ∙ c.loop-place.invariant.left told.0 told.1 c.loop-place.place (omega arith) in record {
       lawful = subst (λ (h : List Event). IsLawful h) (sym is) (lawful_at told.0 c.loop-place.place told.1.sound.lawful);
       twelve_bits = subst (λ (h : List Event). HasTwelveBitWords h) (sym is) (bits_at told.0 c.loop-place.place told.1.sound.twelve_bits);
     }
@@ -28,14 +31,16 @@ loop-place-preserved g c =
     let channels = c.loop-place.channels in
     let place = c.loop-place.place in
     let histories = c.loop-place.histories.items in
+    let taken : c.replace-events.result.items ≡ get_or c.loop-place.histories.items c.loop-place.place [] =
+    ap (λ (v : Vec Event g.row.A.Denot). v.items) c.replace-events.ensures.value ∙ (c.history.view_is
+    ∙ get_or_read c.loop-place.histories.items c.loop-place.place c.index_mut-history.result.now (omega (arith, c.loop-place.invariant.each_history, c.loop-place-test.true)) c.index_mut-history.ensures.value []) in
     let before = c.loop-place.invariant in record {
       each = ap length c.put_channel.ensures ∙ (length-set channels place c.of_history.result ∙ before.each);
-      each_history = ap length c.take_events-events.ensures.taken ∙ (length-set histories place [] ∙ before.each_history);
+      each_history = length-set histories place _ ∙ before.each_history;
       done = λ hs told k below. ap (λ all. get_or all k []) c.put_channel.ensures
           ∙ placed_more [] channels place c.of_history.result (λ i. get_or hs i []) (omega (arith, before.each, c.loop-place-test.true)) (before.done hs told)
-          (c.of_history.ensures ∙ (c.take_events-events.ensures.events ∙ before.left hs told place (omega arith))) k below;
-      left = λ hs told k above. ap (λ all. get_or all k []) c.take_events-events.ensures.taken
-          ∙ (get_or-set_other histories place k [] [] (λ is. omega (arith, is, above)) ∙ before.left hs told k (omega (arith, above)));
+          (c.of_history.ensures ∙ (taken ∙ before.left hs told place (omega arith))) k below;
+      left = λ hs told k above. get_or-set_other histories place k _ [] (λ is. omega (arith, is, above)) ∙ before.left hs told k (omega (arith, above));
     }
 
 pub returns : goal.returns

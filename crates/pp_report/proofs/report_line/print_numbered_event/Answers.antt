@@ -22,5 +22,5 @@ numbered_line_in_pieces heading c number author said is =
 pub returns-clause-text : goal.returns-clause-text
 returns-clause-text g c =
     prints_on _ _ _ _ _ _ _
-    ((rw c.channel_heading.ensures at c.print.ensures) ▹ c.print_upper_digits-lower.ensures.text ▹ c.print-2.ensures) c.print_event_end.ensures.text
+    ((rw c.channel_name.ensures at c.print.ensures) ▹ c.print-2.ensures ▹ c.print_upper_digits-lower.ensures.text ▹ c.print-3.ensures) c.print_event_end.ensures.text
     (numbered_line_in_pieces _ c.args.c c.args.number c.args.author _ (rw c.print_upper_digits-lower.ensures.rest at c.author_heading.ensures.text))

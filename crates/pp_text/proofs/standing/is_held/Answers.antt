@@ -5,14 +5,15 @@ use Rattle.pp_machine.specs.Processor.{Processor}
 use Rattle.pp_machine.specs.declared.block.Block.{Block}
 use Rattle.pp_text.proofs.HeldLemmas.{test_looked, test_made, test_none, goes_on}
 use Rattle.pp_text.proofs.standing.is_held.Goals as goal
+use Rattle.pp_text.proofs.standing.is_held.Goals.{then-only_looks-via-then-only_looks, then-only_looks-via-else-only_looks+then-is_some}
 
 pub returns-then-only_looks : goal.returns-then-only_looks
-returns-then-only_looks g c = test_looked c.args.n c.args.c c.args.operation c.args.machine.now c.requires (sym c.only_looks.ensures.value ∙ c.if-only_looks.true)
-
-pub returns-then-is_some : goal.returns-then-is_some
-returns-then-is_some g c =
-    test_made c.args.n c.args.c c.args.operation c.args.machine.now c.next_event.result c.channel-channel.result.now
-    c.requires c.channel-channel.ensures.value c.next_event.ensures.event (sym c.is_some.ensures ∙ c.if-is_some.true)
+returns-then-only_looks g c = elim c.then-only_looks.branch [
+  | then-only_looks-via-then-only_looks w ↦ test_looked c.args.n c.args.c c.args.operation c.args.machine.now c.requires (sym c.only_looks.ensures.value ∙ w.if-only_looks.true)
+  | then-only_looks-via-else-only_looks+then-is_some w ↦
+      test_made c.args.n c.args.c c.args.operation c.args.machine.now w.next_event.result c.channel-channel.result.now
+      c.requires c.channel-channel.ensures.value w.next_event.ensures.event (sym w.is_some.ensures ∙ w.if-is_some.true)
+]
 
 pub returns-in-None : goal.returns-in-None
 unfolding goes_on

@@ -5,6 +5,7 @@ use Rattle.pp_line.specs.Merge.{IsRecordedBy}
 use Rattle.pp_line.specs.LineState.{LineState, AreClosed, AreInOneOrder}
 use Rattle.pp_line.specs.LineSteps.{IsLogOf}
 use Rattle.pp_line.specs.LineView.{Knows}
+use Rattle.pp_line.specs.declared.line.Line.TheInside.{Inside}
 use Rattle.pp_line.proofs.LineKeeping.{log_of_same}
 use Rattle.pp_line.proofs.LineKnowledge.{knows_by_log}
 use Rattle.pp_line.proofs.LineAnswers.{told_whole, closed_by}
@@ -21,7 +22,7 @@ recorded_channels-requires g c =
     let tells = c.check_shares.ensures.tells.1 in
     let all = ap (λ (line : LineState). line.view.shares) c.self.view_is ∙ (c.requires ∙ sym (ap (λ (line : LineState). line.view.whole) c.self.view_is)) in
     let told = told_whole c.self.invariant.3 tells all in
-    (search rules, (tells.histories, alone _ tells.histories _ (rw (c.entries.ensures, c.self.invariant.0) told)))
+    (search rules, (tells.histories, alone _ tells.histories _ (rw (c.as_slice.ensures.value ∙ ap (λ (l : Inside g.row.A.Denot). l.log.entries) c.line-inside.view_is, ap (λ (l : Inside g.row.A.Denot). l.seen) c.line-inside.view_is ∙ c.self.invariant.0) told)))
 
 pub invariant_of-self : goal.invariant_of-self
 invariant_of-self g c =
@@ -37,7 +38,7 @@ returns-in-Ok g c =
     let tells = c.check_shares.ensures.tells.1 in
     let all = ap (λ (line : LineState). line.view.shares) c.self.view_is ∙ (c.requires ∙ sym (ap (λ (line : LineState). line.view.whole) c.self.view_is)) in
     let known = subst (λ (line : LineState). Knows line.view line.log.entries tells.histories) c.self.view_is (knows_by_log c.self.invariant.3 tells.known) in
-    let same = (c.in-Ok.ensures) tells.histories (alone _ tells.histories _ (rw (c.entries.ensures, c.self.invariant.0) (told_whole c.self.invariant.3 tells all))) in
+    let same = (c.in-Ok.ensures) tells.histories (alone _ tells.histories _ (rw (c.as_slice.ensures.value ∙ ap (λ (l : Inside g.row.A.Denot). l.log.entries) c.line-inside.view_is, ap (λ (l : Inside g.row.A.Denot). l.seen) c.line-inside.view_is ∙ c.self.invariant.0) (told_whole c.self.invariant.3 tells all))) in
     let program_orders = ap (λ (line : LineState). line.view.program_orders) c.self.view_is ∙ sym (append-nil c.args.self.view.program_orders) in
     let log_of = subst (λ (line : LineState). IsLogOf line.view line.log.entries) c.self.view_is c.self.invariant.3 in record {
       ok = subst (λ (hs : List (List Event)). AreClosed c.args.self hs) (sym same) (closed_by c.args.self tells.histories known c.requires);

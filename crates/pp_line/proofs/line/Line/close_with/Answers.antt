@@ -4,6 +4,7 @@ use Rattle.std.proofs.lemmas.Slice.Zip.{AllZip-long}
 use Rattle.std.proofs.lemmas.Iterator.Adapters.{YieldsList-from_vec}
 use Rattle.std.proofs.lemmas.Iterator.Consumers.{YieldsList-turn, YieldsList-end}
 use Rattle.pp_channel.specs.declared.event.Event.{Event}
+use Rattle.pp_line.specs.LineLog.{LogState}
 use Rattle.pp_line.specs.LineState.{LineState, all_joined, lines_of, IsLogBeside, AreClosed, AreInOneOrder}
 use Rattle.pp_line.specs.LineSteps.{IsLogOf}
 use Rattle.pp_line.proofs.JoinedLines.{AreAbsorbed, absorbed_none, absorbed_push, absorbed_told}
@@ -43,14 +44,14 @@ recorded_channels-requires g c =
     let all = YieldsList-end (YieldsList-from_vec c.args.others.items (search rules) (search rules)) c.loop-value.yielded c.loop-value.value-iterator c.loop-value.yielded_by _ c.next.new.self c.in-None.is c.next.ensures.steps in
     let absorbed = subst (λ pairs. AreAbsorbed c.args.self pairs c.loop-value.words.seat.me.0 c.loop-value.seen c.loop-value.logs.items) (sym (map-id c.loop-value.yielded) ∙ all.0) c.loop-value.invariant.absorbed in
     let told = absorbed_told absorbed (subst (λ (l : LineState). IsLogOf l.view l.log.entries) c.self.view_is c.self.invariant.3) c.requires.shares c.check_shares.ensures.tells.1 in
-    (search rules, (c.check_shares.ensures.tells.1.histories, rw (c.entries.ensures ∙ ap (λ (l : LineState). l.log.entries) c.self.view_is, c.as_slice.ensures.value) told.recorded))
+    (search rules, (c.check_shares.ensures.tells.1.histories, rw (c.as_slice.ensures.value ∙ ap (λ (log : LogState). log.entries) c.log.view_is ∙ ap (λ (l : LineState). l.log.entries) c.self.view_is, c.as_slice-2.ensures.value) told.recorded))
 
 pub returns : goal.returns
 returns g c =
     let all = YieldsList-end (YieldsList-from_vec c.args.others.items (search rules) (search rules)) c.loop-value.yielded c.loop-value.value-iterator c.loop-value.yielded_by _ c.next.new.self c.in-None.is c.next.ensures.steps in
     let absorbed = subst (λ pairs. AreAbsorbed c.args.self pairs c.loop-value.words.seat.me.0 c.loop-value.seen c.loop-value.logs.items) (sym (map-id c.loop-value.yielded) ∙ all.0) c.loop-value.invariant.absorbed in
     let told = absorbed_told absorbed (subst (λ (l : LineState). IsLogOf l.view l.log.entries) c.self.view_is c.self.invariant.3) c.requires.shares c.check_shares.ensures.tells.1 in
-    let same = c.in_ok-channels.ensures c.check_shares.ensures.tells.1.histories (rw (c.entries.ensures ∙ ap (λ (l : LineState). l.log.entries) c.self.view_is, c.as_slice.ensures.value) told.recorded) in record {
+    let same = c.in_ok-channels.ensures c.check_shares.ensures.tells.1.histories (rw (c.as_slice.ensures.value ∙ ap (λ (log : LogState). log.entries) c.log.view_is ∙ ap (λ (l : LineState). l.log.entries) c.self.view_is, c.as_slice-2.ensures.value) told.recorded) in record {
       channels = subst (AreClosed (all_joined c.args.self (lines_of c.args.others.items))) (sym same) told.closed;
       order = subst (λ (hs : List (List Event)). AreInOneOrder c.args.self.view.central hs (c.args.self ∷ lines_of c.args.others.items)) (sym same) told.in_order;
       logs = absorbed.logs_are;
