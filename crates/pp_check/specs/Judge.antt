@@ -28,8 +28,7 @@ standing_of channels c = slice_index_or channels (channel_index c) new_standing
 abbrev pub next_number : Standing → ℕ
 next_number s = if s.is_opened then s.events + 1 else s.events
 
--- The lines so far are lawful; the state of each channel is kept; and events and sessions are
--- counted.
+-- the lines so far are lawful; the state of each channel is kept; events and sessions are counted
 pub record KeepsEvents (opened : List Bool) (lines : List TraceLine)
     (standings : List Standing) (event_count session_count : ℕ) : Type 0 where
   pub lawful : IsLawfulTrace opened lines
