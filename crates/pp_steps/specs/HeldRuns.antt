@@ -8,7 +8,6 @@ use Rattle.pp_run.specs.BareMachine.{progress}
 use Rattle.pp_run.specs.declared.progress.Progress.{Progress}
 use Rattle.pp_run.specs.declared.progress.Progress.TheVariants.{AtRest, Held}
 
--- what a step did
 abbrev pub progress_of : RunStep → Progress
 progress_of step = progress step.processor step.before
 
@@ -33,8 +32,7 @@ goes_on last step = false
 abbrev pub last_of : List Progress → Progress
 last_of steps = fold (λ last step. step) AtRest steps
 
--- the times of one processor so far: how many steps each took that is over, how many the last one,
--- and the last step
+-- a processor's times so far: the steps of each that is over, those of the last, and the last step
 pub record HeldSpells : Type 0 where
   pub counts : List ℕ
   pub current : ℕ

@@ -21,8 +21,7 @@ one_place place = record { first = place; count = 1 }
 abbrev pub five_places : ℕ → Stores
 five_places place = record { first = place; count = 5 }
 
--- those of an instruction: a return address, an operand, the parts of a central word, and for the
--- start of a block place 0000
+-- of an instruction: a return address, an operand, the parts of a central word, or 0000 for a block
 abbrev pub instruction_stores : Opcode → Processor → ℕ → Stores
 instruction_stores RJM pp d = one_place (index pp d)
 instruction_stores STD pp d = one_place d
