@@ -1,5 +1,6 @@
 -- How long a processor is held each time.
-use Rattle.std.specs.Prelude.{ℕ, ◌+◌, Bool, true, false, ◌&&◌, List, [], ◌∷◌, ◌++◌, if◌then◌else◌}
+use Rattle.std.specs.Prelude.{ℕ, ◌+◌, Bool, false, ◌&&◌, List, [], ◌∷◌, ◌++◌, if◌then◌else◌}
+use Rattle.std.specs.Bool.{beq}
 use Rattle.std.specs.List.{fold, prefix_len}
 use Rattle.pp_channel.specs.declared.flags.Flags.{Flags}
 use Rattle.pp_numbers.specs.PpNo.{each_processor}
@@ -11,16 +12,9 @@ use Rattle.pp_run.specs.declared.progress.Progress.TheVariants.{AtRest, Held}
 abbrev pub progress_of : RunStep → Progress
 progress_of step = progress step.processor step.before
 
--- two flags that are the same
-abbrev pub same_flag : Bool → Bool → Bool
-same_flag true other = other
-same_flag false true = false
-same_flag false false = true
-
 -- whether a step is held with these flags
 abbrev pub is_held_with : Flags → Progress → Bool
-is_held_with flags (Held others) =
-    same_flag flags.active others.active && same_flag flags.full others.full
+is_held_with flags (Held others) = beq flags.active others.active && beq flags.full others.full
 is_held_with flags step = false
 
 -- whether a step is held like the last one
