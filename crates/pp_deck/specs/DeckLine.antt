@@ -85,9 +85,9 @@ unfoldable pub words_line : Field → Fields → Result Line Flaw
 words_line field fields =
     number 4 field >>= λ x. words_in 4 x place_count Flaw.PastEnd fields >>= λ ws. Ok (words x ws)
 
--- what a line says by this keyword, for this profile and size of central memory, after lines that
--- have fields or begin a section. `CENTRAL` comes before every line with fields; starts and words
--- stand in a section: a misplaced line has that flaw, whatever follows its first field
+-- what a line says by this keyword, for this profile and size of central memory, after lines of
+-- which some have fields or begin with `PP`. `CENTRAL` comes before every line with fields, and
+-- starts and words after a `PP`: a misplaced line has that flaw, whatever follows its first field
 abbrev pub line_by : Profile → ℕ → Bool → Bool → Keyword → Field → Fields → Result Line Flaw
 line_by _ _ is_after_fields _ Keyword.Central _ fields =
     if is_after_fields then Err Flaw.UnknownLine else central_line fields
