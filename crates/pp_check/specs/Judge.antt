@@ -24,8 +24,7 @@ new_standing = record { state = inactive; events = 0; is_opened = false }
 abbrev pub standing_of : List Standing → ℕ → Standing
 standing_of channels c = slice_index_or channels (channel_index c) new_standing
 
--- The lines so far are lawful; the state of each channel is kept; and events and sessions are
--- counted.
+-- the lines so far are lawful; the state of each channel is kept; events and sessions are counted
 pub record KeepsEvents (opened : List Bool) (lines : List TraceLine)
     (standings : List Standing) (event_count session_count : ℕ) : Type 0 where
   pub lawful : IsLawfulTrace opened lines

@@ -11,8 +11,6 @@ use Rattle.pp_check.specs.TraceLine.{parsed_line}
 use Rattle.pp_check.specs.declared.trace_line.TraceLine.{TraceLine}
 use Rattle.pp_check.specs.declared.trace_line.TraceLine.TheVariants.{AtTurn, Numbered, Standing, Other}
 
--- ---- events
-
 -- the event on channel c that a line reports, if it reports one
 abbrev pub event_on : ℕ → TraceLine → Option Event
 event_on c (AtTurn turn channel e) = if channel == c then Some e else None
@@ -35,8 +33,6 @@ opening opened c = if is_opened opened c then Activate ∷ [] else []
 abbrev pub history : List Bool → List TraceLine → ℕ → List Event
 history opened lines c = opening opened c ++ events_on c lines
 
--- ---- turns
-
 abbrev pub turn_of : TraceLine → Option ℕ
 turn_of (AtTurn turn channel e) = Some turn
 turn_of line = None
@@ -49,18 +45,14 @@ turns lines = filter_map turn_of lines
 unfoldable pub last_turn : List TraceLine → Option ℕ
 last_turn lines = last_or None (turns lines)
 
--- ---- lawful traces
-
--- A line fits those before it: its turn is greater than the last; its number counts the events of
--- its channel before it; its channel's state is the one that the events before it leave.
+-- a line fits those before it: a later turn; the number of events before; the state that they leave
 abbrev pub Fits : List Bool → List TraceLine → TraceLine → Type 0
 Fits opened before (AtTurn turn c e) = IfSome (last_turn before) (λ last. last < turn)
 Fits opened before (Numbered number c e) = number ≡ length (history opened before c)
 Fits opened before (Standing c state) = state ≡ channel_state (history opened before c)
 Fits opened before Other = Unit {0}
 
--- A trace is lawful if on each channel its events, in order, are a lawful history over the opening
--- of the channel, and each line fits those before it.
+-- each channel's events, in order, are a lawful history over its opening, and each line fits
 pub record IsLawfulTrace (opened : List Bool) (lines : List TraceLine) : Type 0 where
   pub histories : (c : ℕ) → IsLawful (history opened lines c)
   pub each_fits : (k : ℕ) → k < length lines

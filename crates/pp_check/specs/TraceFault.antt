@@ -10,9 +10,7 @@ use Rattle.pp_check.specs.declared.{trace_fault.TraceFault.TraceFault, trace_fau
 use Rattle.pp_check.specs.declared.trace_fault.TraceFlaw.TheVariants.{Malformed, TurnNotRising, WrongNumber, UnlawfulEvent, WrongState}
 use Rattle.pp_check.specs.declared.trace_line.TraceLine.TheVariants.{Numbered, Standing}
 
--- why a line may not come after lawful lines: its turn is not greater than the last; its number is
--- not the next of its channel; with its event the history of the channel is no longer lawful; its
--- channel's state is different
+-- why a line may not come after lawful lines
 abbrev pub IsFlawOf : List Bool → List TraceLine → TraceLine → TraceFlaw → Type 0
 IsFlawOf opened before line Malformed = ⊥
 IsFlawOf opened before line (TurnNotRising turn last) =
@@ -20,9 +18,8 @@ IsFlawOf opened before line (TurnNotRising turn last) =
 IsFlawOf opened before line (WrongNumber c number next) =
     ((e : Event) × (line ≡ Numbered number c e))
     × (next ≡ length (history opened before c)) × (number ≢ next)
-IsFlawOf opened before line (UnlawfulEvent c e state) =
-    Fits opened before line × (event_on c line ≡ Some e)
-    × (state ≡ channel_state (history opened before c))
+IsFlawOf opened before line (UnlawfulEvent c e state) = Fits opened before line
+    × (event_on c line ≡ Some e) × (state ≡ channel_state (history opened before c))
     × ¬ IsLawful (history opened before c ++ e ∷ [])
 IsFlawOf opened before line (WrongState c shown state) =
     (line ≡ Standing c shown) × (state ≡ channel_state (history opened before c)) × (shown ≢ state)
@@ -32,8 +29,7 @@ abbrev pub IsFlaw : List Bool → List TraceLine → Option TraceLine → TraceF
 IsFlaw opened before None flaw = flaw ≡ Malformed
 IsFlaw opened before (Some line) flaw = IsFlawOf opened before line flaw
 
--- The fault of a text, by its lines, which are counted from 1: the lines before it are lawful, and
--- it has this flaw after them.
+-- the fault of a text: its line, counted from 1, has this flaw after lines that are lawful
 pub record IsFault (opened : List Bool) (text : List Fields) (fault : TraceFault) : Type 0 where
   pub counted : 0 < fault.line
   pub within : fault.line ≤ length text

@@ -33,8 +33,7 @@ is_processor field = is_some (number_after (codes "PP") field >>= λ n.
 
 -- the channel of a field like `CH05`
 unfoldable pub channel_in : Field → Option ℕ
-channel_in field = number_after (codes "CH") field >>= λ c.
-    if names_channel c then Some c else None
+channel_in field = number_after (codes "CH") field >>= λ c. if names_channel c then Some c else None
 
 -- ---- the fields of a line, from left to right
 

@@ -36,8 +36,7 @@ used_count lines = count_by (is_used lines) all_channels
 abbrev pub opened_count : List Bool → List TraceLine → ℕ
 opened_count opened lines = count_by (λ c. is_used lines c && is_opened opened c) all_channels
 
--- the events; the channels that have events; and the sessions on these channels: those that an
--- event of the trace begins, and those that had been opened before it
+-- sessions are those that an event begins, and on channels used those opened before the trace
 abbrev pub verdict_of : List Bool → List TraceLine → Verdict
 verdict_of opened lines = record {
   events = count_by tells_event lines;
@@ -47,7 +46,6 @@ verdict_of opened lines = record {
 
 -- `lawful: 12 events on 3 channels, 4 sessions`, in decimal
 unfoldable pub verdict_line : Verdict → List ℕ
-verdict_line verdict =
-    codes "lawful: " ++ short_decimal verdict.events ++ codes " events on "
-    ++ short_decimal verdict.channels ++ codes " channels, "
-    ++ short_decimal verdict.sessions ++ codes " sessions" ++ line_end
+verdict_line verdict = codes "lawful: " ++ short_decimal verdict.events
+    ++ codes " events on " ++ short_decimal verdict.channels
+    ++ codes " channels, " ++ short_decimal verdict.sessions ++ codes " sessions" ++ line_end

@@ -1,5 +1,5 @@
 -- What a command line asks for, by the words that stand in it.
-use Rattle.std.specs.Prelude.{◌≡◌, ◌≢◌, ℕ, ◌-◌, ◌<◌, ◌≤◌, Bool, true, false, IsTrue, if◌then◌else◌, List, [], ◌∷◌, ◌++◌, fold, map, replicate, Option, Some, None, Ok, bytes_eq, codes}
+use Rattle.std.specs.Prelude.{◌≡◌, ◌≢◌, ℕ, ◌-◌, ◌<◌, ◌≤◌, Bool, true, false, IsSomeAnd, IsTrue, if◌then◌else◌, List, [], ◌∷◌, ◌++◌, fold, map, replicate, Option, Some, None, Ok, bytes_eq, codes}
 use Rattle.std.specs.List.{list_any}
 use Rattle.std.specs.Str.Parse.{ParsesUnsigned}
 use Rattle.clap.specs.Words.{App, IsAmong, Kinds, Row, Rule, Text, fault_of, first_of, found_of, is_simple, is_simple_and_free, kind_of, new_app, new_rule, rows_of, subcommand_of, with_rule, with_subcommand}
@@ -33,7 +33,6 @@ flag_option id = record (new_rule id) { long = Some id; action = Some SetTrue }
 abbrev pub processors_option : Rule
 processors_option = optional_value (codes "processors")
 
--- the word that names a file
 abbrev pub file_argument : Rule
 file_argument = record (new_rule (codes "file")) { action = Some Set; value_names = 1 }
 
@@ -43,8 +42,7 @@ Command = Text × List Rule
 
 -- what clap sees of it: these options, and a file
 abbrev pub app_of_command : Command → App
-app_of_command command =
-    with_rule (fold with_rule (new_app command.0) command.1) file_argument
+app_of_command command = with_rule (fold with_rule (new_app command.0) command.1) file_argument
 
 -- a command that makes a run of some turns, with these options besides
 abbrev pub turns : Text → List Rule → Command
@@ -67,21 +65,17 @@ commands = turns (codes "barrel") []
       codes "threads",
       number_option (codes "steps") ∷ number_option (codes "patience") ∷ processors_option ∷ [],
     )
-    ∷ (codes "list", processors_option ∷ [])
-    ∷ turns (codes "dump") []
+    ∷ (codes "list", processors_option ∷ []) ∷ turns (codes "dump") []
     ∷ turns (codes "steps") (optional_value (codes "pp") ∷ optional_value (codes "ch")
     ∷ optional_value (codes "from") ∷ optional_value (codes "to") ∷ [])
-    ∷ turns (codes "state") []
-    ∷ turns (codes "ends") []
+    ∷ turns (codes "state") [] ∷ turns (codes "ends") []
     ∷ turns (codes "memory") (number_option (codes "pp") ∷ optional_value (codes "first")
     ∷ optional_value (codes "last") ∷ [])
     ∷ turns (codes "central") (optional_value (codes "first") ∷ optional_value (codes "last") ∷ [])
-    ∷ turns (codes "sessions") (flag_option (codes "words") ∷ [])
-    ∷ turns (codes "races") []
+    ∷ turns (codes "sessions") (flag_option (codes "words") ∷ []) ∷ turns (codes "races") []
     ∷ turns (codes "draw") (optional_value (codes "from") ∷ optional_value (codes "to") ∷ [])
     ∷ (codes "check", optional_value (codes "opened") ∷ []) ∷ []
 
--- the whole command line
 unfoldable pub ppsim : App
 ppsim = with_commands bare (map app_of_command commands)
 
@@ -107,8 +101,7 @@ ReadsProcessor profile None n = ⊥
 ReadsProcessor profile (Some text) n =
     ParsesUnsigned {E = ℕ} 8 8 text (Ok n) × IsTrue (has_processor profile n)
 
--- processors of such a machine, of a list as `0,1,11`, by flags in the barrel's order; or none is
--- given
+-- processors of such a machine, of a list as `0,1,11`, by flags in the barrel's order; or none
 abbrev pub ReadsProcessors : Profile → Option Text → Option (List Bool) → Type 0
 ReadsProcessors profile None flags = flags ≡ None
 ReadsProcessors profile (Some text) None = ⊥
@@ -126,8 +119,7 @@ ReadsAddress default (Some text) address = ParsesUnsigned {E = ℕ} 32 8 text (O
 
 -- the bounds of the words to print, of a memory of this size
 abbrev pub ReadsBounds : ℕ → (Text → Option Text) → Bounds → Type 0
-ReadsBounds size value_of bounds =
-    ReadsAddress 0 (value_of (codes "first")) bounds.first
+ReadsBounds size value_of bounds = ReadsAddress 0 (value_of (codes "first")) bounds.first
     × ReadsAddress (size - 1) (value_of (codes "last")) bounds.last
     × ((bounds.first ≤ bounds.last) × (bounds.last < size))
 
@@ -170,36 +162,28 @@ ReadsFile (Some text) (Some path) = (path ≡ text) × (text ≢ codes "-")
 
 -- WHAT IT ASKS FOR
 
--- the command of this name, with these values of its options, asks for this text of a deck, for a
--- machine of this profile
+-- this command, with these values of its options, asks for this text of a deck of this profile
 abbrev pub AsksForText : Text → (Text → Option Text) → Profile → TextOf → Type 0
-AsksForText name value_of profile (TextOf.Barrel turns) =
-    (name ≡ codes "barrel") × ReadsTurns value_of turns
-AsksForText name value_of profile TextOf.List = name ≡ codes "list"
-AsksForText name value_of profile (TextOf.Dump turns) =
-    (name ≡ codes "dump") × ReadsTurns value_of turns
-AsksForText name value_of profile (TextOf.State turns) =
-    (name ≡ codes "state") × ReadsTurns value_of turns
-AsksForText name value_of profile (TextOf.Sessions turns words) =
-    (name ≡ codes "sessions") × ReadsTurns value_of turns
-    × ReadsFlag (value_of (codes "words")) words
-AsksForText name value_of profile (TextOf.Races turns) =
-    (name ≡ codes "races") × ReadsTurns value_of turns
-AsksForText name value_of profile (TextOf.Ends turns) =
-    (name ≡ codes "ends") × ReadsTurns value_of turns
-AsksForText name value_of profile (TextOf.Memory turns n bounds) =
-    (name ≡ codes "memory") × ReadsTurns value_of turns
-    × ReadsProcessor profile (value_of (codes "pp")) n × ReadsBounds 0o10000 value_of bounds
-AsksForText name value_of profile (TextOf.Central turns bounds) =
-    (name ≡ codes "central") × ReadsTurns value_of turns × ReadsBounds 0o400000 value_of bounds
-AsksForText name value_of profile (TextOf.Steps turns chosen) =
-    (name ≡ codes "steps") × ReadsTurns value_of turns
-    × ReadsProcessors profile (value_of (codes "pp")) chosen.processors
-    × ReadsChosen (value_of (codes "ch")) chosen.channels
-    × ReadsTurn 0 (value_of (codes "from")) chosen.from
-    × ReadsTurn turns (value_of (codes "to")) chosen.to
-AsksForText name value_of profile (TextOf.Draw window) =
-    (name ≡ codes "draw") × ReadsWindow value_of window × (window.to - window.from ≤ 2000)
+AsksForText name value _ (TextOf.Barrel turns) = (name ≡ codes "barrel") × ReadsTurns value turns
+AsksForText name value _ TextOf.List = name ≡ codes "list"
+AsksForText name value _ (TextOf.Dump turns) = (name ≡ codes "dump") × ReadsTurns value turns
+AsksForText name value _ (TextOf.State turns) = (name ≡ codes "state") × ReadsTurns value turns
+AsksForText name value _ (TextOf.Sessions turns words) = (name ≡ codes "sessions")
+    × ReadsTurns value turns × ReadsFlag (value (codes "words")) words
+AsksForText name value _ (TextOf.Races turns) = (name ≡ codes "races") × ReadsTurns value turns
+AsksForText name value _ (TextOf.Ends turns) = (name ≡ codes "ends") × ReadsTurns value turns
+AsksForText name value profile (TextOf.Memory turns n bounds) = (name ≡ codes "memory")
+    × ReadsTurns value turns × ReadsProcessor profile (value (codes "pp")) n
+    × ReadsBounds 0o10000 value bounds
+AsksForText name value _ (TextOf.Central turns bounds) =
+    (name ≡ codes "central") × ReadsTurns value turns × ReadsBounds 0o400000 value bounds
+AsksForText name value profile (TextOf.Steps turns chosen) = (name ≡ codes "steps")
+    × ReadsTurns value turns × ReadsProcessors profile (value (codes "pp")) chosen.processors
+    × ReadsChosen (value (codes "ch")) chosen.channels
+    × ReadsTurn 0 (value (codes "from")) chosen.from
+    × ReadsTurn turns (value (codes "to")) chosen.to
+AsksForText name value _ (TextOf.Draw window) =
+    (name ≡ codes "draw") × ReadsWindow value window × (window.to - window.from ≤ 2000)
 
 -- it asks for this work
 abbrev pub IsWorkOf : Text → (Text → Option Text) → Work → Type 0
@@ -212,12 +196,7 @@ IsWorkOf name value_of (Work.Threads profile limits) =
 IsWorkOf name value_of (Work.Check opened) =
     (name ≡ codes "check") × ReadsChannels (value_of (codes "opened")) opened
 
-abbrev pub IsWorkAmong : Option (Text × List Row) → Work → Type 0
-IsWorkAmong None work = ⊥
-IsWorkAmong (Some (name, rows)) work = IsWorkOf name (λ id. first_of id rows) work
-
--- the command of this name, with these values of its options, asks for more turns than a picture
--- has
+-- this command, with these values of its options, asks for more turns than a picture has
 abbrev pub AsksForMore : Text → (Text → Option Text) → Type 0
 AsksForMore name value_of =
     (name ≡ codes "draw") × ((w : Window) × ReadsWindow value_of w × (2000 < w.to - w.from))
@@ -228,20 +207,17 @@ AsksForMoreAmong (Some (name, rows)) = AsksForMore name (λ id. first_of id rows
 
 -- the words ask for this work
 abbrev pub AskFor : List Text → Work → Type 0
-AskFor words work = IsWorkAmong (subcommand_of ppsim words) work
-
-abbrev pub NamesAmong : Option (Text × List Row) → Option Text → Type 0
-NamesAmong None file = ⊥
-NamesAmong (Some (name, rows)) file = ReadsFile (first_of (codes "file") rows) file
+AskFor words work =
+    IsSomeAnd (subcommand_of ppsim words) (λ s. IsWorkOf s.0 (λ id. first_of id s.1) work)
 
 -- the words name this file, or none
 abbrev pub Name : List Text → Option Text → Type 0
-Name words file = NamesAmong (subcommand_of ppsim words) file
+Name words file =
+    IsSomeAnd (subcommand_of ppsim words) (λ s. ReadsFile (first_of (codes "file") s.1) file)
 
 -- what each refusal says of the words: `Memory` nothing; `Refused` that its kind is among those
--- that clap may give to them, and is not want of memory; the others that they are a command line
--- and ask for no work within the ranges: `Picture` if they ask for a picture of more turns than one
--- has, `Number` in all other cases
+-- that clap may give to them; the others that they are a command line and ask for no work within
+-- the ranges: `Picture` if they ask for more turns than a picture has, else `Number`
 abbrev pub IsRefused : List Text → LineFault → Type 0
 IsRefused words LineFault.Memory = Unit {0}
 IsRefused words (LineFault.Refused error) =
@@ -281,8 +257,7 @@ is_word words name = list_any (λ word. bytes_eq word name) words
 
 -- the app of a command: without options and file, if no word names it
 abbrev pub app_by : List Text → Command → App
-app_by words command =
-    if is_word words command.0 then app_of_command command else new_app command.0
+app_by words command = if is_word words command.0 then app_of_command command else new_app command.0
 
 -- a parse makes the same of these words by this app and by `ppsim`
 pub record ReadsAlike (words : List Text) (app : App) : Type 0 where

@@ -1,6 +1,7 @@
 -- Lists of numbers, like `1,5,13`: in one or two octal digits, with a comma between them.
 use Rattle.std.specs.Prelude.{◌≡◌, ℕ, ◌==◌, All, Bool, IsSome, List, length, Option, None, Some, if◌then◌else◌}
 use Rattle.std.specs.List.{filter_map, list_any, slice_split}
+use Rattle.std.specs.Option.{option_and_then}
 use Rattle.pp_word.specs.Numeral.{numeral}
 
 -- a comma is 44 in ASCII (decimal)
@@ -11,22 +12,17 @@ is_comma byte = byte == 44
 unfoldable pub numbers_of : List ℕ → List (List ℕ)
 numbers_of text = slice_split is_comma text
 
--- a number, if it names something
-abbrev pub naming : (ℕ → Bool) → Option ℕ → Option ℕ
-naming names None = None
-naming names (Some n) = if names n then Some n else None
-
 -- the number in a text, if it names something
 unfoldable pub numbered : (ℕ → Bool) → List ℕ → Option ℕ
-numbered names text = naming names (numeral 8 2 text)
+numbered names text =
+    option_and_then (λ n. if names n then Some n else None) (numeral 8 2 text)
 
 -- whether n is among the numbers in some texts
 abbrev pub is_among : (ℕ → Bool) → ℕ → List (List ℕ) → Bool
 is_among names n numbers = list_any (λ m. m == n) (filter_map (numbered names) numbers)
 
--- A text lists the numbers that flags name: each of its numbers names something, and a number is
--- flagged exactly if it is among them. A use says which numbers name something, how many places the
--- flags have, and how the flag of a number is read.
+-- A text lists the numbers that are flagged, and each names something. A use says which numbers do,
+-- how many places the flags have, and how the flag of a number is read.
 pub record AreFlagged (names : ℕ → Bool) (places : ℕ) (is_flagged : List Bool → ℕ → Bool)
     (text : List ℕ) (flags : List Bool) : Type 0 where
   pub numbers : All (λ number. IsSome (numbered names number)) (numbers_of text)

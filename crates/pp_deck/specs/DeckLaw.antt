@@ -29,17 +29,14 @@ pub record StandsAt (first : ℕ) (ws : List ℕ) (place w : ℕ) : Type 0 where
   pub at_place : place ≡ first + index
   pub is_word : slice_get ws index ≡ Some w
 
--- a line sets a place to w
 abbrev pub SetsWord : Line → ℕ → ℕ → Type 0
 SetsWord (words x ws) place w = StandsAt x ws place w
 SetsWord line place w = ⊥
 
--- a line sets a central word to w
 abbrev pub SetsCentralWord : Line → ℕ → ℕ → Type 0
 SetsCentralWord (central_words a ws) address w = StandsAt a ws address w
 SetsCentralWord line address w = ⊥
 
--- a processor's state, its P and its A
 pub record Registers : Type 0 where
   pub state : PpState
   pub p : ℕ
@@ -51,7 +48,6 @@ registers_of pp = record { state = pp.state; p = pp.p; a = pp.a }
 abbrev pub at_rest : Registers
 at_rest = record { state = PpState.Stopped; p = 0; a = 0 }
 
--- a line starts its processor with these registers
 abbrev pub Starts : Line → Registers → Type 0
 Starts (start p a) registers = registers ≡ record { state = PpState.Running; p = p; a = a }
 Starts line registers = ⊥
@@ -71,11 +67,9 @@ pub record WaitsAtDeadStart (profile : Profile) (lines : List Line) (n : ℕ) : 
 
 -- no processor is named that a machine of this profile lacks
 abbrev pub NamesWithin : Profile → List Bool → Type 0
-NamesWithin profile named =
-    (n : ℕ) → IsTrue (names_processor n) → slice_index_or named (processor_index n) false ≡ true
-    → IsTrue (has_processor profile n)
+NamesWithin profile named = (n : ℕ) → IsTrue (names_processor n)
+    → slice_index_or named (processor_index n) false ≡ true → IsTrue (has_processor profile n)
 
--- the law of loaded decks
 pub record KeepsDeckLaw (lines : List Line) (deck : LoadedDeck) : Type 0 where
   -- each place of a processor holds the word of the last line for it that sets the place, else 0
   pub places : (n place : ℕ) → IsTrue (names_processor n) → place < place_count

@@ -20,8 +20,7 @@ pub data Line : Type 0 where
   words : ℕ → List ℕ → Line
   dead_start : Line
 
--- ---- the first field
-
+-- what the first field is
 unfoldable pub keyword_of : Field → Keyword
 keyword_of field =
     if bytes_eq field (codes "CENTRAL") then Keyword.Central
@@ -50,8 +49,7 @@ abbrev pub ends_with : Line → Fields → Result Line Flaw
 ends_with line [] = Ok line
 ends_with line (field ∷ fields) = Err Flaw.UnknownLine
 
--- words of at most `most` digits, in places from the first on; a word whose place is not below the
--- end is past it
+-- words of at most `most` digits, from a place on; one whose place is not below the end is past it
 unfoldable pub words_in : ℕ → ℕ → ℕ → Flaw → Fields → Result (List ℕ) Flaw
 words_in most place end past [] = Ok []
 words_in most place end past (field ∷ fields) = do
@@ -66,15 +64,13 @@ central_line fields = number_then 6 fields (λ n more. if nat_le 1 n && nat_le n
 
 -- `CM a w w ..` in a central memory of this size
 unfoldable pub central_words_line : ℕ → Fields → Result Line Flaw
-central_words_line size fields =
-    number_then 6 fields (λ a more. words_in 20 a size Flaw.CentralRange more >>= λ ws.
-    Ok (central_words a ws))
+central_words_line size fields = number_then 6 fields
+    (λ a more. words_in 20 a size Flaw.CentralRange more >>= λ ws. Ok (central_words a ws))
 
 -- `PP n`, if the machine has processor n
 unfoldable pub section_line : Profile → Fields → Result Line Flaw
-section_line profile fields =
-    number_then 2 fields (λ n more. if has_processor profile n then ends_with (section n) more
-    else Err Flaw.BadProcessor)
+section_line profile fields = number_then 2 fields (λ n more. if has_processor profile n
+    then ends_with (section n) more else Err Flaw.BadProcessor)
 
 -- `START p`, with A 0, or `START p a`
 abbrev pub start_from : ℕ → Fields → Result Line Flaw
@@ -89,12 +85,9 @@ unfoldable pub words_line : Field → Fields → Result Line Flaw
 words_line field fields =
     number 4 field >>= λ x. words_in 4 x place_count Flaw.PastEnd fields >>= λ ws. Ok (words x ws)
 
--- ---- the whole line
-
--- what a line says whose first field has this keyword, for a machine of this profile with a central
--- memory of this size, after lines of which some have fields or one begins with `PP`. `CENTRAL`
--- comes before every line with fields, and starts and words belong to the section of a processor: a
--- line that is misplaced has that flaw, whatever follows its first field
+-- what a line says by this keyword, for this profile and size of central memory, after lines of
+-- which some have fields or begin with `PP`. `CENTRAL` comes before every line with fields, and
+-- starts and words after a `PP`: a misplaced line has that flaw, whatever follows its first field
 abbrev pub line_by : Profile → ℕ → Bool → Bool → Keyword → Field → Fields → Result Line Flaw
 line_by _ _ is_after_fields _ Keyword.Central _ fields =
     if is_after_fields then Err Flaw.UnknownLine else central_line fields

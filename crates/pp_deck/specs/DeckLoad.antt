@@ -30,12 +30,10 @@ lines_for n lines = filter_map (λ k. if is_for n (section_of (take k lines))
 abbrev pub word_among : ℕ → List ℕ → ℕ → Option ℕ
 word_among first ws place = if nat_le first place then slice_get ws (place - first) else None
 
--- the word that a line sets at a place
 abbrev pub word_for : ℕ → Line → Option ℕ
 word_for place (words x ws) = word_among x ws place
 word_for place line = None
 
--- the central word that a line sets at an address
 abbrev pub central_word_for : ℕ → Line → Option ℕ
 central_word_for address (central_words a ws) = word_among a ws address
 central_word_for address line = None
@@ -66,11 +64,9 @@ unfoldable pub central_loaded : ℕ → List Line → List ℕ
 central_loaded size lines = tabulate size
     (λ address. unwrap_or (last_or None (filter_map (central_word_for address) lines)) 0)
 
--- whether some line names processor n
 abbrev pub is_named : List Line → ℕ → Bool
 is_named lines n = list_any (λ line. is_for n (processor_in line)) lines
 
--- whether some line asks for dead start
 abbrev pub is_dead_start : Line → Bool
 is_dead_start dead_start = true
 is_dead_start line = false

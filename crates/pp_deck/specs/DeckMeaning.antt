@@ -35,7 +35,6 @@ abbrev pub set_by : Profile → ℕ → List Line → LoadedDeck
 set_by profile size lines =
     record { machine = machine_loaded profile size lines; named = each_processor (is_named lines) }
 
--- what lines load
 abbrev pub loaded : Profile → ℕ → List Line → LoadedDeck
 loaded profile size lines = with_dead_start (asks_dead_start lines) (set_by profile size lines)
 
@@ -75,14 +74,11 @@ size_in line = 0o10000
 unfoldable pub size_of : List Fields → ℕ
 size_of lines = size_in (find has_fields lines)
 
--- ---- the faults of lines, and the meaning of a text
-
 -- the fault of line k, counted from 1
 abbrev pub fault_in : ℕ → Result Line Flaw → Option DeckFault
 fault_in k (Ok line) = None
 fault_in k (Err flaw) = Some (record { line = k + 1; code = code_of flaw })
 
--- all faults of lines, in their order
 unfoldable pub faults_in : Profile → List Fields → List DeckFault
 faults_in profile lines = filter_map (λ k. fault_in k (line_at profile (size_of lines) lines k))
     (range_with_len 0 (length lines))

@@ -44,8 +44,7 @@ with_processor (Some n) change m =
 abbrev pub with_central_words : ℕ → List ℕ → MachineState → MachineState
 with_central_words a ws m = record m { central = with_words a ws m.central }
 
--- what one more line leaves: the words that it sets; the processor that it names, which is then the
--- current one; where the current one starts; or that dead start was asked for
+-- what one more line leaves: the processor that it names is then the current one
 unfoldable pub after_line : Progress → Line → Progress
 after_line progress (central_words a ws) =
     record progress { machine = with_central_words a ws progress.machine }
@@ -63,8 +62,7 @@ after_line progress line = progress
 unfoldable pub after_lines : Profile → ℕ → List Line → Progress
 after_lines profile size lines = fold after_line (before_lines profile size) lines
 
--- what lines set and name, the section that they end in, and whether they ask for dead start,
--- without an order of reading
+-- the same without an order of reading, from the whole list of lines
 unfoldable pub progress_of : Profile → ℕ → List Line → Progress
 progress_of profile size lines = record {
   machine = (set_by profile size lines).machine;

@@ -53,9 +53,8 @@ face_of (Processor Faulted) = in_words (codes "x") (codes "at fault") None
 
 -- the phase that an entry of the trace begins on channel c
 abbrev pub phase_on : ℕ → Trace → Option Phase
-phase_on c entry =
-    if entry.channel == c then Some (record { since = entry.turn; look = Channel entry.event })
-    else None
+phase_on c entry = if entry.channel == c
+    then Some (record { since = entry.turn; look = Channel entry.event }) else None
 
 -- all phases of channel c, which stands from turn 0 on if dead start opened it
 abbrev pub channel_phases : ℕ → MachineState → List Phase
@@ -65,9 +64,8 @@ channel_phases c m =
 
 -- processor n in a step, if it is its own, and in each of its steps
 abbrev pub phase_for : ℕ → SeenStep → Option Phase
-phase_for n step =
-    if step.pp == n then Some (record { since = step.turn; look = Processor step.condition })
-    else None
+phase_for n step = if step.pp == n
+    then Some (record { since = step.turn; look = Processor step.condition }) else None
 
 abbrev pub processor_phases : ℕ → List SeenStep → List Phase
 processor_phases n steps = filter_map (phase_for n) steps

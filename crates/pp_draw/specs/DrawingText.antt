@@ -38,8 +38,7 @@ used_among count m = count_below count (λ place. is_used m (channel_number plac
 
 -- the lane of channel c, if it is used: below those of the channels before it
 unfoldable pub channel_lane : Window → MachineState → ℕ → List ℕ
-channel_lane w m c =
-    if is_used m c
+channel_lane w m c = if is_used m c
     then lane_text w (used_among (channel_index c) m) (codes "CH" ++ octal 2 c) (channel_phases c m)
     (channel_text (active (history_of c m)) (waiting (history_of c m))) else []
 
@@ -47,31 +46,26 @@ channel_lane w m c =
 abbrev pub is_flagged : List Bool → ℕ → Bool
 is_flagged shown place = slice_index_or shown place false
 
--- how many lanes are above that of the processor at a place: those of the channels, and of the
--- processors before it
+-- how many lanes are above the processor's at a place: of channels, and of processors before it
 abbrev pub lanes_above : ℕ → List Bool → MachineState → ℕ
 lanes_above place shown m = used_among channel_count m + count_below place (is_flagged shown)
 
 -- the lane of processor n, if it is shown
 unfoldable pub processor_lane : Window → List Bool → MachineState → List SeenStep → ℕ → List ℕ
-processor_lane w shown m steps n =
-    if is_flagged shown (processor_index n)
+processor_lane w shown m steps n = if is_flagged shown (processor_index n)
     then lane_text w (lanes_above (processor_index n) shown m) (codes "PP" ++ octal 2 n)
     (processor_phases n steps) (state_text (processor_of n m).state) else []
 
--- THE TEXT of the drawing of a machine after a run to the end of the window, whose steps in the
--- window were these. Numbers have two octal digits
+-- THE TEXT of the drawing of a machine after a run to the window's end, by the steps in the window
 unfoldable pub drawing : Window → List Bool → MachineState → List SeenStep → List ℕ
 drawing w shown m steps =
     let rows = lanes_above processor_count shown m in
     head_text w rows ++ style_text ++ legend_text ++ ticks_text w rows
     ++ each_below channel_count (λ place. channel_lane w m (channel_number place))
-    ++ each_below processor_count
-    (λ place. processor_lane w shown m steps (processor_number place))
+    ++ each_below processor_count (λ place. processor_lane w shown m steps (processor_number place))
     ++ foot_text rows
 
 -- the drawing of a loaded deck, by the steps of its run
 abbrev pub drawing_of_run : Window → LoadedDeck → List ℕ
-drawing_of_run w deck =
-    drawing w (in_use deck) (run (barrel deck.machine.profile w.to) deck.machine)
-    (seen_in_window w deck.machine)
+drawing_of_run w deck = drawing w (in_use deck)
+    (run (barrel deck.machine.profile w.to) deck.machine) (seen_in_window w deck.machine)

@@ -1,5 +1,4 @@
--- The frame of the picture: the places of turns and of lanes, in its units; the tags of elements;
--- and what stands round the lanes: the head, the style sheet, the legend, the scale.
+-- The frame of the picture: places of turns and lanes, tags, and head, style sheet, legend, scale.
 use Rattle.std.specs.Prelude.{ℕ, ◌+◌, ◌-◌, ◌*◌, ◌%◌, ◌==◌, Bool, List, [], ◌++◌, codes, max, min, nat_le, if◌then◌else◌}
 use Rattle.pp_numbers.specs.declared.window.Window.{Window}
 use Rattle.pp_text.specs.PrintedText.{each_below}
@@ -24,23 +23,20 @@ lane_top row = 36 + 36 * row
 
 -- the tag of a rectangle of a class, at a place and of a size, without its end
 unfoldable pub rectangle_tag : List ℕ → ℕ → ℕ → ℕ → ℕ → List ℕ
-rectangle_tag class x y width height =
-    codes "<rect class='" ++ class ++ codes "' x='" ++ short_decimal x ++ codes "' y='"
-    ++ short_decimal y ++ codes "' width='" ++ short_decimal width ++ codes "' height='"
-    ++ short_decimal height ++ codes "'"
+rectangle_tag class x y width height = codes "<rect class='" ++ class
+    ++ codes "' x='" ++ short_decimal x ++ codes "' y='" ++ short_decimal y ++ codes "' width='"
+    ++ short_decimal width ++ codes "' height='" ++ short_decimal height ++ codes "'"
 
 -- the tag of a text of a class, at a place
 unfoldable pub text_tag : List ℕ → ℕ → ℕ → List ℕ
-text_tag class x y =
-    codes "<text class='" ++ class ++ codes "' x='" ++ short_decimal x ++ codes "' y='"
-    ++ short_decimal y ++ codes "'>"
+text_tag class x y = codes "<text class='" ++ class ++ codes "' x='" ++ short_decimal x
+    ++ codes "' y='" ++ short_decimal y ++ codes "'>"
 
 -- and with these words
 abbrev pub text_element : List ℕ → ℕ → ℕ → List ℕ → List ℕ
 text_element class x y said = text_tag class x y ++ said ++ codes "</text>\n"
 
--- the first lines of a picture with this many lanes: its size, which has room for the legend, and
--- what it shows
+-- the head of a picture with this many lanes: its size, with room for the legend, and what it shows
 unfoldable pub head_text : Window → ℕ → List ℕ
 head_text w rows =
     let width = max 640 (band_width w + 220) in
@@ -53,8 +49,7 @@ head_text w rows =
 
 -- colours, light and dark, the classes that have them, and the ground
 unfoldable pub style_text : List ℕ
-style_text =
-    codes "<style>\n:root{--ink:#1b1f24;--soft:#5c6570;--line:#d5d9de;--ground:#fff;"
+style_text = codes "<style>\n:root{--ink:#1b1f24;--soft:#5c6570;--line:#d5d9de;--ground:#fff;"
     ++ codes "--full:#2f6fb3;--empty:#cfe1f4;--lost:#c0392b;--code:#7d4fa8;--run:#9bb8a0;"
     ++ codes "--block:#4f8159;--held:#e3a63b}\n"
     ++ codes "@media(prefers-color-scheme:dark){:root{--ink:#e6e9ed;--soft:#9aa3ad;--line:#3a414a;"
@@ -71,8 +66,7 @@ style_text =
 
 -- what the colours mean
 unfoldable pub legend_text : List ℕ
-legend_text =
-    codes "<g transform='translate(8,8)'>\n<rect class='a' width='12' height='12'/>"
+legend_text = codes "<g transform='translate(8,8)'>\n<rect class='a' width='12' height='12'/>"
     ++ codes "<text class='e' x='16' y='10'>active</text>\n"
     ++ codes "<rect class='f' x='72' width='12' height='12'/><text class='e' x='88' y='10'>"
     ++ codes "full</text>\n<rect class='l' x='131' width='12' height='12'/>"
@@ -84,14 +78,11 @@ legend_text =
     ++ codes "<text class='e' x='403' y='10'>in a block</text>\n"
     ++ codes "<rect class='h' x='485' width='12' height='12'/><text class='e' x='501' y='10'>"
     ++ codes "held</text>\n<rect class='x' x='544' width='12' height='12'/>"
-    ++ codes "<text class='e' x='560' y='10'>fault</text>\n"
-    ++ codes "</g>\n"
+    ++ codes "<text class='e' x='560' y='10'>fault</text>\n" ++ codes "</g>\n"
 
--- at a turn of the scale: a line and its number at each tenth turn, or each twentieth where more
--- than 100 are drawn
+-- at each tenth turn, or each twentieth where more than 100 are drawn: a line and its number
 abbrev pub tick_text : Window → ℕ → ℕ → List ℕ
-tick_text w rows turn =
-    if turn % (if are_few w then 10 else 20) == 0
+tick_text w rows turn = if turn % (if are_few w then 10 else 20) == 0
     then rectangle_tag (codes "g") (place w turn + 80) 32 1 (36 * rows + 8) ++ codes "/>\n"
     ++ text_element (codes "t") (place w turn + 80) (lane_top rows + 18) (short_decimal turn)
     else []

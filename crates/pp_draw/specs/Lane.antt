@@ -9,8 +9,7 @@ use Rattle.pp_draw.specs.Condition.{face_of, is_sent, loses_word, phases_from}
 use Rattle.pp_draw.specs.Frame.{band_width, lane_top, place, rectangle_tag, text_element}
 use Rattle.pp_draw.specs.declared.{condition.Look.Look, condition.Phase.Phase, lane.Lane.Lane, lane.Part.Part}
 
--- the turn before which a phase is drawn: where the next begins, if there is one, or else the end
--- of the window; but a function code is drawn in its turn alone
+-- a phase is drawn until the next begins, or the window ends; but a function code in its turn alone
 abbrev pub until : Window → Phase → Option Phase → ℕ
 until w phase None = if is_sent phase.look then counted phase.since else w.to
 until w phase (Some next) = if is_sent phase.look then counted phase.since else next.since
@@ -40,12 +39,11 @@ part_class part = if part.is_lost then codes "l" else (face_of part.look).class
 
 -- the band of a part of the lane with this name, and its title: `CH05 full 0007 lost from 20 to 30`
 unfoldable pub band_element : List ℕ → Part → List ℕ
-band_element name part =
-    rectangle_tag (part_class part) part.start 14 (part.end - part.start) 16
+band_element name part = rectangle_tag (part_class part) part.start 14 (part.end - part.start) 16
     ++ codes "><title>" ++ name ++ codes " " ++ (face_of part.look).words
     ++ unwrap_or (face_of part.look).label [] ++ (if part.is_lost then codes " lost" else [])
-    ++ codes " from " ++ short_decimal part.since ++ codes " to " ++ short_decimal part.until
-    ++ codes "</title></rect>\n"
+    ++ codes " from " ++ short_decimal part.since
+    ++ codes " to " ++ short_decimal part.until ++ codes "</title></rect>\n"
 
 -- the label above it, if it has one, and there is room from this place on
 abbrev pub label_from : ℕ → Part → Option (List ℕ)
@@ -55,21 +53,17 @@ label_from free part =
 -- what is written of a part, and the place from which there is room after it
 abbrev pub part_elements : List ℕ → ℕ → Part → List ℕ
 part_elements name free part =
-    (if is_visible part then band_element name part else [])
-    ++ unwrap_or
+    (if is_visible part then band_element name part else []) ++ unwrap_or
     (option_map (text_element (part_class part) part.start 10) (label_from free part)) []
 
 abbrev pub free_after : ℕ → Part → ℕ
-free_after free part =
-    unwrap_or (option_map (λ label. part.start + 30) (label_from free part)) free
+free_after free part = unwrap_or (option_map (λ label. part.start + 30) (label_from free part)) free
 
 -- how the lane with this many lanes above it begins: its upper edge, its name, and a line
 unfoldable pub lane_head : Window → ℕ → List ℕ → List ℕ
-lane_head w row name =
-    codes "<g transform='translate(80," ++ short_decimal (lane_top row)
-    ++ codes ")'>\n<text x='-72' y='26'>" ++ name
-    ++ codes "</text>\n<rect class='u' y='30' width='" ++ short_decimal (band_width w)
-    ++ codes "' height='1'/>\n"
+lane_head w row name = codes "<g transform='translate(80," ++ short_decimal (lane_top row)
+    ++ codes ")'>\n<text x='-72' y='26'>" ++ name ++ codes "</text>\n<rect class='u' y='30' width='"
+    ++ short_decimal (band_width w) ++ codes "' height='1'/>\n"
 
 -- what is written of phases, where there is room for a label from this place on
 abbrev pub drawn_from : Window → List ℕ → ℕ → List Phase → List ℕ

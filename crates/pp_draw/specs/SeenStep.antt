@@ -12,8 +12,7 @@ use Rattle.pp_run.specs.RunSteps.{RunStep, run_steps}
 use Rattle.pp_draw.specs.declared.condition.Condition.TheVariants.{Running, InBlock, HeldBy, Stopped, Faulted}
 use Rattle.pp_draw.specs.declared.{condition.Condition.Condition, seen_step.Found.Found, seen_step.SeenStep.SeenStep}
 
--- by its state: a processor that runs is held by the channel that it needs, or else in a block or
--- not
+-- by its state: one that runs is held by the channel that it needs, or else in a block or not
 abbrev pub condition_by : PpState → Outcome → Need → Option Block → Condition
 condition_by PpState.Stopped outcome need block = Stopped
 condition_by (PpState.Fault number) outcome need block = Faulted

@@ -49,8 +49,7 @@ abbrev pub left_of : PpState → Processor → Processor
 left_of Running pp = pp
 left_of state pp = record (new_processor pp.profile) { memory = pp.memory }
 
--- the deck to go on from: histories, turns and trace are gone, dead start opened no channel, and it
--- names each processor in use
+-- the deck to go on from: no history, turn, trace or opened channel; each processor in use is named
 abbrev pub deck_to_go_on : LoadedDeck → LoadedDeck
 deck_to_go_on deck = let m = deck.machine in record {
   machine = record (new_machine m.profile (length m.central)) {
@@ -64,25 +63,21 @@ deck_to_go_on deck = let m = deck.machine in record {
 unfoldable pub dump : LoadedDeck → List ℕ
 dump deck = listing (deck_to_go_on deck)
 
--- what writing it comes to: all of it is written, or a first part of it; or nothing, if the machine
--- is not between programs
+-- writing it: all or a first part is written, or nothing if the machine is not between programs
 abbrev pub IsDumped : LoadedDeck → Result (Unit {0}) DumpFault
     → Option (List ℕ) → Option (List ℕ) → Type 0
-IsDumped deck (Ok done) old new =
-    (first_busy deck.machine ≡ None) × Appends old new (dump deck)
+IsDumped deck (Ok done) old new = (first_busy deck.machine ≡ None) × Appends old new (dump deck)
 IsDumped deck (Err Write) old new =
     (first_busy deck.machine ≡ None) × AppendsFront old new (dump deck)
 IsDumped deck (Err (NotBetweenPrograms going_on)) old new =
     (first_busy deck.machine ≡ Some going_on) × Keeps old new
 
--- ---- its law
-
 -- a deck after some steps
 abbrev pub after : List ℕ → LoadedDeck → LoadedDeck
 after steps deck = record deck { machine = run steps deck.machine }
 
--- a text means the deck to go on from, if a deck that some text means has come to this one by
--- steps, and this text is no longer than a deck may be
+-- a text no longer than a deck may be means the deck to go on from, if this deck has come by steps
+-- from one that some text means
 abbrev pub GoesOnFrom : List ℕ → LoadedDeck → Type 0
 GoesOnFrom text deck = (source : List ℕ) (loaded : LoadedDeck) (steps : List ℕ)
     → deck_meaning deck.machine.profile source ≡ Ok loaded → deck ≡ after steps loaded

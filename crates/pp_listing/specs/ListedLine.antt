@@ -11,8 +11,7 @@ use Rattle.pp_text.specs.PrintedText.{line_end, padded}
 abbrev pub after_blank : ℕ → ℕ → List ℕ
 after_blank width n = 32 ∷ octal width n
 
--- what a line of a deck says, printed: places, words and starts in all their digits, other numbers
--- without leading zeros
+-- a line, printed: places, words and starts in all digits, other numbers without leading zeros
 abbrev pub line_text : Line → List ℕ
 line_text nothing = []
 line_text (central_size n) = codes "CENTRAL " ++ short_octal 6 n
@@ -26,8 +25,7 @@ line_text dead_start = codes "DEAD"
 abbrev pub deck_line : Line → List ℕ
 deck_line line = line_text line ++ line_end
 
--- a line of a listing: a line of a deck as it stands; or an instruction, by its place, its word and
--- the next word, on a line with its first word alone or with both
+-- a line of a deck as it stands, or an instruction of one word or two: place, word and next word
 pub data ListedLine : Type 0 where
   bare : Line → ListedLine
   one_word : ℕ → ℕ → ℕ → ListedLine

@@ -12,8 +12,7 @@ use Rattle.pp_deck.specs.DeckMeaning.{LoadedDeck, deck_meaning}
 use Rattle.pp_text.specs.InstructionText.{is_long}
 use Rattle.pp_listing.specs.ListedLine.{ListedLine, bare, one_word, two_words, text_of}
 
--- the instructions in the words from a place on, if the word after the last is `first`, that at
--- place 0000. A word that is 0 begins no line
+-- the instructions in words from a place on, with that at 0000 after the last; 0 begins no line
 abbrev pub instruction_lines : ℕ → ℕ → List ℕ → List ListedLine
 instruction_lines first place [] = []
 instruction_lines first place (w ∷ []) = if w == 0 then [] else one_word place w first ∷ []
@@ -27,7 +26,6 @@ abbrev pub start_line : PpState → ℕ → ℕ → List ListedLine
 start_line Running p a = bare (start p a) ∷ []
 start_line state p a = []
 
--- the section of processor n
 abbrev pub section_lines : ℕ → Processor → List ListedLine
 section_lines n pp =
     bare (section n) ∷ instruction_lines (word_at pp 0) 0 pp.memory ++ start_line pp.state pp.p pp.a
@@ -53,23 +51,19 @@ central_word_lines central =
 
 -- `DEAD`, if dead start opened a channel
 abbrev pub dead_start_line : MachineState → List ListedLine
-dead_start_line m =
-    if list_any (λ c. is_opened c m) all_channels then bare dead_start ∷ [] else []
+dead_start_line m = if list_any (λ c. is_opened c m) all_channels then bare dead_start ∷ [] else []
 
 -- the lines of a deck
 unfoldable pub listed : LoadedDeck → List ListedLine
-listed deck =
-    bare (central_size (length deck.machine.central))
+listed deck = bare (central_size (length deck.machine.central))
     ∷ central_word_lines deck.machine.central
-    ++ dead_start_line deck.machine
-    ++ sections deck.named deck.machine
+    ++ dead_start_line deck.machine ++ sections deck.named deck.machine
 
 -- and their text
 unfoldable pub listing : LoadedDeck → List ℕ
 listing deck = text_of (listed deck)
 
--- a text means a deck, for a machine of its profile, if some text does and this one is no longer
--- than a deck may be
+-- a text no longer than a deck may be means this deck, for its profile, if some text does
 abbrev pub ReadsBackAs : List ℕ → LoadedDeck → Type 0
 ReadsBackAs text deck = (source : List ℕ) → deck_meaning deck.machine.profile source ≡ Ok deck
     → length text ≤ 1048576 → deck_meaning deck.machine.profile text ≡ Ok deck

@@ -15,8 +15,7 @@ abbrev pub IsUncut : {X : Type 0} → (X → X → Bool) → X → List X → Ty
 IsUncut test x [] = Unit {0}
 IsUncut test x (next ∷ xs) = (test x next ≡ false) × IsUncut test next xs
 
--- what is known of the stretch that is open, if one is: the number of the next session, what its
--- line says, and its words
+-- the number of the next session; of the stretch that is open, if one is, the tally and the words
 pub record Open : Type 0 where
   pub number : ℕ
   pub tally : Option Tally
@@ -35,9 +34,8 @@ abbrev pub IsOpen : Option Tally → List ℕ → List TimedEvent → Type 0
 IsOpen None words [] = Unit {0}
 IsOpen None words (first ∷ others) = ⊥
 IsOpen (Some tally) words [] = ⊥
-IsOpen (Some tally) words (first ∷ others) =
-    (tally ≡ tally_of first others) × (words ≡ words_in (first ∷ others))
-    × IsUncut are_parted first others
+IsOpen (Some tally) words (first ∷ others) = (tally ≡ tally_of first others)
+    × (words ≡ words_in (first ∷ others)) × IsUncut are_parted first others
 
 -- events come, and these lines are printed: whatever comes after, the text of all that is to come
 -- is these lines and then what the new stretch gives for the rest

@@ -1,5 +1,4 @@
--- What the lines of a channel say: the sessions of its course, with the idle stretches between
--- them.
+-- What the lines of a channel say: its course's sessions, with the idle stretches between them.
 use Rattle.std.specs.Prelude.{◌≡◌, ℕ, ◌+◌, Bool, true, false, List, [], ◌∷◌, ◌++◌, length, map, Some, if◌then◌else◌}
 use Rattle.std.specs.List.{flat_map, last_or}
 use Rattle.std.specs.Option.{option_map, option_to_list}
@@ -24,9 +23,7 @@ whole_parts (session, codes) = session_events session true ∷ idle_part codes
 
 -- the stretches of a course, in order
 abbrev pub stretches_of : Course → List (List Event)
-stretches_of c =
-    idle_part c.first_stretch
-    ++ flat_map whole_parts c.whole_sessions
+stretches_of c = idle_part c.first_stretch ++ flat_map whole_parts c.whole_sessions
     ++ map (λ session. session_events session false) (option_to_list c.open_session)
 
 -- what the line of a stretch says is a session: whether it ended, its words, the lone last word

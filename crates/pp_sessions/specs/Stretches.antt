@@ -15,8 +15,7 @@ abbrev pub ends_session : Event → Bool
 ends_session Disconnect = true
 ends_session event = false
 
--- whether a stretch is over between an event and the next: a session begins with Activate, and ends
--- with Disconnect
+-- whether a stretch is over between two events: Activate begins a session, Disconnect ends one
 abbrev pub is_over : Event → Event → Bool
 is_over event next = ends_session event || begins_session next
 
@@ -24,8 +23,7 @@ is_over event next = ends_session event || begins_session next
 abbrev pub cut_between : {X : Type 0} → (X → X → Bool) → List X → List (List X)
 cut_between test [] = []
 cut_between test (x ∷ []) = (x ∷ []) ∷ []
-cut_between test (x ∷ next ∷ xs) =
-    if test x next then (x ∷ []) ∷ cut_between test (next ∷ xs)
+cut_between test (x ∷ next ∷ xs) = if test x next then (x ∷ []) ∷ cut_between test (next ∷ xs)
     else onto_first x (cut_between test (next ∷ xs))
 
 -- whether two events that follow one another are of two stretches
@@ -59,9 +57,7 @@ word_of event = None
 abbrev pub words_in : List TimedEvent → List ℕ
 words_in events = filter_map (λ (e : TimedEvent). word_of e.event) events
 
--- What the line of a stretch says of it, by its first event and the others: whether it is a
--- session, and whether it ended; when it began, and when its last event was; how many events it
--- has, how many words were put and taken, and the word put and not taken.
+-- what the line of a stretch says of it, by its first event and the others
 unfoldable pub tally_of : TimedEvent → List TimedEvent → Tally
 tally_of first others =
     let last = fold (λ before event. event) first others in

@@ -31,21 +31,16 @@ abbrev pub IsAtEndIfJudged : Result (Unit {0}) TextFault → Option (List ℕ) �
 IsAtEndIfJudged (Ok done) after = IsAtEnd after
 IsAtEndIfJudged (Err TextFault.Write) after = IsAtEnd after
 IsAtEndIfJudged (Err (TextFault.Trace f)) after = IsAtEnd after
-IsAtEndIfJudged (Err TextFault.Read) after = Unit {0}
-IsAtEndIfJudged (Err TextFault.Memory) after = Unit {0}
-IsAtEndIfJudged (Err (TextFault.Deck f)) after = Unit {0}
-IsAtEndIfJudged (Err (TextFault.NotBetweenPrograms going_on)) after = Unit {0}
+IsAtEndIfJudged (Err other) after = Unit {0}
 
--- One call, whatever its reader is: these bytes were consumed; the answer is that to the trace that
--- they spell; and if it was judged, they were all that the reader had.
+-- one call over any reader: its answer is that to the bytes consumed, which were all if it judged
 pub record Checks (opened : List Bool) (answer : Result (Unit {0}) TextFault)
     (before after old new : Option (List ℕ)) (bytes : List ℕ) : Type 0 where
   pub consumed : Consumes before after bytes
   pub answered : IsCheck opened answer bytes old new
   pub whole : IsAtEndIfJudged answer after
 
--- THE PROMISE of a call that checks a trace: how it answers every reader, whatever that knows of
--- its bytes; and one that knows which bytes it has
+-- THE PROMISE of a call that checks a trace: to every reader, and to one that knows its bytes
 pub record AnswersTrace (opened : List Bool) (answer : Result (Unit {0}) TextFault)
     (before after old new : Option (List ℕ)) : Type 0 where
   pub every_reader : (bytes : List ℕ) × Checks opened answer before after old new bytes

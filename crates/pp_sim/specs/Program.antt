@@ -13,8 +13,6 @@ use Rattle.pp_text.specs.Written.{AppendsFront}
 use Rattle.pp_command.specs.declared.{line_fault.LineFault.LineFault, work.Work.Work}
 use Rattle.pp_sim.specs.declared.text_fault.TextFault.{TextFault}
 
--- ---- words that ask for work
-
 -- The answer of a work: a text of the deck that was read, or what stands in its way; or the check
 -- of the trace that was read. Z is the allocator's type, of which a report is made.
 abbrev pub IsDone : Type 0 → Work → Result (Unit {0}) TextFault → Option (List ℕ) → Option (List ℕ)
@@ -26,12 +24,10 @@ IsDone Z (Work.Check opened) = AnswersTrace opened
 -- the status of a work that was done, or failed: by what was read, a device, or want of memory
 abbrev pub status_of : Result (Unit {0}) TextFault → ℕ
 status_of (Ok done) = 0
-status_of (Err (TextFault.Deck f)) = 1
-status_of (Err (TextFault.NotBetweenPrograms going_on)) = 1
-status_of (Err (TextFault.Trace f)) = 1
 status_of (Err TextFault.Read) = 3
 status_of (Err TextFault.Write) = 3
 status_of (Err TextFault.Memory) = 4
+status_of (Err what_was_read) = 1
 
 -- the work was done or failed, and the status is that of its answer
 pub record IsDoneWith (Z : Type 0) (work : Work) (status : ℕ)
@@ -44,8 +40,7 @@ pub record IsDoneWith (Z : Type 0) (work : Work) (status : ℕ)
 abbrev pub IsDoneOnFile : Type 0 → Work → ℕ → Option (List ℕ) → Option (List ℕ) → Type 0
 IsDoneOnFile Z work status old new =
     ((before : Option (List ℕ)) × ((after : Option (List ℕ))
-    × IsDoneWith Z work status before after old new))
-    ⊎ ((status ≡ 3) × Keeps old new)
+    × IsDoneWith Z work status before after old new)) ⊎ ((status ≡ 3) × Keeps old new)
 
 -- over the bytes of standard input; or over those of this file, and standard input is not read
 abbrev pub IsDoneOver : Type 0 → Option Text → Work → ℕ → Option (List ℕ) → Option (List ℕ)
@@ -64,26 +59,22 @@ pub record HasWorked (Z : Type 0) (words : List Text) (status : ℕ)
   pub named : Name words file
   pub done : IsDoneOver Z file work status before after old new
 
--- ---- words that are refused
-
 -- clap's answer is a text that was asked for
 abbrev pub IsHelp : Error → Type 0
 IsHelp error = (kind_of error ≡ DisplayHelp) ⊎ (kind_of error ≡ DisplayVersion)
 
 -- a text was printed, or a first part of it, or nothing for want of memory; the status says which
 abbrev pub IsPrinted : List ℕ → ℕ → Option (List ℕ) → Option (List ℕ) → Type 0
-IsPrinted text status old new =
-    ((status ≡ 0) × Appends old new text) ⊎ (((status ≡ 3) × AppendsFront old new text)
-    ⊎ ((status ≡ 4) × Keeps old new))
+IsPrinted text status old new = ((status ≡ 0) × Appends old new text)
+    ⊎ (((status ≡ 3) × AppendsFront old new text) ⊎ ((status ≡ 4) × Keeps old new))
 
 -- the status of a refusal: that of printing if help was asked for; else nothing is printed
 abbrev pub IsReported : LineFault → ℕ → Option (List ℕ) → Option (List ℕ) → Type 0
 IsReported LineFault.Memory status old new = (status ≡ 4) × Keeps old new
-IsReported LineFault.Number status old new = (status ≡ 2) × Keeps old new
-IsReported LineFault.Picture status old new = (status ≡ 2) × Keeps old new
 IsReported (LineFault.Refused error) status old new =
     (IsHelp error × ((text : List ℕ) × IsPrinted text status old new))
     ⊎ (¬ IsHelp error × (status ≡ 2) × Keeps old new)
+IsReported other status old new = (status ≡ 2) × Keeps old new
 
 -- the words are refused, nothing is read, and the status says why
 pub record HasRefused (words : List Text) (status : ℕ) (before after old new : Option (List ℕ)) :

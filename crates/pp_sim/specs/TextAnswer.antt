@@ -20,8 +20,7 @@ pub record IsFaultOf (profile : Profile) (bytes : List ℕ) (f : DeckFault) : Ty
   pub refused : deck_meaning profile bytes ≡ Err f
   pub no_memory : f.code ≢ code.Memory
 
--- the bytes mean a deck for such a machine, and x is what the relation gives for it: a text, or
--- what stands in its way
+-- the bytes mean a deck for such a machine, and x is its text, or what stands in its way
 pub record IsOfDeck {X : Type 0} (profile : Profile) (Tells : LoadedDeck → X → Type 0)
     (bytes : List ℕ) (x : X) : Type 0 where
   pub deck : LoadedDeck
@@ -30,9 +29,8 @@ pub record IsOfDeck {X : Type 0} (profile : Profile) (Tells : LoadedDeck → X �
 
 -- THE ANSWER to a deck of these bytes, for a machine of this profile, and what was written: a whole
 -- text of the deck, a first part of one, or nothing
-abbrev pub IsAnswerUnless : Profile → (LoadedDeck → Busy → Type 0)
-    → (LoadedDeck → List ℕ → Type 0) → Result (Unit {0}) TextFault → List ℕ → Option (List ℕ)
-    → Option (List ℕ) → Type 0
+abbrev pub IsAnswerUnless : Profile → (LoadedDeck → Busy → Type 0) → (LoadedDeck → List ℕ → Type 0)
+    → Result (Unit {0}) TextFault → List ℕ → Option (List ℕ) → Option (List ℕ) → Type 0
 IsAnswerUnless profile Prevents IsDeckText (Ok done) bytes old new =
     (text : List ℕ) × IsOfDeck profile IsDeckText bytes text × Appends old new text
 IsAnswerUnless profile Prevents IsDeckText (Err TextFault.Write) bytes old new =
@@ -45,8 +43,7 @@ IsAnswerUnless profile Prevents IsDeckText (Err (TextFault.Trace f)) bytes old n
 IsAnswerUnless profile Prevents IsDeckText (Err TextFault.Read) bytes old new = Keeps old new
 IsAnswerUnless profile Prevents IsDeckText (Err TextFault.Memory) bytes old new = Keeps old new
 
--- One call, whatever its reader is: these bytes were consumed; the answer is that to the deck that
--- they spell; and if it is Ok, they were all that the reader had.
+-- one call over any reader: its answer is that to the bytes consumed, which were all if it is Ok
 pub record AnswersUnless (profile : Profile) (Prevents : LoadedDeck → Busy → Type 0)
     (IsDeckText : LoadedDeck → List ℕ → Type 0) (answer : Result (Unit {0}) TextFault)
     (before after old new : Option (List ℕ)) (bytes : List ℕ) : Type 0 where

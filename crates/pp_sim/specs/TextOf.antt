@@ -28,16 +28,14 @@ use Rattle.pp_run.specs.Determinacy.{IsDeterminate}
 use Rattle.pp_command.specs.declared.{text_of.ChosenSteps.ChosenSteps, text_of.TextOf.TextOf}
 use Rattle.pp_sim.specs.TextAnswer.{NothingPrevents}
 
--- the text of a loaded deck that has run in the barrel for N turns. Of that run the headline holds:
--- each channel's history is its opening history and then the trace's events on it, and keeps the
--- law of sessions. And all that the machine then shows fits its lines, so that the text shows it
+-- the text of a loaded deck after N turns of the barrel, of which the headline holds; all that the
+-- machine then shows fits its lines, so that the text shows it
 pub record IsBarrelText (turns : ℕ) (deck : LoadedDeck) (text : List ℕ) : Type 0 where
   pub text_is : text ≡ printed deck.named (run (barrel deck.machine.profile turns) deck.machine)
   pub headline : HoldsOnEachChannel (run (barrel deck.machine.profile turns) deck.machine)
   pub fits : FitsItsText deck.named (run (barrel deck.machine.profile turns) deck.machine)
 
--- the text of a loaded deck: its listing, which means the same deck for a machine of the same
--- profile, if it is no longer than a deck may be
+-- its listing, which means the same deck for its profile, if it is no longer than a deck may be
 pub record IsListText (deck : LoadedDeck) (text : List ℕ) : Type 0 where
   pub text_is : text ≡ listing deck
   pub reads_back : length text ≤ 1048576 → deck_meaning deck.machine.profile text ≡ Ok deck
@@ -46,8 +44,7 @@ pub record IsListText (deck : LoadedDeck) (text : List ℕ) : Type 0 where
 abbrev pub after_turns : ℕ → LoadedDeck → LoadedDeck
 after_turns turns deck = after (barrel deck.machine.profile turns) deck
 
--- its text: the machine is between programs; the text is its dump, which means the deck to go on
--- from, for a machine of the same profile, if it is no longer than a deck may be
+-- its dump, between programs, which means the deck to go on from if no longer than a deck may be
 pub record IsDumpText (turns : ℕ) (deck : LoadedDeck) (text : List ℕ) : Type 0 where
   pub between : first_busy (after_turns turns deck).machine ≡ None
   pub text_is : text ≡ dump (after_turns turns deck)
@@ -58,9 +55,7 @@ pub record IsDumpText (turns : ℕ) (deck : LoadedDeck) (text : List ℕ) : Type
 abbrev pub PreventsDump : ℕ → LoadedDeck → Busy → Type 0
 PreventsDump turns deck going_on = first_busy (after_turns turns deck).machine ≡ Some going_on
 
--- the text of a loaded deck after N turns of the barrel, by these turns and the deck; of that run
--- the headline holds: each channel's history is its opening history and then the trace's events on
--- it, and is lawful
+-- a text of a loaded deck and of N turns of the barrel, of which the headline holds
 pub record IsTextAfter (turns : ℕ) (text_after : List ℕ → LoadedDeck → List ℕ) (deck : LoadedDeck)
     (text : List ℕ) : Type 0 where
   pub text_is : text ≡ text_after (barrel deck.machine.profile turns) deck
@@ -68,8 +63,7 @@ pub record IsTextAfter (turns : ℕ) (text_after : List ℕ → LoadedDeck → L
 
 -- the words of processor n after these steps
 abbrev pub memory_after : ℕ → Bounds → List ℕ → LoadedDeck → List ℕ
-memory_after n bounds steps deck =
-    memory_text bounds (processor_of n (run steps deck.machine))
+memory_after n bounds steps deck = memory_text bounds (processor_of n (run steps deck.machine))
 
 -- the central words after these steps
 abbrev pub central_after : Bounds → List ℕ → LoadedDeck → List ℕ
@@ -87,27 +81,21 @@ pub record IsEndsText (turns : ℕ) (deck : LoadedDeck) (text : List ℕ) : Type
   pub looped : AreLoops loops ending deck.machine
   pub text_is : text ≡ ends_text_of (in_use deck) ending turns deck.machine loops
 
--- the text of a loaded deck that has run in the barrel for N turns; its machine is a whole one, and
--- if nothing is found the run is determinate
+-- its text after N turns of the barrel, of a whole machine; if nothing is found, it is determinate
 pub record IsRacesText (turns : ℕ) (deck : LoadedDeck) (text : List ℕ) : Type 0 where
   pub text_is : text ≡ races_text (barrel deck.machine.profile turns) deck.machine
   pub machine : IsMachine deck.machine
   pub same : findings (barrel deck.machine.profile turns) deck.machine ≡ []
       → IsDeterminate (barrel deck.machine.profile turns) deck.machine
 
--- the steps chosen of a deck: of the processors in use, if no others are given
-abbrev pub choice_of : ChosenSteps → LoadedDeck → Choice
-choice_of chosen deck = record {
+-- the steps chosen of N turns of the barrel, of the processors in use if no others are given
+abbrev pub IsStepsText : ℕ → ChosenSteps → LoadedDeck → List ℕ → Type 0
+IsStepsText turns chosen deck text = let choice : Choice = record {
   processors = unwrap_or chosen.processors (in_use deck);
   channels = chosen.channels;
   from = chosen.from;
   to = chosen.to;
-}
-
--- the text of a loaded deck: the steps chosen of N turns of the barrel
-abbrev pub IsStepsText : ℕ → ChosenSteps → LoadedDeck → List ℕ → Type 0
-IsStepsText turns chosen deck text =
-    text ≡ steps_text (choice_of chosen deck) (barrel deck.machine.profile turns) deck.machine
+} in text ≡ steps_text choice (barrel deck.machine.profile turns) deck.machine
 
 -- THE TEXT: which text of a loaded deck is each that is asked for
 abbrev pub IsTextOf : TextOf → LoadedDeck → List ℕ → Type 0

@@ -8,8 +8,7 @@ use Rattle.pp_numbers.specs.declared.bounds.Bounds.{Bounds}
 
 -- `000010  00010002000300040005   A B C D E`, the line of a word at an address
 unfoldable pub central_line : ℕ → ℕ → List ℕ
-central_line a word =
-    octal 6 a ++ codes "  " ++ octal 20 word ++ codes "  " ++ displayed 10 word
+central_line a word = octal 6 a ++ codes "  " ++ octal 20 word ++ codes "  " ++ displayed 10 word
 
 -- this line, where the address is within the bounds and the word is not 0
 unfoldable pub shown_word : Bounds → List ℕ → ℕ → List ℕ

@@ -1,5 +1,4 @@
--- What differs from the load, as lines of a deck that set it: words of processors and central
--- words.
+-- What differs from the load, as lines of a deck that set it: processors' and central words.
 use Rattle.std.specs.Prelude.{ℕ, zero, suc, ◌+◌, ◌%◌, ◌==◌, ◌&&◌, Bool, List, [], ◌∷◌, length, slice_index, if◌then◌else◌}
 use Rattle.std.specs.List.{flat_map, list_any, range_with_len}
 use Rattle.pp_machine.specs.MachineState.{MachineState, processor_of}
@@ -7,8 +6,7 @@ use Rattle.pp_numbers.specs.PpNo.{all_processors}
 use Rattle.pp_deck.specs.DeckLine.{Line, central_words, section, words}
 use Rattle.pp_text.specs.Differences.{differs, places}
 
--- how many words are on a line before the one at a place: none after a word that does not
--- differ, and none after eight
+-- how many words are on a line before a place: none after one that does not differ, or after eight
 unfoldable pub position_on_line : List ℕ → List ℕ → ℕ → ℕ
 position_on_line before after zero = 0
 position_on_line before after (suc place) =
@@ -17,10 +15,8 @@ position_on_line before after (suc place) =
 -- the words from a place on, as long as they differ, but at most this many
 unfoldable pub neighbours : List ℕ → List ℕ → ℕ → ℕ → List ℕ
 neighbours before after zero place = []
-neighbours before after (suc most) place =
-    if differs before after place
-    then slice_index after place ∷ neighbours before after most (place + 1)
-    else []
+neighbours before after (suc most) place = if differs before after place
+    then slice_index after place ∷ neighbours before after most (place + 1) else []
 
 -- whether a line begins at a place
 abbrev pub begins_line : List ℕ → List ℕ → ℕ → Bool
@@ -29,11 +25,9 @@ begins_line before after place =
 
 -- the line that begins at a place, if one does
 abbrev pub line_from : List ℕ → List ℕ → ℕ → List Line
-line_from before after place =
-    if begins_line before after place
+line_from before after place = if begins_line before after place
     then words place (neighbours before after 8 place) ∷ [] else []
 
--- the lines of a memory, in order of place
 abbrev pub changed_lines : List ℕ → List ℕ → List Line
 changed_lines before after = flat_map (line_from before after) places
 
@@ -57,7 +51,6 @@ abbrev pub central_line : List ℕ → List ℕ → ℕ → List Line
 central_line before after a =
     if differs before after a then central_words a (slice_index after a ∷ []) ∷ [] else []
 
--- these lines, in order of address
 abbrev pub changed_central : List ℕ → List ℕ → List Line
 changed_central before after =
     flat_map (central_line before after) (range_with_len 0 (length after))

@@ -19,8 +19,7 @@ lines_of width n text = filter (λ line. number_in 0 width line == n) (lines tex
 
 -- the word at a place: it stands on the line of the eight places that it is one of
 abbrev pub word_read : ℕ → List ℕ → ℕ
-word_read place text =
-    number_on (6 + place % 8 * 5) 4 (lines_of 4 (place - place % 8) text)
+word_read place text = number_on (6 + place % 8 * 5) 4 (lines_of 4 (place - place % 8) text)
 
 -- the central word at an address
 abbrev pub central_word_read : ℕ → List ℕ → ℕ

@@ -1,5 +1,4 @@
--- The words of a processor's memory, eight a line, in octal and in display code. A text is a list
--- of ASCII codes, and every line ends with a line feed.
+-- The words of a processor's memory, eight a line, in octal and in display code, as ASCII codes.
 use Rattle.std.specs.Prelude.{ℕ, ◌+◌, ◌-◌, ◌*◌, ◌==◌, ◌&&◌, Bool, not, List, [], ◌++◌, codes, length, take, if◌then◌else◌}
 use Rattle.std.specs.Char.{is_ascii_whitespace}
 use Rattle.std.specs.List.{list_any, range_with_len, suffix_len}
@@ -37,8 +36,7 @@ has_words pp place = list_any (λ p. not (word_at pp p == 0)) (range_with_len pl
 
 -- the line of eight places, where one of them is shown and one of their words is not 0
 unfoldable pub shown_line : Bounds → Processor → ℕ → List ℕ
-shown_line bounds pp place =
-    if meets bounds place (place + 7) && has_words pp place
+shown_line bounds pp place = if meets bounds place (place + 7) && has_words pp place
     then memory_line pp place ++ line_end else []
 
 -- THE TEXT of a processor's memory. Lines begin at multiples of 10 (octal), and are whole

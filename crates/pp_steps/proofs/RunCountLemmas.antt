@@ -4,8 +4,9 @@ use Rattle.std.specs.Prelude.{if◌then◌else◌}
 use Rattle.std.specs.List.{fold, prefix_len}
 use Rattle.std.proofs.lemmas.List.{drop-drop, get_or-drop}
 use Rattle.std.proofs.lemmas.Bool.{and_parts}
+use Rattle.std.specs.Bool.{beq}
 use Rattle.pp_channel.specs.declared.flags.Flags.{Flags}
-use Rattle.pp_steps.specs.HeldRuns.{HeldSpells, current_spell, goes_on, is_held_with, last_of, no_spells, same_flag, with_step}
+use Rattle.pp_steps.specs.HeldRuns.{HeldSpells, current_spell, goes_on, is_held_with, last_of, no_spells, with_step}
 use Rattle.pp_steps.specs.StepsText.{line_kind}
 use Rattle.pp_steps.specs.Cursor.{line_at, no_cursor, past_step}
 use Rattle.pp_steps.specs.declared.cursor.Cursor.{Cursor}
@@ -14,18 +15,18 @@ use Rattle.pp_run.specs.declared.progress.Progress.TheVariants.{AtRest, Moved, H
 
 -- ---- flags
 
-same_sym : (a b : Bool) → same_flag a b ≡ same_flag b a
+same_sym : (a b : Bool) → beq a b ≡ beq b a
 same_sym true true = refl
 same_sym true false = refl
 same_sym false true = refl
 same_sym false false = refl
 
-same_is : (a b : Bool) → same_flag a b ≡ true → a ≡ b
+same_is : (a b : Bool) → beq a b ≡ true → a ≡ b
 same_is true true e = refl
 same_is false false e = refl
 same_is a b e = absurd (cc)
 
-same_twice : (a b : Bool) → (same_flag a a && same_flag b b) ≡ true
+same_twice : (a b : Bool) → (beq a a && beq b b) ≡ true
 same_twice true true = refl
 same_twice true false = refl
 same_twice false true = refl
@@ -40,7 +41,7 @@ with_other f g = rw (same_sym f.active g.active, same_sym f.full g.full) refl
 
 pub with_same : (f g : Flags) → is_held_with g (Held f) ≡ true → g ≡ f
 with_same f g e =
-    let (active, full) = and_parts (same_flag g.active f.active) (same_flag g.full f.full) e in
+    let (active, full) = and_parts (beq g.active f.active) (beq g.full f.full) e in
     let first : record { active = g.active; full = g.full } ≡ record { active = f.active; full = g.full } = ap (λ (a : Bool). record { active = a; full = g.full }) (same_is g.active f.active active) in
     first ∙ ap (λ (b : Bool). record { active = f.active; full = b }) (same_is g.full f.full full)
 

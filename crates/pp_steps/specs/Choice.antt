@@ -28,8 +28,7 @@ chooses_need (Some channels) need = false
 
 -- whether a step is chosen
 abbrev pub is_chosen : Choice → RunStep → Bool
-is_chosen choice step =
-    chooses_turn choice step.processor step.before.turns
+is_chosen choice step = chooses_turn choice step.processor step.before.turns
     && chooses_need choice.channels (need (processor_of step.processor step.before))
 
 -- the steps of a run that are chosen, in order

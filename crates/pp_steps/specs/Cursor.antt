@@ -28,6 +28,5 @@ each_cursor steps = each_after past_step no_cursor steps
 abbrev pub line_at : HeldSpells → Cursor → Progress → LineKind
 line_at spells cursor AtRest = NoLine
 line_at spells cursor Moved = OneStep
-line_at spells cursor (Held flags) =
-    if is_held_with flags cursor.last then NoLine
+line_at spells cursor (Held flags) = if is_held_with flags cursor.last then NoLine
     else HeldSteps (slice_index_or spells.counts cursor.times spells.current)

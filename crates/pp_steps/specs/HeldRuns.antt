@@ -1,5 +1,6 @@
 -- How long a processor is held each time.
-use Rattle.std.specs.Prelude.{ℕ, ◌+◌, Bool, true, false, ◌&&◌, List, [], ◌∷◌, ◌++◌, if◌then◌else◌}
+use Rattle.std.specs.Prelude.{ℕ, ◌+◌, Bool, false, ◌&&◌, List, [], ◌∷◌, ◌++◌, if◌then◌else◌}
+use Rattle.std.specs.Bool.{beq}
 use Rattle.std.specs.List.{fold, prefix_len}
 use Rattle.pp_channel.specs.declared.flags.Flags.{Flags}
 use Rattle.pp_numbers.specs.PpNo.{each_processor}
@@ -8,20 +9,12 @@ use Rattle.pp_run.specs.BareMachine.{progress}
 use Rattle.pp_run.specs.declared.progress.Progress.{Progress}
 use Rattle.pp_run.specs.declared.progress.Progress.TheVariants.{AtRest, Held}
 
--- what a step did
 abbrev pub progress_of : RunStep → Progress
 progress_of step = progress step.processor step.before
 
--- two flags that are the same
-abbrev pub same_flag : Bool → Bool → Bool
-same_flag true other = other
-same_flag false true = false
-same_flag false false = true
-
 -- whether a step is held with these flags
 abbrev pub is_held_with : Flags → Progress → Bool
-is_held_with flags (Held others) =
-    same_flag flags.active others.active && same_flag flags.full others.full
+is_held_with flags (Held others) = beq flags.active others.active && beq flags.full others.full
 is_held_with flags step = false
 
 -- whether a step is held like the last one
@@ -33,8 +26,7 @@ goes_on last step = false
 abbrev pub last_of : List Progress → Progress
 last_of steps = fold (λ last step. step) AtRest steps
 
--- the times of one processor so far: how many steps each took that is over, how many the last one,
--- and the last step
+-- a processor's times so far: the steps of each that is over, those of the last, and the last step
 pub record HeldSpells : Type 0 where
   pub counts : List ℕ
   pub current : ℕ

@@ -17,38 +17,31 @@ use Rattle.pp_word.specs.Numeral.{decimal, octal}
 use Rattle.pp_text.specs.Differences.{differs, places}
 use Rattle.pp_text.specs.Standing.{flags_text, held_text}
 
--- `7105 0300`: a word and, where a second belongs to the instruction, the next; a block in progress
--- reads none
+-- `7105 0300`: a word, and the next if the instruction has two; a block in progress reads none
 abbrev pub words_text : Option Block → ℕ → ℕ → List ℕ
 words_text None word m =
     if is_long word then octal 4 word ++ codes " " ++ octal 4 m else octal 4 word
 words_text (Some block) word m = []
 
--- `000021 PP01 0201 7105 0300  IAM 0300,05   A=000004`: the turn, processor n at P, the words that
--- it reads, the instruction that runs, and A
+-- `000021 PP01 0201 7105 0300  IAM 0300,05   A=000004`: turn, processor, P, words, instruction, A
 abbrev pub heading : ℕ → ℕ → Processor → ℕ → List ℕ
-heading turn n pp a =
-    decimal turn ++ codes " PP" ++ octal 2 n ++ codes " " ++ octal 4 pp.p ++ codes " "
-    ++ padded 9 (words_text pp.block (word_at pp pp.p) (word_at pp (next_place pp.p)))
+heading turn n pp a = decimal turn ++ codes " PP" ++ octal 2 n ++ codes " " ++ octal 4 pp.p
+    ++ codes " " ++ padded 9 (words_text pp.block (word_at pp pp.p) (word_at pp (next_place pp.p)))
     ++ codes "  " ++ padded 13 (running_instruction pp) ++ codes " A=" ++ octal 6 a
 
 -- ` (0300)=0001`, where the word at a place differs
 abbrev pub place_text : List ℕ → List ℕ → ℕ → List ℕ
-place_text before after place =
-    if differs before after place
+place_text before after place = if differs before after place
     then codes " (" ++ octal 4 place ++ codes ")=" ++ octal 4 (slice_index after place) else []
 
--- these texts, in order of place
 abbrev pub places_text : List ℕ → List ℕ → List ℕ
 places_text before after = flat_map (place_text before after) places
 
 -- ` CM 000100=00060007001000110012`, where the central word at an address differs
 abbrev pub central_text : List ℕ → List ℕ → ℕ → List ℕ
-central_text before after a =
-    if differs before after a
+central_text before after a = if differs before after a
     then codes " CM " ++ octal 6 a ++ codes "=" ++ octal 20 (slice_index after a) else []
 
--- these texts, in order of address
 abbrev pub centrals_text : List ℕ → List ℕ → List ℕ
 centrals_text before after = flat_map (central_text before after) (range_with_len 0 (length after))
 
@@ -59,9 +52,8 @@ event_or_flags None flags = flags_text flags
 
 -- ` CH05 PUT 0007`, where a channel is needed
 abbrev pub channel_text : Need → MachineState → List ℕ
-channel_text (Channel c operation) m =
-    codes " CH" ++ octal 2 c ++ codes " "
-    ++ event_or_flags (event_of operation (history_of c m)) (flags_of (history_of c m))
+channel_text (Channel c operation) m = codes " CH" ++ octal 2 c
+    ++ codes " " ++ event_or_flags (event_of operation (history_of c m)) (flags_of (history_of c m))
 channel_text need m = []
 
 -- ` STOPPED`, where the processor goes on no more

@@ -44,7 +44,6 @@ steps_on (HeldSteps count) step = replicate count step
 abbrev pub line_steps : StepWithLine → List Progress
 line_steps x = steps_on x.line (progress_of x.step)
 
--- whether it is a step of processor n
 abbrev pub is_by : ℕ → StepWithLine → Bool
 is_by n x = is_of n x.step
 

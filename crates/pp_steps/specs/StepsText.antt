@@ -12,13 +12,11 @@ use Rattle.pp_steps.specs.declared.cursor.LineKind.TheVariants.{NoLine, OneStep,
 use Rattle.pp_run.specs.declared.progress.Progress.{Progress}
 use Rattle.pp_run.specs.declared.progress.Progress.TheVariants.{AtRest, Moved, Held}
 
--- which line a step has, by the last step of its processor before it and by those after it: none
--- where it is at rest, or held like the last
+-- the line of a step, by its processor's last before and those after: none at rest, or held like it
 abbrev pub line_kind : Progress → Progress → List Progress → LineKind
 line_kind last AtRest steps = NoLine
 line_kind last Moved steps = OneStep
-line_kind last (Held flags) steps =
-    if is_held_with flags last then NoLine
+line_kind last (Held flags) steps = if is_held_with flags last then NoLine
     else HeldSteps (1 + prefix_len (is_held_with flags) steps)
 
 -- a step, and which line it has
@@ -35,11 +33,9 @@ with_line past step future =
       line = line_kind (last_of (of_its_own past)) (progress_of step) (of_its_own future);
     }
 
--- all steps to come
 abbrev pub lines_from : List RunStep → List RunStep → List StepWithLine
 lines_from past [] = []
-lines_from past (step ∷ future) =
-    with_line past step future ∷ lines_from (past ++ step ∷ []) future
+lines_from past (step ∷ future) = with_line past step future ∷ lines_from (past ++ step ∷ []) future
 
 -- some steps, each with the line that it has among them
 abbrev pub with_lines : List RunStep → List StepWithLine

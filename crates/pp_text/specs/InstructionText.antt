@@ -38,9 +38,8 @@ operands_text Number place d m = octal 2 d
 
 -- the text of the instruction in a word at a place, before the next word m
 unfoldable pub instruction_text : ℕ → ℕ → ℕ → List ℕ
-instruction_text place word m =
-    (row_of (opcode_at (word / 2 ^ 6))).mnemonic ++ codes " "
-    ++ operands_text (operands_of (word / 2 ^ 6)) place (word % 2 ^ 6) m
+instruction_text place word m = (row_of (opcode_at (word / 2 ^ 6))).mnemonic
+    ++ codes " " ++ operands_text (operands_of (word / 2 ^ 6)) place (word % 2 ^ 6) m
 
 -- `IAM 05`: the text of a block in progress
 abbrev pub block_text : BlockKind → List ℕ
@@ -49,16 +48,14 @@ block_text (Output channel) = codes "OAM " ++ octal 2 channel
 block_text (CentralIn left) = codes "CRM"
 block_text (CentralOut left) = codes "CWM"
 
--- the text of the instruction that runs: of the block in progress, whose words may have been
--- overwritten, else of the word at a place
+-- of what runs: the block in progress, whose words may be overwritten, else the word at a place
 abbrev pub running_text : Option Block → ℕ → ℕ → ℕ → List ℕ
 running_text None place word m = instruction_text place word m
 running_text (Some block) place word m = block_text block.kind
 
 -- the text of the instruction that a processor runs
 abbrev pub running_instruction : Processor → List ℕ
-running_instruction pp =
-    running_text pp.block pp.p (word_at pp pp.p) (word_at pp (next_place pp.p))
+running_instruction pp = running_text pp.block pp.p (word_at pp pp.p) (word_at pp (next_place pp.p))
 
 -- whether a second word belongs to the instruction in a word
 abbrev pub is_long : ℕ → Bool

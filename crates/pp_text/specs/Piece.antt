@@ -1,6 +1,5 @@
--- Pieces of a text, which have a fixed size.
+-- The pieces of a text: the most bytes that one holds (decimal).
 use Rattle.std.specs.Prelude.{ℕ}
 
--- the most bytes that a piece holds (decimal)
 abbrev pub piece_length : ℕ
 piece_length = 8192

@@ -10,8 +10,6 @@ use Rattle.pp_numbers.specs.PpNo.{all_processors, is_named}
 use Rattle.pp_machine.specs.declared.{pp_state.PpState.PpState, trace.Trace.Trace}
 use Rattle.pp_word.specs.Numeral.{decimal, octal}
 
--- ---- lines
-
 abbrev pub line_end : List ℕ
 line_end = 10 ∷ []
 
@@ -29,9 +27,8 @@ event_text (Event.Function word) = codes "FNC " ++ octal 4 word
 
 -- `000020 PP00 CH05 PUT 0007`
 unfoldable pub event_line : Trace → List ℕ
-event_line e =
-    decimal e.turn ++ codes " PP" ++ octal 2 e.pp ++ codes " CH" ++ octal 2 e.channel ++ codes " "
-    ++ event_text e.event ++ line_end
+event_line e = decimal e.turn ++ codes " PP" ++ octal 2 e.pp ++ codes " CH" ++ octal 2 e.channel
+    ++ codes " " ++ event_text e.event ++ line_end
 
 abbrev pub state_text : PpState → List ℕ
 state_text PpState.Running = codes "RUNNING"
@@ -40,9 +37,8 @@ state_text (PpState.Fault number) = codes "FAULT " ++ octal 1 number
 
 -- `PP00 P=0103 A=000007 STOPPED`, with what is printed of the processor last
 unfoldable pub processor_line : ℕ → Processor → List ℕ → List ℕ
-processor_line n pp said =
-    codes "PP" ++ octal 2 n ++ codes " P=" ++ octal 4 pp.p ++ codes " A=" ++ octal 6 pp.a
-    ++ codes " " ++ said ++ line_end
+processor_line n pp said = codes "PP" ++ octal 2 n ++ codes " P=" ++ octal 4 pp.p
+    ++ codes " A=" ++ octal 6 pp.a ++ codes " " ++ said ++ line_end
 
 -- `ACTIVE FULL 0007`, by whether the channel is active and by the word that waits
 abbrev pub channel_text : Bool → Option ℕ → List ℕ
@@ -52,11 +48,8 @@ channel_text is_active None = if is_active then codes "ACTIVE EMPTY" else codes 
 -- `CH05 ACTIVE FULL 0007`, for a channel with a history
 abbrev pub channel_line : ℕ → List Event → List ℕ
 channel_line c [] = []
-channel_line c (e ∷ h) =
-    codes "CH" ++ octal 2 c ++ codes " " ++ channel_text (active (e ∷ h)) (waiting (e ∷ h))
-    ++ line_end
-
--- ---- the whole text
+channel_line c (e ∷ h) = codes "CH" ++ octal 2 c
+    ++ codes " " ++ channel_text (active (e ∷ h)) (waiting (e ∷ h)) ++ line_end
 
 -- what there is of 0, of 1, .. and of count - 1, one after another
 unfoldable pub each_below : {X : Type 0} → ℕ → (ℕ → List X) → List X
@@ -72,8 +65,7 @@ named_processor_line named m n = if is_named named n
 abbrev pub used_channel_line : List (List Event) → ℕ → List ℕ
 used_channel_line histories c = channel_line c (history_on c histories)
 
--- the text of a machine: its events in order, then the processors named and the channels used, in
--- order of number. Numbers have two octal digits.
+-- the text of a machine: its events in order, then processors named and channels used, by number
 unfoldable pub printed : List Bool → MachineState → List ℕ
 printed named m =
     flat_map event_line m.trace ++ flat_map (named_processor_line named m) all_processors

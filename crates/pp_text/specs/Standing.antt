@@ -19,24 +19,21 @@ block_place_text (Some block) = codes " BLOCK " ++ octal 4 block.place
 
 -- `ACTIVE FULL`
 abbrev pub flags_text : Flags → List ℕ
-flags_text flags =
-    if flags.active then (if flags.full then codes "ACTIVE FULL" else codes "ACTIVE EMPTY")
-    else codes "INACTIVE"
+flags_text flags = if flags.active
+    then (if flags.full then codes "ACTIVE FULL" else codes "ACTIVE EMPTY") else codes "INACTIVE"
 
 -- ` x376`, a count in decimal, if it is not 0
 abbrev pub count_text : ℕ → List ℕ
 count_text count = if count == 0 then [] else codes " x" ++ unpadded 10 count
 
--- ` HELD CH01 ACTIVE EMPTY x376`: channel c at these flags holds a processor; this many of its last
--- steps in a row were held
+-- ` HELD CH01 ACTIVE EMPTY x376`: by channel c at these flags, in this many last steps in a row
 abbrev pub channel_held_text : ℕ → Flags → ℕ → List ℕ
 channel_held_text c flags count =
     codes " HELD CH" ++ octal 2 c ++ codes " " ++ flags_text flags ++ count_text count
 
 -- the same, if the next step, which has this need, is held
 abbrev pub held_text : Need → Outcome → MachineState → ℕ → List ℕ
-held_text (Channel c operation) Held m count =
-    channel_held_text c (flags_of (history_of c m)) count
+held_text (Channel c operation) Held m count = channel_held_text c (flags_of (history_of c m)) count
 held_text need outcome m count = []
 
 -- `RUNNING IAN 01 HELD CH01 ACTIVE EMPTY x376`

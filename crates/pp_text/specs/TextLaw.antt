@@ -43,18 +43,14 @@ pub record ShowSameChannel (h other : List Event) : Type 0 where
   pub active : active h ≡ active other
   pub waiting : waiting h ≡ waiting other
 
--- the same processors named
 abbrev pub NameAlike : List Bool → List Bool → Type 0
 NameAlike named others = (n : ℕ) → is_named named n ≡ is_named others n
 
--- the same processors named; the same events in the same order; of each processor named the same P,
--- A and state; and of each channel whether anything has happened, whether it is active, and the
--- word that waits
+-- two machines show the same: processors named, events in order, registers and states, channels
 pub record AgreeOnText (named others : List Bool) (one other : MachineState) : Type 0 where
   pub names : NameAlike named others
   pub trace : one.trace ≡ other.trace
-  pub processors :
-      (n : ℕ) → IsTrue (is_named named n)
+  pub processors : (n : ℕ) → IsTrue (is_named named n)
       → ShowSameProcessor (processor_of n one) (processor_of n other)
   pub channels : (c : ℕ) → IsTrue (names_channel c)
       → ShowSameChannel (history_on c one.histories) (history_on c other.histories)

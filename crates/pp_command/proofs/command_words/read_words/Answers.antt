@@ -1,6 +1,6 @@
 use Rattle.std.proofs.Common.{rules, tests, None}
 use Rattle.clap.specs.Words.{found_of}
-use Rattle.pp_command.specs.CommandLine.{AsksForMoreAmong, IsWorkAmong}
+use Rattle.pp_command.specs.CommandLine.{AsksForMoreAmong}
 use Rattle.pp_command.proofs.CommandLemmas.{met_command, met_none, refused_words, taken_words}
 use Rattle.pp_command.proofs.command_words.read_words.Goals as goal
 
@@ -44,6 +44,6 @@ pub returns-clause-refused : goal.returns-clause-refused
 returns-clause-refused c =
     let e = met_none _ _ c.in-Ok-try_get_matches_from.matches c.in-Ok.ensures c.in-Ok-try_get_matches_from.ensures.matches c.in-None.ensures.name in (
       taken_words _ _ c.in-Ok.ensures c.in-Ok-try_get_matches_from.ensures.kinds,
-      λ work k. let bad : IsWorkAmong None work = rw e at k in bad,
+      λ work k. let bad : ⊥ = rw e at k in bad,
       λ k. let bad : AsksForMoreAmong None = rw e at k in bad,
     )
