@@ -1,17 +1,14 @@
 -- What a channel answers to an operation, by its history: first as a relation to lawful histories,
--- then as a function by the table of operations. On lawful histories the two agree.
--- (Manual 60100000, channel instructions: 64 to 67 (octal) test the flags of a channel, and 70 to
--- 77 wait until its flags let them go on.)
+-- then as a function by the table of operations. On lawful histories they agree. (Manual 60100000,
+-- channel instructions: 64 to 67 (octal) test the flags of a channel, 70 to 77 wait on its flags.)
 use Rattle.std.specs.Prelude.{◌≡◌, ℕ, Bool, true, false, not, ◌&&◌, List, [], ◌∷◌, ◌++◌, Option, Some, None, ◌⊎◌, if◌then◌else◌, option_map, option_to_list, length}
 use Rattle.std.specs.Option.{option_or}
 use Rattle.pp_channel.specs.declared.{event.Event.Event, chan_op.ChanOp.ChanOp, channel_state.ChannelState.ChannelState, seen.Seen.Seen, reply.Reply.Reply, flags.Flags.Flags, numbered.Numbered.Numbered}
 use Rattle.pp_channel.specs.History.{IsLawful, active, full, waiting, HasTwelveBitWords}
 
--- the flags of a channel with the history h
 abbrev pub flags_of : List Event → Flags
 flags_of h = record { active = active h; full = full h }
 
--- its state: its flags, and the word in its register
 abbrev pub channel_state : List Event → ChannelState
 channel_state h = record { flags = flags_of h; register = waiting h }
 
@@ -20,7 +17,6 @@ abbrev pub only_looks : ChanOp → Bool
 only_looks ChanOp.Probe = true
 only_looks op = false
 
--- the operation that makes an event
 abbrev pub operation_of : Event → ChanOp
 operation_of Event.Activate = ChanOp.Activate
 operation_of Event.Disconnect = ChanOp.Disconnect
@@ -93,11 +89,9 @@ event_answered op reply = None
 
 -- what an operation so answered saw or did: the flags that the reply shows, or its event
 abbrev pub seen_answered : ChanOp → Reply → Option Seen
-seen_answered op reply =
-    option_or (option_map (λ f. Seen.Saw f) (flags_shown reply))
+seen_answered op reply = option_or (option_map (λ f. Seen.Saw f) (flags_shown reply))
     (option_map (λ e. Seen.Did e) (event_answered op reply))
 
--- the flags after an event
 abbrev pub flags_after : Event → Flags
 flags_after Event.Activate = record { active = true; full = false }
 flags_after Event.Disconnect = record { active = false; full = false }
@@ -117,7 +111,6 @@ abbrev pub reply_by : ChanOp → ChannelState → Option Event → Reply
 reply_by op state None = reply_shown op state
 reply_by op state (Some e) = reply_made e
 
--- The reply to an operation on a channel in this state.
 abbrev pub state_reply : ChanOp → ChannelState → Reply
 state_reply op state = reply_by op state (event_by op state.flags state.register)
 

@@ -1,5 +1,4 @@
--- The history of a channel is the list of its events: which histories are lawful, and what a
--- history says of the channel now.
+-- The history of a channel, the list of its events: which are lawful, and what one says of it now.
 -- (Manual 60100000, data channels: active or inactive, full or empty. Words pass while a channel is
 -- active, function codes go out while it is inactive.)
 use Rattle.std.specs.Prelude.{◌≡◌, ℕ, ◌+◌, ◌^◌, ◌<◌, Bool, true, false, ◌&&◌, ◌==◌, List, ◌∷◌, ◌++◌, length, map, All, Option, Some, None, is_some, unwrap_or, if◌then◌else◌, option_to_list, filter_map, flat_map, [], slice_index_or}
@@ -16,18 +15,14 @@ idle_stretch codes = map (λ code. Event.Function code) codes
 abbrev pub whole_session : Session × List ℕ → List Event
 whole_session (session, codes) = body session ++ Event.Disconnect ∷ idle_stretch codes
 
--- The course of a channel: an idle stretch, any number of whole sessions, each with its idle
--- stretch, and perhaps an open session.
+-- A channel's course: an idle stretch, whole sessions with one after each, perhaps an open session.
 pub record Course : Type 0 where
   pub first_stretch : List ℕ
   pub whole_sessions : List (Session × List ℕ)
   pub open_session : Option Session
 
--- the events of a course, in order
 abbrev pub events_of : Course → List Event
-events_of c =
-    idle_stretch c.first_stretch
-    ++ flat_map whole_session c.whole_sessions
+events_of c = idle_stretch c.first_stretch ++ flat_map whole_session c.whole_sessions
     ++ flat_map body (option_to_list c.open_session)
 
 -- A history is lawful if there is a course whose events it is.
@@ -63,7 +58,6 @@ HasTwelveBitWord (Event.Take w) = w < 2 ^ 12
 HasTwelveBitWord (Event.Function w) = w < 2 ^ 12
 HasTwelveBitWord _ = Unit {0}
 
--- Every word of a history has 12 bits.
 abbrev pub HasTwelveBitWords : List Event → Type 0
 HasTwelveBitWords h = All HasTwelveBitWord h
 

@@ -1,5 +1,4 @@
 -- The law of the words that pass on a channel, over every session of its history.
---
 -- In every session the words taken are the first of the words put, in their order, and at most one
 -- word put is not taken. It waits in the register, or it is lost if a Disconnect finds the channel
 -- full. No word is put or taken outside a session; function codes are sent there.
@@ -33,7 +32,6 @@ pub record IsFullWith (h : List Event) (w : ℕ) : Type 0 where
   pub waits : waiting h ≡ Some w
   pub put_last : last_or None h ≡ Some (Event.Put w)
 
--- The law of a history.
 pub record KeepsLaw (h : List Event) : Type 0 where
   -- at every moment of every session
   pub in_order : (before inside after : List Event)

@@ -17,8 +17,7 @@ pub record WaitsIn {A : Type 0} (report : Report A) (pp : Processor) : Type 0 wh
   pub needs : need pp ≡ Need.Channel channel operation
   pub stays : Stays operation pp (history_on channel report.channels)
 
--- a processor cannot move: it is at rest, or jumps to itself, or waits for a channel as all workers
--- left it
+-- it cannot move: it is at rest, or jumps to itself, or waits for a channel as all workers left it
 abbrev pub CannotMove : {A : Type 0} → Report A → Processor → Type 0
 CannotMove report pp = IsAtRest pp ⊎ (TurnsInPlace pp ⊎ WaitsIn report pp)
 

@@ -18,16 +18,14 @@ abbrev pub AreOpenedBy : MachineState → List Bool → Type 0
 AreOpenedBy m opened =
     (c : ℕ) → IsTrue (names_channel c) → is_opened opened c ≡ machine_state.is_opened c m
 
--- a machine whose histories are those of its trace, over what dead start opened; that fits its
--- text; and whose turns rise, all of at most 19 decimal digits
+-- a machine that keeps the headline and fits its text; its turns rise, of at most 19 decimal digits
 pub record IsPrintable (named : List Bool) (m : MachineState) : Type 0 where
   pub headline : HoldsOnEachChannel m
   pub fits : FitsItsText named m
   pub rising : IsStrictlyIncreasing (map (λ e. e.turn) m.trace)
   pub few_turns : All (λ e. e.turn < 10 ^ 19) m.trace
 
--- a report of a run of a machine by threads, that fits its text, and whose numbers of events have
--- at most 19 decimal digits
+-- a report of a run by threads that fits its text; event numbers have at most 19 decimal digits
 pub record IsPrintableReport {Z : Type 0} (named : List Bool) (limits : RunLimits)
     (m : MachineState) (report : Report Z) : Type 0 where
   pub run : IsReportOf limits m report

@@ -1,8 +1,7 @@
 -- When a text is well-formed XML, of printed ASCII characters, with names of letters and values in
 -- single quotes, and without comments and references. Read character by character, it is one
 -- element; each tag and each quote ends; each attribute stands after a space, with a name that no
--- other of its tag has, `=` and a value; and each element is closed by its own name, the innermost
--- first.
+-- other of its tag has, `=` and a value; each element is closed by its name, the innermost first.
 use Rattle.std.specs.Prelude.{◌≡◌, ℕ, ◌==◌, ◌&&◌, not, List, [], ◌∷◌, fold, nat_le, if◌then◌else◌}
 use Rattle.std.specs.List.{list_any}
 use Rattle.std.specs.Str.{bytes_eq}
@@ -13,8 +12,7 @@ pub data Sign : Type 0 where
   less greater quote slash equals space line_feed letter other forbidden : Sign
 
 abbrev pub sign_of : ℕ → Sign
-sign_of character =
-    if character == 60 then less else if character == 62 then greater
+sign_of character = if character == 60 then less else if character == 62 then greater
     else if character == 39 then quote else if character == 47 then slash
     else if character == 61 then equals else if character == 32 then space
     else if character == 10 then line_feed

@@ -1,8 +1,7 @@
 -- A channel as one number of 64 bits, the channel word: how many events it has had, its flags and
 -- its register; and one step of it, by the table of operations for every number of 64 bits, and by
--- the history if the word stands for one.
--- (Manual 60100000, data channels: a register of 12 bits, an active flag and a full flag. That they
--- lie in one number beside a count of events is this project's own.)
+-- the history if the word stands for one. (Manual 60100000, data channels: a register of 12 bits,
+-- an active and a full flag. That they lie in one number with a count is this project's own.)
 use Rattle.std.specs.Prelude.{◌≡◌, ℕ, ◌+◌, ◌-◌, ◌*◌, ◌/◌, ◌%◌, ◌^◌, ◌<◌, ◌==◌, ◌&&◌, true, false, not, List, [], ◌∷◌, ◌++◌, length, Option, Some, None, unwrap_or, if◌then◌else◌}
 use Rattle.pp_line.specs.Types.{ChanOp, Event, Flags, WordStep}
 use Rattle.pp_channel.specs.declared.channel_state.ChannelState.{ChannelState}
@@ -12,9 +11,8 @@ use Rattle.pp_channel.specs.Session.{word_put}
 
 -- bits 0 to 11: the register; bit 12: full; bit 13: active; from bit 14 on: the number of events
 abbrev pub packed : ℕ → Flags → ℕ → ℕ
-packed number flags register =
-    number * 2 ^ 14 + (if flags.active then 2 ^ 13 else 0) + (if flags.full then 2 ^ 12 else 0)
-    + register
+packed number flags register = number * 2 ^ 14 + (if flags.active then 2 ^ 13 else 0)
+    + (if flags.full then 2 ^ 12 else 0) + register
 
 -- The word of a channel with the history h; a register without a waiting word is 0.
 abbrev pub history_word : List Event → ℕ
@@ -39,7 +37,6 @@ abbrev pub waiting_in : ℕ → Option ℕ
 waiting_in word =
     if (flags_in word).active && (flags_in word).full then Some (register_in word) else None
 
--- the state of a channel with this word
 abbrev pub state_in : ℕ → ChannelState
 state_in word = record { flags = flags_in word; register = waiting_in word }
 
@@ -53,11 +50,9 @@ step_by op word None =
     if only_looks op then WordStep.Look (flags_in word) else WordStep.Held (flags_in word)
 step_by op word (Some e) = WordStep.Next (word_with word e) (reply_made e) e
 
--- The step of an operation from any word. On a worn one only an operation that only looks is
--- answered.
+-- The step of an operation from any word; on a worn one, only one that only looks is answered.
 abbrev pub step_from : ChanOp → ℕ → WordStep
-step_from op word =
-    if not (only_looks op) && (number_in word == greatest_number) then WordStep.Worn
+step_from op word = if not (only_looks op) && (number_in word == greatest_number) then WordStep.Worn
     else step_by op word (event_by op (flags_in word) (waiting_in word))
 
 -- Then by the history. What the step of an operation has to be if the word is that of a channel

@@ -11,18 +11,15 @@ pub record LogState : Type 0 where
   pub room : ℕ
   pub kept : Bool
 
--- a log without entries
 abbrev pub empty_log : ℕ → LogState
 empty_log room = record { entries = []; room = room; kept = true }
 
--- the entries of an event and of a look
 abbrev pub event_entry : ℕ → ℕ → Event → Entry
 event_entry c number e = record { channel = c; number = number; what = Seen.Did e }
 
 abbrev pub look_entry : ℕ → ℕ → Flags → Entry
 look_entry c number f = record { channel = c; number = number; what = Seen.Saw f }
 
--- an entry is added at the end
 abbrev pub appended : LogState → Entry → LogState
 appended log entry =
     record { entries = log.entries ++ entry ∷ []; room = log.room - 1; kept = false }
@@ -43,13 +40,11 @@ ends_in_look_at c log = not log.kept && is_look_at c (last_or None log.entries)
 
 -- a look takes the place of such a last look; otherwise it is added at the end
 abbrev pub looked : LogState → Entry → LogState
-looked log entry =
-    if ends_in_look_at entry.channel log
+looked log entry = if ends_in_look_at entry.channel log
     then record log { entries = slice_set log.entries (length log.entries - 1) entry; kept = false }
     else appended log entry
 
--- The log after an operation on channel c saw or did this: an event gets an entry of its own, a
--- look may take the place of another.
+-- The log after an operation on channel c saw or did this: a look may take the place of another.
 abbrev pub with_seen : LogState → ℕ → ℕ → Option Seen → LogState
 with_seen log c number None = log
 with_seen log c number (Some (Seen.Did e)) = appended log (event_entry c number e)

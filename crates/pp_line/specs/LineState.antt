@@ -14,9 +14,7 @@ use Rattle.pp_channel.specs.History.{history_on}
 use Rattle.pp_line.specs.Order.{extended, IsTotalOrderOf, ExtendsEach, IsDrawnFrom, entries_among, on_channels, FindsWords, AreMade}
 
 -- Lines that were split from one another are a family, and share one table of words. A line has its
--- log; its view, which is what it knows: its shares, of how many in its family, the events that it
--- made, the words that it found, in order, how many loads it made whose words were not noted, how
--- many events of each channel it has seen, and its program orders; and that table.
+-- log; its view, which is what it knows (the fields of LineView say what); and that table.
 pub record LineState : Type 0 where
   pub log : LogState
   pub view : LineView
@@ -28,9 +26,8 @@ pub record IsSplitFrom (parent : LineState) (room : ℕ) (line : LineState) : Ty
   pub view : line.view ≡ child_view parent.view
   pub table : line.table ≡ parent.table
 
--- Two lines as one: the entries of the first and then those of the second, the room of the first,
--- and what both know, with the shares of both, which one more load has shown to be no more than
--- all.
+-- Two lines as one: the entries of the first, then those of the second, the room of the first, and
+-- what both know, with the shares of both, which one more load has shown to be no more than all.
 abbrev pub joined : LineState → LineState → LineState
 joined line other = record line {
   log = record line.log { entries = line.log.entries ++ other.log.entries; kept = true };
@@ -71,9 +68,8 @@ pub record IsAnsweredBy (history : List Event) (op : ChanOp) (r : Numbered) : Ty
   pub at_once : r.number ≡ r.loaded → IsAnswer (take r.loaded history) op r.reply history
   pub lost : r.number ≢ r.loaded → IsLost history op r
 
--- The line after an answer to an operation on channel c that found these words: its log records
--- what the operation saw or did, its view has the event, if there was one, and its program orders
--- grow by a look for each word and then that event.
+-- The line after an answer to an operation on channel c that found these words: log and view record
+-- what it saw or did; the program orders grow by a look for each word and then the event, if any.
 abbrev pub answered : LineState → ℕ → ChanOp → Numbered → List ℕ → LineState
 answered line c op r words = record line {
   log = with_seen line.log c r.number (seen_answered op r.reply);
@@ -107,8 +103,7 @@ pub record IsActed (line : LineState) (c : ℕ) (op : ChanOp) (r : Numbered) (af
       (slice_set histories (channel_index c) (take r.loaded (history_on c histories)))
       line.log.entries
 
--- The channel has had as many events as its word can count, the line has now seen them all, and the
--- operation does more than look.
+-- The channel is worn, the line has now seen all its events, and the operation does more than look.
 pub record IsWornOut (line : LineState) (c : ℕ) (op : ChanOp) (after : LineState) : Type 0 where
   pub acts : only_looks op ≡ false
   pub word : ℕ

@@ -88,19 +88,16 @@ announced c expected (some e) before word after = IsExchange c expected e before
 abbrev pub exchanges : Step Event → Me Event LineView → ℕ → Me Event LineView → Type 0
 exchanges step = OnChannel (λ c. announced c step.first step.said) step
 
--- A step on a word of central memory relates the line's view, the word that it finds or writes and
--- the view after it so; the line's slots stay.
+-- The same of a step on a word of central memory, which it finds or writes.
 abbrev pub OnCentral : (ℕ → LineView → ℕ → LineView → Type 0) → Step Event → Me Event LineView
     → ℕ → Me Event LineView → Type 0
 OnCentral Does step before word after = (after.1 ≡ before.1)
     × ((address : ℕ) → step.word ≡ central_place address → Does address before.0 word after.0)
 
--- A read: it finds a word of 60 bits.
 pub record IsRead (address : ℕ) (before : LineView) (word : ℕ) (after : LineView) : Type 0 where
   pub after_is : after ≡ reads before address word
   pub small : word < 2 ^ 60
 
--- A write.
 abbrev pub IsWrite : ℕ → LineView → ℕ → LineView → Type 0
 IsWrite address before word after = (number : ℕ) × (after ≡ writes before address word number)
 

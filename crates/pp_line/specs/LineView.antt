@@ -9,40 +9,35 @@ use Rattle.pp_channel.specs.History.{AreHistories, history_on}
 use Rattle.pp_line.specs.Order.{extended}
 use Rattle.pp_line.specs.SharedWords.{IsFound}
 
--- the view of a line with these shares that made no event and found no word, and has seen these
--- numbers of events on the channels, beside central memory of these words: its one program order is
--- empty
+-- the view of a line that has made no access: its one program order is empty
 abbrev pub blank_view : ℕ → ℕ → List ℕ → List ℕ → LineView
-blank_view shares whole central seen =
-    record {
-      shares = shares;
-      whole = whole;
-      events = [];
-      found = [];
-      unrecorded_loads = 0;
-      seen = seen;
-      central = central;
-      written = [];
-      program_orders = [] ∷ [];
-    }
+blank_view shares whole central seen = record {
+  shares = shares;
+  whole = whole;
+  events = [];
+  found = [];
+  unrecorded_loads = 0;
+  seen = seen;
+  central = central;
+  written = [];
+  program_orders = [] ∷ [];
+}
 
 -- the view of the first line, which has all shares
 abbrev pub first_view : ℕ → List ℕ → LineView
 first_view whole central = blank_view whole whole central (replicate channel_count 0)
 
--- the views of a line that gives a share away, by a step that loads a word and takes no note of it,
--- and of the new line that has it
+-- the views of a line that gives a share away, by an unrecorded load, and of the line that has it
 abbrev pub parent_view : LineView → LineView
 parent_view v = record v { shares = v.shares - 1; unrecorded_loads = v.unrecorded_loads + 1 }
 
 abbrev pub child_view : LineView → LineView
 child_view v = blank_view 1 v.whole v.central v.seen
 
--- the greater number for each channel
 abbrev pub greater_of_each : List ℕ → List ℕ → List ℕ
 greater_of_each seen other = map (λ pair. max pair.0 pair.1) (zip seen other)
 
--- the view of two lines as one, by a step that loads a word and takes no note of it
+-- the view of two lines as one, by an unrecorded load
 abbrev pub joined_view : LineView → LineView → LineView
 joined_view v w = record v {
   shares = v.shares + w.shares;
@@ -58,7 +53,7 @@ joined_view v w = record v {
 abbrev pub look_by : ℕ → ℕ → Entry
 look_by c word = look_entry c (number_in word) (flags_in word)
 
--- the view after a word was found on channel c
+-- the view after a word was found on channel c, and after an event was made there
 abbrev pub finds : LineView → ℕ → ℕ → LineView
 finds v c word = record v {
   found = v.found ++ record { channel = c; word = word } ∷ [];
@@ -66,7 +61,6 @@ finds v c word = record v {
   program_orders = extended v.program_orders (Access.OnChannel (look_by c word) ∷ []);
 }
 
--- the view after an event was made on channel c
 abbrev pub makes : LineView → ℕ → ℕ → Event → LineView
 makes v c number e = record v {
   events = v.events ++ event_entry c number e ∷ [];
@@ -74,8 +68,7 @@ makes v c number e = record v {
   program_orders = extended v.program_orders (Access.OnChannel (event_entry c number e) ∷ []);
 }
 
--- the view after a word was found in central memory, and after one was written there, `number`
--- writes of all lines having come before
+-- the view after a central read, and after a central write, `number` writes of all lines before it
 abbrev pub reads : LineView → ℕ → ℕ → LineView
 reads v address word =
     record v { program_orders = extended v.program_orders (Access.Read address word ∷ []) }

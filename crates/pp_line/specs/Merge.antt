@@ -35,8 +35,7 @@ pub record Merges (opening : ℕ → List Event) (histories : List (List Event))
   pub begins : (c : ℕ) → IsPrefix (opening c) (history_on c histories)
   pub entries_true : All (IsTrueOf histories) log
 
--- A log of opening histories: it records each of their events once, at its number, and no other,
--- and every entry is true of them.
+-- A log of opening histories: it has each of their events once, no other, and is true of them.
 pub record IsOpeningLog (opening : ℕ → List Event) (log : List Entry) : Type 0 where
   pub once : (c number : ℕ) → number < length (opening c) → times_logged c number log ≡ 1
   pub no_other : (c number : ℕ) → length (opening c) ≤ number → times_logged c number log ≡ 0

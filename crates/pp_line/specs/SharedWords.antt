@@ -30,9 +30,8 @@ IsFound histories found = (number : ℕ) × (number ≤ length (history_on found
     × (history_word (take number (history_on found.channel histories)) ≡ found.word)
 
 -- What a line knows: its events lie within what it has seen, what it has seen within the histories,
--- each word that it found was the word of its channel at some time, and its program orders are
--- extended by the order of all accesses. A line without a share is spent, and left no event and no
--- write behind.
+-- each word that it found was the word of its channel at some time, and the order of all accesses
+-- extends its program orders. A line without a share is spent, and left no event or write behind.
 pub record IsViewOf (histories : List (List Event)) (whole : ℕ) (opening : List ℕ)
     (order : List Access) (v : LineView) : Type 0 where
   pub events_seen : IsWithin v.seen v.events

@@ -11,7 +11,7 @@ use Rattle.pp_numbers.specs.PpNo.{processor_count, processor_index}
 use Rattle.pp_numbers.specs.Profile.{processors_in, processor_in_turn}
 use Rattle.pp_numbers.specs.declared.profile.Profile.{Profile}
 use Rattle.pp_machine.specs.Rounds.{RestBetween, PassesOverRest, IsCut, whole_rounds}
-use Rattle.pp_machine.specs.Run.{MakesEvent, run, barrel}
+use Rattle.pp_machine.specs.Run.{run, barrel}
 use Rattle.pp_machine.proofs.MachineStepLemmas.{stepped_at_rest}
 use Rattle.pp_numbers.proofs.ProfileLemmas.{most_processors, index_in_turn, in_round, more_rounds, fewer_rounds}
 use Rattle.pp_machine.proofs.RunLemmas.{run-append, run_profile, barrel_more}
@@ -198,7 +198,8 @@ within_after rounds more all turns done m n before counted less within =
 
 -- the event of a step behind whole rounds
 pub event_after : (rounds turn done : ℕ) (m n : MachineState) → n ≡ run (whole_rounds m.profile rounds) m → done ≡ rounds * processors_in m.profile
-    → MakesEvent n turn → MakesEvent m (done + turn)
+    → IsSome (step_event (processor_in_turn n.profile turn) (run (barrel n.profile turn) n))
+    → IsSome (step_event (processor_in_turn m.profile (done + turn)) (run (barrel m.profile (done + turn)) m))
 event_after rounds turn done m n before counted made =
     let p = m.profile in
     let here : processor_in_turn n.profile turn ≡ processor_in_turn p (done + turn) =

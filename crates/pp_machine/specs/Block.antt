@@ -28,7 +28,6 @@ central_from pp place =
     joined (word_at pp place ∷ word_at pp (place_after place 1) ∷ word_at pp (place_after place 2)
     ∷ word_at pp (place_after place 3) ∷ word_at pp (place_after place 4) ∷ [])
 
--- a word comes to a place
 abbrev pub stores_at : Processor → ℕ → ℕ → Processor
 stores_at pp place word = record pp { memory = slice_set pp.memory place word }
 
@@ -46,27 +45,23 @@ keeps_place pp = stores_at pp 0 (next_place pp.p)
 
 -- the start of a block at place m; a count of 0 moves nothing
 abbrev pub starts : Processor → ℕ → BlockKind → Processor
-starts pp count kind =
-    let kept = keeps_place pp in
+starts pp count kind = let kept = keeps_place pp in
     if count == 0 then ends kept else continues kept kind (second_word pp)
 
 -- IAM, OAM: a word has gone; A falls by 1, and the block ends at A = 0
 abbrev pub counts_down : Processor → BlockKind → ℕ → Processor
-counts_down pp kind place =
-    let counted = record pp { a = difference pp.a 1 } in
+counts_down pp kind place = let counted = record pp { a = difference pp.a 1 } in
     if counted.a == 0 then ends counted else continues counted kind (next_place place)
 
 -- CRM, CWM: a central word has gone; A rises by 1, and the block ends if no more are left
 abbrev pub counts_up : Processor → ℕ → BlockKind → ℕ → Processor
-counts_up pp left kind place =
-    let counted = record pp { a = sum pp.a 1 } in
+counts_up pp left kind place = let counted = record pp { a = sum pp.a 1 } in
     if left == 0 then ends counted else continues counted kind (place_after place 5)
 
 -- one word of a block in progress
 abbrev pub block_word : BlockKind → ℕ → Processor → Step
-block_word (CentralIn left) place pp =
-    reads pp.a (λ central. counts_up (receives pp place central) (left - 1)
-    (CentralIn (left - 1)) place)
+block_word (CentralIn left) place pp = reads pp.a
+    (λ central. counts_up (receives pp place central) (left - 1) (CentralIn (left - 1)) place)
 block_word (CentralOut left) place pp =
     writes pp.a (central_from pp place) (counts_up pp (left - 1) (CentralOut (left - 1)) place)
 block_word (Input channel) place pp =

@@ -68,40 +68,33 @@ pub record TakesWords (pp : Processor) (answers : List Answer) (count : ℕ) (wo
 
 -- 71: as many words as A says
 abbrev pub CompleteInput : Processor → Type 0
-CompleteInput pp =
-    (words : List ℕ) → BeginsAt Opcode.IAM pp → has_channel pp.profile (lower_six pp) ≡ true
-    → 0 < pp.a → length words ≡ pp.a → length words ≤ place_count →
-    let answers = input_answers words in
+CompleteInput pp = (words : List ℕ) → BeginsAt Opcode.IAM pp
+    → has_channel pp.profile (lower_six pp) ≡ true → 0 < pp.a → length words ≡ pp.a
+    → length words ≤ place_count → let answers = input_answers words in
     EndsBlock pp answers 0 × TakesWords pp answers (length words) words
 
 -- 71: fewer words, and then the channel was inactive: a word 0 closes them, and A is what was left
 abbrev pub ShortInput : Processor → Type 0
-ShortInput pp =
-    (words : List ℕ) (full : Bool) → BeginsAt Opcode.IAM pp
-    → has_channel pp.profile (lower_six pp) ≡ true
-    → length words < pp.a → length words < place_count →
-    let answers = input_answers words ++ inactive full ∷ [] in
+ShortInput pp = (words : List ℕ) (full : Bool) → BeginsAt Opcode.IAM pp
+    → has_channel pp.profile (lower_six pp) ≡ true → length words < pp.a
+    → length words < place_count → let answers = input_answers words ++ inactive full ∷ [] in
     EndsBlock pp answers (pp.a - length words)
     × TakesWords pp answers (length words) (words ++ 0 ∷ [])
 
 -- 73: the words from place m on are put, and no place but 0000 changes
 pub record PutsWords (pp : Processor) (answers : List Answer) (count : ℕ) : Type 0 where
-  pub puts : (i : ℕ) → i < count
-      → need_before_answer pp answers i ≡ Need.Channel (lower_six pp)
+  pub puts : (i : ℕ) → i < count → need_before_answer pp answers i ≡ Need.Channel (lower_six pp)
       (Put (slice_index (kept_memory pp) (place_after (second_word pp) i)))
   pub memory : (replayed pp answers).memory ≡ kept_memory pp
 
 -- 73: as many words as A says
 abbrev pub CompleteOutput : Processor → Type 0
-CompleteOutput pp =
-    BeginsAt Opcode.OAM pp → has_channel pp.profile (lower_six pp) ≡ true → 0 < pp.a →
-    let answers = output_answers pp.a in
-    EndsBlock pp answers 0 × PutsWords pp answers pp.a
+CompleteOutput pp = BeginsAt Opcode.OAM pp → has_channel pp.profile (lower_six pp) ≡ true → 0 < pp.a
+    → let answers = output_answers pp.a in EndsBlock pp answers 0 × PutsWords pp answers pp.a
 
 -- 73: fewer words, and then the channel was inactive
 abbrev pub ShortOutput : Processor → Type 0
-ShortOutput pp =
-    (count : ℕ) (full : Bool) → BeginsAt Opcode.OAM pp
+ShortOutput pp = (count : ℕ) (full : Bool) → BeginsAt Opcode.OAM pp
     → has_channel pp.profile (lower_six pp) ≡ true → count < pp.a →
     let answers = output_answers count ++ inactive full ∷ [] in
     EndsBlock pp answers (pp.a - count) × PutsWords pp answers count
@@ -123,9 +116,8 @@ pub record ReadsCentrals (pp : Processor) (answers : List Answer) (centrals : Li
 
 -- 61: as many central words as place d says, from 1 to 819 (decimal)
 abbrev pub CentralRead : Processor → Type 0
-CentralRead pp =
-    (centrals : List ℕ) → BeginsAt Opcode.CRM pp → 0 < length centrals → length centrals ≤ 819
-    → length centrals ≡ word_at pp (lower_six pp) →
+CentralRead pp = (centrals : List ℕ) → BeginsAt Opcode.CRM pp
+    → 0 < length centrals → length centrals ≤ 819 → length centrals ≡ word_at pp (lower_six pp) →
     let answers = Answer.Local ∷ map (λ central. Answer.Read (Some central)) centrals in
     EndsBlock pp answers (sum pp.a (length centrals)) × ReadsCentrals pp answers centrals
 
@@ -138,7 +130,7 @@ pub record WritesCentrals (pp : Processor) (answers : List Answer) (count : ℕ)
 
 -- 63: as many central words as place d says
 abbrev pub CentralWrite : Processor → Type 0
-CentralWrite pp =
-    (count : ℕ) → BeginsAt Opcode.CWM pp → 0 < count → count ≡ word_at pp (lower_six pp) →
+CentralWrite pp = (count : ℕ) → BeginsAt Opcode.CWM pp → 0 < count
+    → count ≡ word_at pp (lower_six pp) →
     let answers = Answer.Local ∷ replicate count (Answer.Wrote true) in
     EndsBlock pp answers (sum pp.a count) × WritesCentrals pp answers count

@@ -13,16 +13,14 @@ use Rattle.pp_machine.specs.declared.block.BlockKind.TheVariants.{Input}
 use Rattle.pp_machine.specs.declared.pp_state.PpState.TheVariants.{Running}
 use Rattle.pp_numbers.specs.declared.profile.Profile.{Profile}
 
--- a processor that waits for its program: a block input from channel c, with places from 0000 on, P
--- 0000 and A 010000
+-- a processor that waits for its program: a block input from channel c to the places from 0000 on
 abbrev pub waiting_on : ℕ → Processor → Processor
-waiting_on c pp =
-    record pp {
-      a = 0o10000;
-      p = 0;
-      state = Running;
-      block = Some (record { kind = Input c; place = 0 });
-    }
+waiting_on c pp = record pp {
+  a = 0o10000;
+  p = 0;
+  state = Running;
+  block = Some (record { kind = Input c; place = 0 });
+}
 
 -- only processors that a machine of this profile has wait
 abbrev pub WaitsWithin : Profile → List Bool → Type 0
@@ -48,8 +46,7 @@ history_started waits m c = if waits c then Event.Activate ∷ [] else history_o
 
 -- all processors, all histories, and which channels are opened, each in order of place
 unfoldable pub processors_started : (ℕ → Bool) → MachineState → List Processor
-processors_started waits m =
-    map (λ place. processor_started waits m (processor_number place))
+processors_started waits m = map (λ place. processor_started waits m (processor_number place))
     (range_with_len 0 processor_count)
 
 unfoldable pub histories_started : (ℕ → Bool) → MachineState → List (List Event)
@@ -59,8 +56,7 @@ histories_started waits m =
 unfoldable pub opened_where : (ℕ → Bool) → List Bool
 opened_where waits = map (λ place. waits (channel_number place)) (range_with_len 0 channel_count)
 
--- A machine in which the processors wait whose numbers pass a test, each on the channel of its own
--- number, which is active and empty. Central memory, turns and trace stay.
+-- A machine in which processors wait whose numbers pass a test, each on the channel of its number.
 abbrev pub started : (ℕ → Bool) → MachineState → MachineState
 started waits m = record m {
   processors = processors_started waits m;

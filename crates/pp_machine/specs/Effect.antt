@@ -1,5 +1,4 @@
--- What single instructions leave, in the words of the instruction table. n is the number of words
--- of the instruction.
+-- What single instructions leave, in the instruction table's words; an instruction has n words.
 -- (Manual 60100000, peripheral processors: descriptions of the instructions.)
 use Rattle.std.specs.Prelude.{ℕ, ◌%◌, ◌^◌, ◌==◌, ◌||◌, Bool, None, if◌then◌else◌, slice_set}
 use Rattle.pp_word.specs.Address.{next_place, place_after, relative_to}
@@ -13,7 +12,6 @@ use Rattle.pp_machine.specs.declared.pp_state.PpState.TheVariants.{Stopped, Faul
 abbrev pub goes_on : Processor → ℕ → Processor
 goes_on pp n = record pp { p = place_after pp.p n }
 
--- P becomes a place
 abbrev pub goes_to : Processor → ℕ → Processor
 goes_to pp target = record pp { p = target }
 
@@ -43,8 +41,7 @@ jumps_where test pp d n =
 abbrev pub branches_where : Bool → Processor → ℕ → Processor
 branches_where test pp n = if test then goes_to pp (second_word pp) else goes_on pp n
 
--- RJM: the place after the instruction is stored at the target, and the program continues after
--- that
+-- RJM: the place after the instruction is stored at the target, and the program goes on after that
 abbrev pub calls : Processor → ℕ → ℕ → Processor
 calls pp target n =
     record pp { memory = slice_set pp.memory target (place_after pp.p n); p = next_place target }
@@ -53,16 +50,13 @@ calls pp target n =
 abbrev pub is_negative : Processor → Bool
 is_negative pp = bit pp.a 17
 
--- the low twelve bits of A
 abbrev pub low_of : ℕ → ℕ
 low_of a = a % 2 ^ 12
 
--- A becomes a value
 abbrev pub loads : Processor → ℕ → ℕ → Processor
 loads pp value n = record pp { a = value; p = place_after pp.p n }
 
 -- the eight operations on the word at a place, by the last octal digit of the code
-
 -- 0: A becomes the word
 abbrev pub loads_word : Processor → ℕ → ℕ → Processor
 loads_word pp place n = loads pp (word_at pp place) n

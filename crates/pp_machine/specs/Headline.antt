@@ -18,8 +18,7 @@ events_on c trace =
 abbrev pub opening_history : ℕ → MachineState → List Event
 opening_history c m = if is_opened c m then Event.Activate ∷ [] else []
 
--- the history of a channel is its opening history and then the events of the trace on it; it is
--- lawful, and keeps the law of sessions
+-- a history is the opening one and then these events; it is lawful, and keeps the law of sessions
 pub record HoldsOnChannel (opening events history : List Event) : Type 0 where
   pub traced : history ≡ opening ++ events
   pub lawful : IsLawful history
@@ -27,9 +26,8 @@ pub record HoldsOnChannel (opening events history : List Event) : Type 0 where
 
 -- that holds of every channel
 abbrev pub HoldsOnEachChannel : MachineState → Type 0
-HoldsOnEachChannel m =
-    (c : ℕ) → IsTrue (names_channel c) → HoldsOnChannel (opening_history c m) (events_on c m.trace)
-    (history_of c m)
+HoldsOnEachChannel m = (c : ℕ) → IsTrue (names_channel c)
+    → HoldsOnChannel (opening_history c m) (events_on c m.trace) (history_of c m)
 
 -- all processors and channels are there, it is known of each channel whether dead start opened it,
 -- the central words are a central memory, and the headline holds of each channel

@@ -30,8 +30,7 @@ memory_operations =
 
 -- the effect of the memory instruction with this code
 abbrev pub memory_instruction : ℕ → Processor → ℕ → ℕ → Processor
-memory_instruction code pp d n =
-    slice_index_or memory_operations (code % 8) loads_word pp
+memory_instruction code pp d n = slice_index_or memory_operations (code % 8) loads_word pp
     (slice_index_or (operand_places pp d) (code / 8 - 3) d) n
 
 -- what an operation with lower six bits d means for a processor, if its instruction has n words

@@ -11,6 +11,5 @@ use Rattle.pp_machine.specs.contracts.pp.Pp.{the_row as pp_row}
 -- the machine ends with processor n as it was left after r, and all else as before
 abbrev pub LendsProcessor : (A : RattleType) → Ghosts A.Denot → MutBor MachineState → ℕ
     → MutBor Processor → Fml
-LendsProcessor A alloc m n r =
-    Lends (machine_row A alloc) pp_row m r (λ s.
-    record m.now { processors = slice_set m.now.processors (processor_index n) s })
+LendsProcessor A alloc m n r = Lends (machine_row A alloc) pp_row m r
+    (λ s. record m.now { processors = slice_set m.now.processors (processor_index n) s })

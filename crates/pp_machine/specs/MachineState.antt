@@ -1,6 +1,5 @@
--- A machine at one moment, described by what has happened on its channels.
--- (Manual 60100000, part on peripheral and control processors: the processors have memories of
--- their own and share central memory and the data channels.)
+-- A machine at one moment, by what has happened on its channels. (Manual 60100000, peripheral and
+-- control processors: they have memories of their own and share central memory and data channels.)
 use Rattle.std.specs.Prelude.{ℕ, Bool, false, List, [], slice_index_or, replicate}
 use Rattle.pp_numbers.specs.ChannelNo.{channel_count, channel_index}
 use Rattle.pp_channel.specs.History.{history_on}
@@ -10,9 +9,8 @@ use Rattle.pp_numbers.specs.PpNo.{processor_count, processor_index}
 use Rattle.pp_numbers.specs.declared.profile.Profile.{Profile}
 use Rattle.pp_machine.specs.declared.trace.Trace.{Trace}
 
--- its profile, the processors in the order of the barrel, the history of each channel, the central
--- words by address, the turns counted, the events in the order in which steps made them, and of
--- each channel whether dead start opened it
+-- the processors in the order of the barrel, the history of each channel, the central words by
+-- address, the turns counted, the events in order of steps, and which channels dead start opened
 pub record MachineState : Type 0 where
   pub profile : Profile
   pub processors : List Processor
@@ -22,11 +20,9 @@ pub record MachineState : Type 0 where
   pub trace : List Trace
   pub opened : List Bool
 
--- processor n
 abbrev pub processor_of : ℕ → MachineState → Processor
 processor_of n m = slice_index_or m.processors (processor_index n) no_processor
 
--- the history of channel c
 abbrev pub history_of : ℕ → MachineState → List Event
 history_of c m = history_on c m.histories
 

@@ -12,18 +12,15 @@ use Rattle.pp_machine.specs.declared.{answer.Answer.Answer, need.Need.Need, outc
 
 -- what the channels and central memory answer to a need
 abbrev pub answer_to : Need → MachineState → Answer
-answer_to Need.Nothing m = Answer.Local
-answer_to Need.Local m = Answer.Local
 answer_to (Need.Channel c op) m = Answer.Channel (reply_to op (history_of c m))
 answer_to (Need.Read a) m = Answer.Read (slice_get m.central a)
 answer_to (Need.Write a w) m = Answer.Wrote (nat_lt a (length m.central))
+answer_to _ m = Answer.Local
 
--- the event that it makes
 abbrev pub event_for : Need → MachineState → Option Event
 event_for (Need.Channel c op) m = event_of op (history_of c m)
 event_for _ m = None
 
--- the histories after it
 abbrev pub histories_after : Need → MachineState → List (List Event)
 histories_after (Need.Channel c op) m =
     slice_set m.histories (channel_index c) (history_after op (history_of c m))
@@ -43,12 +40,11 @@ trace_after n _ m = m.trace
 
 -- a machine that has answered a need of processor n
 abbrev pub served : ℕ → Need → MachineState → MachineState
-served n x m =
-    record m {
-      histories = histories_after x m;
-      central = central_after x m;
-      trace = trace_after n x m;
-    }
+served n x m = record m {
+  histories = histories_after x m;
+  central = central_after x m;
+  trace = trace_after n x m;
+}
 
 -- one more turn; the greatest count stays
 abbrev pub counted : ℕ → ℕ
@@ -56,12 +52,10 @@ counted turns = min (turns + 1) (2 ^ 64 - 1)
 
 -- a machine in which processor n has taken an answer, which counts one turn
 abbrev pub taken : ℕ → Answer → MachineState → MachineState
-taken n x m =
-    record m {
-      processors = slice_set m.processors (processor_index n)
-          (processor_after (processor_of n m) x);
-      turns = counted m.turns;
-    }
+taken n x m = record m {
+  processors = slice_set m.processors (processor_index n) (processor_after (processor_of n m) x);
+  turns = counted m.turns;
+}
 
 -- a machine after one step of processor n
 unfoldable pub stepped : ℕ → MachineState → MachineState
@@ -75,8 +69,7 @@ step_outcome n m = outcome (processor_of n m) (answer_to (need (processor_of n m
 unfoldable pub step_event : ℕ → MachineState → Option Event
 step_event n m = event_for (need (processor_of n m)) m
 
--- a step of processor n that was made, or for which memory was refused: then the machine is as it
--- was; and only a step that makes an event takes memory
+-- a step of processor n that was made, or for which memory was refused; only an event takes any
 pub record IsStep (n : ℕ) (answer : Result Outcome Memory) (old new : MachineState) : Type 0 where
   pub ok : OnOk answer (new ≡ stepped n old)
   pub outcome : IfOk answer (λ o. o ≡ step_outcome n old)

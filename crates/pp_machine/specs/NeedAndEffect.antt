@@ -59,6 +59,5 @@ processor_after pp answer = if_running pp.state (answered (next_step pp) pp answ
 
 -- what the answer did
 unfoldable pub outcome : Processor → Answer → Outcome
-outcome pp answer =
-    if_running pp.state
+outcome pp answer = if_running pp.state
     (if is_held pp.block answer then Outcome.Held else Outcome.Moved) Outcome.AtRest

@@ -1,6 +1,5 @@
--- Which operation an instruction is, and which place or constant it means.
--- (Manual 60100000, peripheral processors: instruction formats; no-address, constant, direct,
--- indirect and indexed addressing.)
+-- An instruction's operation, and the place or constant that it means. (Manual 60100000, peripheral
+-- processors: instruction formats; no-address, constant, direct, indirect and indexed addressing.)
 use Rattle.std.specs.Prelude.{ℕ, ◌+◌, ◌*◌, ◌/◌, ◌%◌, ◌^◌, ◌==◌, if◌then◌else◌}
 use Rattle.pp_word.specs.Address.{place_after, indexed}
 use Rattle.pp_word.specs.Opcode.{opcode_at}

@@ -8,6 +8,5 @@ pub record IsMemory (words : List ℕ) : Type 0 where
   pub each_place : length words ≡ place_count
   pub each_word : (place : ℕ) → slice_index words place < 2 ^ 12
 
--- the memory in which each word is 0
 unfoldable pub empty_memory : List ℕ
 empty_memory = replicate place_count 0

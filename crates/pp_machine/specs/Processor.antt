@@ -6,8 +6,7 @@ use Rattle.pp_machine.specs.declared.{block.Block.Block, block.BlockKind.BlockKi
 use Rattle.pp_machine.specs.declared.pp_state.PpState.TheVariants.{Running, Stopped, Fault}
 use Rattle.pp_numbers.specs.declared.profile.Profile.{Profile}
 
--- the profile of its machine, memory, A of 18 bits, P of 12 bits, its state, and perhaps a block
--- transfer in progress
+-- its machine's profile, memory, A of 18 bits, P of 12, its state, and perhaps a block transfer
 pub record Processor : Type 0 where
   pub profile : Profile
   pub memory : List ℕ
@@ -20,7 +19,6 @@ abbrev pub is_running : PpState → Bool
 is_running Running = true
 is_running state = false
 
--- the word at a place
 abbrev pub word_at : Processor → ℕ → ℕ
 word_at pp place = slice_index pp.memory place
 
@@ -37,8 +35,7 @@ runs_from p a pp = record pp { p = p; a = a; state = Running; block = None }
 abbrev pub no_processor : Processor
 no_processor = new_processor Profile.Ten
 
--- the faults: an exchange jump, the program address of a central processor that is not there, a
--- channel that is not there, and a central address at or past the size
+-- the faults: EXN, RPN, a channel that is not there, and a central address at or past the size
 abbrev pub exchange_jump : ℕ
 exchange_jump = 1
 
@@ -82,7 +79,6 @@ pub record IsProcessor (pp : Processor) : Type 0 where
 abbrev pub IsAtRest : Processor → Type 0
 IsAtRest pp = pp.state ≢ Running
 
--- a processor at a fault
 abbrev pub IsAtFault : Processor → Type 0
 IsAtFault pp = (number : ℕ) × (pp.state ≡ Fault number)
 

@@ -1,30 +1,22 @@
 -- Quiet steps: they make no event and use no central word, so they change nothing but their own
 -- processor. If all steps of some rounds of the barrel are quiet, those of different processors can
 -- change places. (Only private contracts cite this.)
-use Rattle.std.specs.Prelude.{◌≡◌, ℕ, zero, suc, ◌<◌, ◌≤◌, Bool, true, false, IsTrue, List, Option, Some, None, length, slice_index_or}
+use Rattle.std.specs.Prelude.{◌≡◌, ℕ, zero, suc, ◌<◌, ◌≤◌, Bool, true, false, IsTrue, List, is_none, length, slice_index_or}
 use Rattle.pp_channel.specs.Answer.{event_of}
-use Rattle.pp_channel.specs.declared.event.Event.{Event}
 use Rattle.pp_machine.specs.MachineState.{MachineState, history_of}
 use Rattle.pp_machine.specs.MachineStep.{answer_to}
 use Rattle.pp_machine.specs.NeedAndEffect.{need, processor_after}
 use Rattle.pp_machine.specs.Processor.{Processor, no_processor}
 use Rattle.pp_machine.specs.declared.need.Need.{Need}
-use Rattle.pp_machine.specs.declared.need.Need.TheVariants.{Nothing, Local, Channel, Read, Write}
+use Rattle.pp_machine.specs.declared.need.Need.TheVariants.{Nothing, Local, Channel}
 
--- whether it is no event
-abbrev pub is_none : Option Event → Bool
-is_none None = true
-is_none (Some event) = false
-
--- whether a step with this need is taken as quiet: nothing is needed from outside, or an operation
--- on a channel that makes no event, since it only looks or is held. A central read is not, though
--- it changes nothing else.
+-- whether a step with this need is taken as quiet: it needs nothing from outside, or its operation
+-- on a channel only looks or is held. A central read is not, though it changes nothing else.
 abbrev pub is_quiet : Need → MachineState → Bool
 is_quiet Nothing m = true
 is_quiet Local m = true
 is_quiet (Channel c operation) m = is_none (event_of operation (history_of c m))
-is_quiet (Read a) m = false
-is_quiet (Write a w) m = false
+is_quiet _ m = false
 
 -- a processor after its next step, if the channels and central memory are those of a machine
 abbrev pub step_beside : MachineState → Processor → Processor
@@ -40,8 +32,7 @@ pub record IsAhead (steps : ℕ) (m : MachineState) (old new : Processor) : Type
   pub quiet : (j : ℕ) → j < steps → IsTrue (is_quiet (need (steps_beside j m old)) m)
   pub after : new ≡ steps_beside steps m old
 
--- the processors of a round from a place of the barrel on went `steps` quiet steps ahead, and all
--- others are as they were
+-- the processors of a round from a place on went `steps` quiet steps ahead; all others stayed
 pub record AreAhead (steps round place : ℕ) (m : MachineState) (old new : List Processor) : Type 0
   where
     pub as_many : length new ≡ length old

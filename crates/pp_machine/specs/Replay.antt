@@ -15,7 +15,6 @@ reply_fits operation Reply.Done = is_some (event_with operation None)
 reply_fits ChanOp.Take (Reply.Word word) = true
 reply_fits operation (Reply.Word word) = false
 
--- whether an answer fits a need
 abbrev pub fits : Need → Answer → Bool
 fits Need.Nothing Answer.Local = true
 fits Need.Local Answer.Local = true
@@ -30,7 +29,6 @@ replayed pp [] = pp
 replayed pp (answer ∷ more) =
     if fits (need pp) answer then replayed (processor_after pp answer) more else pp
 
--- the number of answers given
 unfoldable pub given_count : Processor → List Answer → ℕ
 given_count pp [] = 0
 given_count pp (answer ∷ more) =
@@ -50,8 +48,7 @@ contribution tells need answer = []
 
 -- what each answer gives, along a replay, end to end
 unfoldable pub collected_along : {X : Type 0} → (ChanOp → Reply → Option X) → Processor
-    → List Answer
-    → List (OfChannel X)
+    → List Answer → List (OfChannel X)
 collected_along tells pp [] = []
 collected_along tells pp (answer ∷ more) =
     if fits (need pp) answer then contribution tells (need pp) answer

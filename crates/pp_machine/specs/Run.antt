@@ -16,19 +16,14 @@ abbrev pub barrel : Profile → ℕ → List ℕ
 barrel profile zero = []
 barrel profile (suc turn) = barrel profile turn ++ processor_in_turn profile turn ∷ []
 
--- a run of `turns` turns of the barrel: of all, or of as many as its cut says. Either way the
--- headline holds
+-- a run of `turns` turns of the barrel, or as many as its cut says; either way the headline holds
 pub record IsRunOf {X : Type 0} (turns : ℕ) (answer : Result X Cut) (old new : MachineState)
     : Type 0 where
   pub ran : OnOk answer (new ≡ run (barrel old.profile turns) old)
   pub cut : IfErr answer (λ c. new ≡ run (barrel old.profile c.done) old)
   pub headline : HoldsOnEachChannel new
 
--- whether the step after `done` turns of the barrel makes an event, which is kept in the trace
-abbrev pub MakesEvent : MachineState → ℕ → Type 0
-MakesEvent m done =
-    IsSome (step_event (processor_in_turn m.profile done) (run (barrel m.profile done) m))
-
--- a run of `turns` turns was cut after `done` of them, at a step that makes an event
+-- a run of `turns` turns was cut after `done` of them, at a step whose event is kept in the trace
 abbrev pub IsCutAtEvent : ℕ → MachineState → ℕ → Type 0
-IsCutAtEvent turns m done = (done < turns) × MakesEvent m done
+IsCutAtEvent turns m done = (done < turns)
+    × IsSome (step_event (processor_in_turn m.profile done) (run (barrel m.profile done) m))

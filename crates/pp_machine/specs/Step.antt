@@ -17,7 +17,6 @@ pub data Step : Type 0 where
   reads : ℕ → (ℕ → Processor) → Step
   writes : ℕ → ℕ → Processor → Step
 
--- what a step needs
 abbrev pub need_of : Step → Need
 need_of (local after) = Need.Local
 need_of (probes channel after) = Need.Channel channel ChanOp.Probe

@@ -1,16 +1,13 @@
--- The numbers of the data channels, and the place of each channel in a list of all channels. A
--- number and its place are two things: proofs know of them what `channel_places` says.
--- (Manual 60100000, data channels: twelve, numbered 0 to 13 (octal). A machine of twenty peripheral
--- processors has twelve more, numbered 20 to 33.)
+-- The numbers of the data channels, and the place of each in a list of all. A number and its place
+-- are two things: proofs know of them what `channel_places` says. (Manual 60100000, data channels:
+-- twelve, numbered 0 to 13 (octal). A machine of twenty processors has twelve more, 20 to 33.)
 use Rattle.std.specs.Prelude.{ℕ, Bool, List}
 use Rattle.pp_numbers.specs.GappedNumbers.{ArePlaces, is_number, index_of, number_of, places}
 use Rattle.pp_numbers.specs.Tables.{tabulate}
 
--- the number of channels
 abbrev pub channel_count : ℕ
 channel_count = 0o30
 
--- whether a number is that of a channel
 unfoldable pub names_channel : ℕ → Bool
 names_channel = is_number 0o14 4
 
@@ -22,11 +19,9 @@ channel_index = index_of 0o14 4
 unfoldable pub channel_number : ℕ → ℕ
 channel_number = number_of 0o14 4
 
--- the numbers of all channels, in order
 unfoldable pub all_channels : List ℕ
 all_channels = tabulate channel_count channel_number
 
--- a channel's number and its place
 pub channel_places : ArePlaces 0o14 channel_count names_channel channel_index channel_number
 unfolding names_channel channel_index channel_number
 channel_places = places 0o14 4

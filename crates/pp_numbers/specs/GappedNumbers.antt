@@ -1,19 +1,16 @@
 -- A numbering with a gap: `half` numbers from 0 on, then `gap` that name nothing, then `half` more;
--- and the place of each in a list of all. So channels and processors are numbered: the second half
--- begins at 20 (octal).
+-- and the place of each in a list. So channels and processors are numbered, again from 20 (octal).
 use Rattle.std.proofs.Common.{arith}
 use Rattle.std.specs.Prelude.{◌≡◌, ℕ, ◌+◌, ◌-◌, ◌<◌, ◌≤◌, ◌&&◌, ◌||◌, Bool, IsTrue, nat_lt, nat_le, if◌then◌else◌}
 
--- whether a number names one
 unfoldable pub is_number : (half gap : ℕ) → ℕ → Bool
 is_number half gap number =
     nat_lt number half || (nat_le (half + gap) number && nat_lt number ((half + gap) + half))
 
 -- the place of the one with this number; past the end if there is none
 unfoldable pub index_of : (half gap : ℕ) → ℕ → ℕ
-index_of half gap number =
-    if nat_lt number half then number else if nat_lt number (half + gap) then half + half
-    else number - gap
+index_of half gap number = if nat_lt number half then number
+    else if nat_lt number (half + gap) then half + half else number - gap
 
 -- the number of the one at a place
 unfoldable pub number_of : (half gap : ℕ) → ℕ → ℕ
@@ -27,7 +24,6 @@ pub record ArePlaces (half : ℕ) (count : ℕ) (names : ℕ → Bool) (index nu
   -- a number names one exactly if its place is one of the list
   pub named_below : (n : ℕ) → index n < count → IsTrue (names n)
   pub place_past : (n : ℕ) → (IsTrue (names n) → ⊥) → count ≤ index n
-  -- no other has its place
   pub one_place : (m n : ℕ) → IsTrue (names m) → index n ≡ index m → n ≡ m
   -- the number of a place names the one there
   pub place_of_number : (place : ℕ) → place < count → index (number place) ≡ place

@@ -1,16 +1,13 @@
 -- The numbers of the peripheral processors, and the place of each in a list of all. A number and
--- its place are two things: proofs know of them what `processor_places` says. (Manual
--- 60100000, peripheral processors: ten, numbered 0 to 11 (octal), which take turns in a barrel. A
--- machine of twenty has ten more, numbered 20 to 31, which follow them in the barrel.)
+-- its place are two things: proofs know what `processor_places` says. (Manual 60100000, peripheral
+-- processors: ten, 0 to 11 (octal), take turns in a barrel; in one of twenty, 20 to 31 follow.)
 use Rattle.std.specs.Prelude.{ℕ, ◌&&◌, Bool, false, List, slice_index_or}
 use Rattle.pp_numbers.specs.GappedNumbers.{ArePlaces, is_number, index_of, number_of, places}
 use Rattle.pp_numbers.specs.Tables.{tabulate}
 
--- the number of processors
 abbrev pub processor_count : ℕ
 processor_count = 0o24
 
--- whether a number is that of a processor
 unfoldable pub names_processor : ℕ → Bool
 names_processor = is_number 0o12 6
 
@@ -26,7 +23,6 @@ processor_number = number_of 0o12 6
 abbrev pub each_processor : {A : Type 0} → (ℕ → A) → List A
 each_processor of = tabulate processor_count (λ place. of (processor_number place))
 
--- the numbers of all processors, in order
 unfoldable pub all_processors : List ℕ
 all_processors = each_processor (λ n. n)
 
@@ -34,7 +30,6 @@ all_processors = each_processor (λ n. n)
 abbrev pub is_named : List Bool → ℕ → Bool
 is_named named n = names_processor n && slice_index_or named (processor_index n) false
 
--- a processor's number and its place
 pub processor_places : ArePlaces 0o12 processor_count names_processor
     processor_index processor_number
 unfolding names_processor processor_index processor_number

@@ -21,9 +21,8 @@ authors_on c authors = slice_index_or authors (channel_index c) []
 -- The authors of the events of channel c, by number: of each the processor in whose log it stands,
 -- by the workers in order; an opening event has none.
 abbrev pub AreAuthorsOn : {Z : Type 0} → ℕ → List (Worker Z) → List Event → List (Option ℕ) → Type 0
-AreAuthorsOn c workers history authors = (number : ℕ) → number < length history
-    → slice_index_or authors number None ≡ option_map processor_number
-    (author_place c workers number)
+AreAuthorsOn c workers history authors = (number : ℕ) → number < length history →
+    slice_index_or authors number None ≡ option_map processor_number (author_place c workers number)
 
 -- the same of each channel
 abbrev pub AreAuthors : {Z : Type 0} → List (Worker Z) → List (List Event)

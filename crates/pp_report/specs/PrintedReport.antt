@@ -10,20 +10,17 @@ use Rattle.pp_numbers.specs.PpNo.{all_processors, processor_index, processor_num
 use Rattle.pp_word.specs.Numeral.{decimal, octal}
 use Rattle.pp_text.specs.PrintedText.{event_text, line_end, processor_line, used_channel_line}
 
--- ---- events, each with its number in the history of its channel
-
 -- the place of the worker in whose log the event stands: if the logs merge, an opening event has
 -- none, and any other exactly one
 abbrev pub author_place : {Z : Type 0} → ℕ → List (Worker Z) → ℕ → Option ℕ
 author_place {Z} c workers number =
     position (λ (worker : Worker Z). nat_lt 0 (times_logged c number worker.log.items)) workers
 
--- `CH05 000001 PP00 PUT 0007`, by the place of its author; an opening event has no line
+-- `CH05 000001 PP00 PUT 0007`, with its number in the history; an opening event has no line
 abbrev pub line_by : ℕ → ℕ → Event → Option ℕ → List ℕ
 line_by c number event None = []
-line_by c number event (Some place) =
-    codes "CH" ++ octal 2 c ++ codes " " ++ decimal number ++ codes " PP"
-    ++ octal 2 (processor_number place) ++ codes " " ++ event_text event ++ line_end
+line_by c number event (Some place) = codes "CH" ++ octal 2 c ++ codes " " ++ decimal number
+    ++ codes " PP" ++ octal 2 (processor_number place) ++ codes " " ++ event_text event ++ line_end
 
 unfoldable pub numbered_event_line : {Z : Type 0} → ℕ → List (Worker Z) → ℕ × Event → List ℕ
 numbered_event_line c workers (number, event) =
@@ -33,8 +30,6 @@ numbered_event_line c workers (number, event) =
 abbrev pub channel_events : {Z : Type 0} → List (Worker Z) → List (List Event) → ℕ → List ℕ
 channel_events workers histories c =
     flat_map (numbered_event_line c workers) (enumerate_from 0 (history_on c histories))
-
--- ---- processors
 
 abbrev pub end_text : End → List ℕ
 end_text End.Stopped = codes "STOPPED"
@@ -53,7 +48,6 @@ abbrev pub named_worker_line : {Z : Type 0} → List Bool → List (Worker Z) �
 named_worker_line named workers n =
     if is_named named n then worker_line n (slice_get workers (processor_index n)) else []
 
--- the text of a report
 unfoldable pub printed_report : {Z : Type 0} → List Bool → Report Z → List ℕ
 printed_report named report =
     flat_map (channel_events report.ends.items report.channels) all_channels

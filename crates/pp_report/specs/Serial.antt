@@ -13,22 +13,19 @@ use Rattle.pp_numbers.specs.Profile.{processors_in, has_processor}
 use Rattle.pp_machine.specs.MachineStep.{answer_to, step_outcome, stepped}
 use Rattle.pp_machine.specs.Run.{run}
 
--- a machine that has not run: all processors and channels are there, and nothing has happened on a
--- channel but that dead start opened it
+-- a machine that has not run: it has all processors and channels; dead start at most opened some
 pub record HasNotRun (m : MachineState) : Type 0 where
   pub processors : length m.processors ≡ processor_count
   pub channels : length m.histories ≡ channel_count
   pub histories : (c : ℕ) → IsTrue (names_channel c) → history_of c m ≡ opening_history c m
 
--- the processors of a machine as a report leaves them, in the order of the barrel: those of its
--- workers, and those that no worker had, which stay
+-- the processors as a report leaves them, in the order of the barrel; those of no worker stay
 abbrev pub processors_left : {A : Type 0} → MachineState → Report A → List Processor
 processors_left m report =
     map (λ w. w.pp) report.ends.items ++ drop (processors_in m.profile) m.processors
 
 -- The steps of these processors, one after another, lead a machine to what a report of it leaves,
--- whose accesses came in this order: every processor, the history of every channel, and the words
--- of central memory that the accesses leave.
+-- whose accesses came in this order: all processors, all histories, all words of central memory.
 pub record LeadsTo {A : Type 0} (ns : List ℕ) (m : MachineState) (report : Report A)
     (order : List Access) : Type 0 where
   pub processors : (run ns m).processors ≡ processors_left m report
@@ -38,8 +35,7 @@ pub record LeadsTo {A : Type 0} (ns : List ℕ) (m : MachineState) (report : Rep
 -- the answers that the steps of processor n get along a list of steps, in order
 abbrev pub answers_along : ℕ → List ℕ → MachineState → List Answer
 answers_along n [] m = []
-answers_along n (k ∷ ns) m =
-    (if n == k then answer_to (need (processor_of k m)) m ∷ [] else [])
+answers_along n (k ∷ ns) m = (if n == k then answer_to (need (processor_of k m)) m ∷ [] else [])
     ++ answers_along n ns (stepped k m)
 
 -- A serial run of a report: steps, one after another, that lead to what it leaves, as many as its

@@ -1,5 +1,4 @@
--- A machine without its record: of each channel it has the flags and the register alone, and no
--- trace.
+-- A machine without its record: of each channel it has flags and register alone, and no trace.
 use Rattle.std.specs.Prelude.{◌≡◌, ℕ, List, [], length, IsTrue, slice_index_or}
 use Rattle.pp_channel.specs.Answer.{channel_state}
 use Rattle.pp_numbers.specs.ChannelNo.{channel_count, channel_index, names_channel}
@@ -25,15 +24,13 @@ AreStates states histories = (c : ℕ) → IsTrue (names_channel c)
 -- a step by its outcome and by the answer that it got: a held one with the flags that held it
 abbrev pub progress_by : Outcome → Answer → Progress
 progress_by outcome.AtRest answer = AtRest
-progress_by outcome.Moved answer = Moved
 progress_by outcome.Held (Channel (reply.Held flags)) = Held flags
-progress_by outcome.Held answer = Moved
+progress_by _ answer = Moved
 
 -- what the next step of processor n does
 unfoldable pub progress : ℕ → MachineState → Progress
 progress n m = progress_by (step_outcome n m) (answer_to (need (processor_of n m)) m)
 
--- a bare machine stands for a machine
 pub record StandsFor {A : Type 0} (bare : BareMachine A) (m : MachineState) : Type 0 where
   pub processors : bare.processors.items ≡ m.processors
   pub central : bare.central ≡ m.central

@@ -53,23 +53,20 @@ pub record DoesTheSame (op : ChanOp) (pp : Processor) (found other : List Event)
 -- processor q may pass step t while channel c stands as at moment s: the step is not q's on c, or
 -- waits, or would do the same at s
 abbrev pub AdvancesAlone : List ℕ → MachineState → ℕ → ℕ → ℕ → ℕ → Type 0
-AdvancesAlone ns m q c t s =
-    (slice_index ns t ≢ q)
+AdvancesAlone ns m q c t s = (slice_index ns t ≢ q)
     ⊎ ((op : ChanOp) → need (processor_at ns m q t) ≡ Need.Channel c op
     → Stays op (processor_at ns m q t) (history_at ns m c t)
     ⊎ DoesTheSame op (processor_at ns m q t) (history_at ns m c s) (history_at ns m c t))
 
 -- step s makes no event of processor q on channel c
 abbrev pub MakesNoneOf : List ℕ → MachineState → ℕ → ℕ → ℕ → Type 0
-MakesNoneOf ns m q c s =
-    (slice_index ns s ≢ q) ⊎ (history_at ns m c (suc s) ≡ history_at ns m c s)
+MakesNoneOf ns m q c s = (slice_index ns s ≢ q) ⊎ (history_at ns m c (suc s) ≡ history_at ns m c s)
 
 -- THE HEART: processor q may find channel c as the list had it at moment s when q itself stands as
 -- the list had it at moment t. This holds if some order of steps finds them so. It may hold even if
 -- no order does, for it looks at q and c alone: what another channel or a word of memory makes
--- wait, it does not see. There are two counters, t for q and s for c, from 0: s passes any step
--- that makes no event of q's on c; t passes any step by `AdvancesAlone`; and both pass one step
--- together.
+-- wait, it does not see. Two counters, t for q and s for c, go from 0: s passes any step that makes
+-- no event of q's on c; t passes any step by `AdvancesAlone`; and both pass one step together.
 pub data MayFind (ns : List ℕ) (m : MachineState) (q c : ℕ) : ℕ → ℕ → Type 0 where
   start : MayFind ns m q c zero zero
   channel_advances : (t s : ℕ) → MayFind ns m q c t s → MakesNoneOf ns m q c s
@@ -81,13 +78,11 @@ pub data MayFind (ns : List ℕ) (m : MachineState) (q c : ℕ) : ℕ → ℕ �
 -- step t does not race with channel c as it stood at moment s: it had the same history; or the step
 -- makes no event with either, and does the same; or s is before t, and it would wait
 abbrev pub IsNoRaceAt : List ℕ → MachineState → ℕ → ℕ → ChanOp → Processor → ℕ → Type 0
-IsNoRaceAt ns m t c op pp s =
-    (history_at ns m c s ≡ history_at ns m c t)
+IsNoRaceAt ns m t c op pp s = (history_at ns m c s ≡ history_at ns m c t)
     ⊎ (DoesTheSame op pp (history_at ns m c s) (history_at ns m c t)
     ⊎ ((s < t) × Stays op pp (history_at ns m c s)))
 
--- Step t is race-free: if it is on a channel, then on one that exists, and however it may find it,
--- it does not race.
+-- Step t is race-free: its channel, if any, exists, and however it may find it, it does not race.
 pub record IsRaceFreeOn (ns : List ℕ) (m : MachineState) (t c : ℕ) (op : ChanOp) : Type 0 where
   pub exists : IsTrue (names_channel c)
   pub in_time : (s : ℕ) → MayFind ns m (slice_index ns t) c t s
@@ -110,9 +105,7 @@ pub record TurnsInPlace (pp : Processor) : Type 0 where
 
 -- a processor is settled after the last step: it is at rest, or turns in place, or waits for good
 abbrev pub IsSettled : List ℕ → MachineState → ℕ → Type 0
-IsSettled ns m q =
-    IsAtRest (processor_of q (run ns m))
-    ⊎ (TurnsInPlace (processor_of q (run ns m))
+IsSettled ns m q = IsAtRest (processor_of q (run ns m)) ⊎ (TurnsInPlace (processor_of q (run ns m))
     ⊎ ((c : ℕ) × (op : ChanOp) × WaitsForGood ns m q c op))
 
 -- a step writes or reads the central word of an address
@@ -123,8 +116,7 @@ abbrev pub UsesAt : ℕ → Need → Type 0
 UsesAt a x = (x ≡ Need.Read a) ⊎ WritesAt a x
 
 -- ONE LIST OF STEPS DETERMINES THE RESULT OF ALL OTHERS: each of its steps waits or is race-free;
--- after the last, each processor is settled; and the processor that writes a central word is the
--- only one that uses it.
+-- after the last, each processor is settled; only the processor that writes a central word uses it.
 pub record IsDeterminate (ns : List ℕ) (m : MachineState) : Type 0 where
   pub steps : (t : ℕ) → t < length ns
       → Waits (slice_index ns t) (at_moment ns m t) ⊎ IsRaceFree ns m t
@@ -138,8 +130,7 @@ abbrev pub made_on : ℕ → List Trace → List (ℕ × Event)
 made_on c trace =
     filter_map (λ entry. if entry.channel == c then Some (entry.pp, entry.event) else None) trace
 
--- a channel of a machine stands as at moment s: it has the same history, and each event was made by
--- the same processor
+-- a channel stands as at moment s: it has the same history, each event made by the same processor
 pub record StandsAs (ns : List ℕ) (m now : MachineState) (c s : ℕ) : Type 0 where
   pub history : history_of c now ≡ history_at ns m c s
   pub made : IsTrue (names_channel c) → made_on c now.trace ≡ made_on c (at_moment ns m s).trace
@@ -149,11 +140,10 @@ pub record ShowsParts (ns : List ℕ) (m now : MachineState) : Type 0 where
   pub processors : (q : ℕ) → (t : ℕ) × (processor_of q now ≡ processor_at ns m q t)
   pub channels : (c : ℕ) → (s : ℕ) × StandsAs ns m now c s
 
--- Two machines are alike: each processor stands the same, with its registers and its memory;
--- central memory has the same words; each channel has the same history; and on each channel every
--- event was made by the same processor. What no step changes, the profile and the channels that
--- dead start opened, is not stated; turns, and how the events of different channels interleave, may
--- differ.
+-- Two machines are alike: each processor stands the same, with registers and memory; central
+-- memory has the same words, each channel the same history, and each event the same author. What
+-- no step changes, the profile and the channels that dead start opened, is not stated; turns may
+-- differ, and how the events of different channels interleave.
 pub record AreAlike (one other : MachineState) : Type 0 where
   pub processors : (q : ℕ) → processor_of q one ≡ processor_of q other
   pub central : one.central ≡ other.central

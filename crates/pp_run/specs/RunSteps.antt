@@ -12,7 +12,6 @@ pub record RunStep : Type 0 where
   pub processor : ℕ
   pub before : MachineState
 
--- the steps of a run of a machine
 abbrev pub run_steps : List ℕ → MachineState → List RunStep
 run_steps [] m = []
 run_steps (n ∷ ns) m = record { processor = n; before = m } ∷ run_steps ns (stepped n m)
@@ -29,15 +28,11 @@ seen_of of n steps = map of (filter (is_of n) steps)
 abbrev pub outcome_of : RunStep → Outcome
 outcome_of step = step_outcome step.processor step.before
 
--- the machine after it
-abbrev pub after_step : RunStep → MachineState
-after_step step = stepped step.processor step.before
-
 -- a step is processor n's, had this outcome and led to this machine
 pub record IsMade (step : RunStep) (n : ℕ) (outcome : Outcome) (after : MachineState) : Type 0 where
   pub processor_is : step.processor ≡ n
   pub outcome_is : outcome ≡ outcome_of step
-  pub after_is : after ≡ after_step step
+  pub after_is : after ≡ stepped step.processor step.before
 
 -- the step of the barrel after `turns` turns
 abbrev pub barrel_step : MachineState → ℕ → RunStep
@@ -49,6 +44,5 @@ barrel_step m turns = record {
 -- A run of `turns` turns is cut after `done` of them, when something had to be kept: before a step
 -- that makes an event, or after a step that is kept itself.
 abbrev pub IsCutAt : (RunStep → Type 0) → ℕ → MachineState → ℕ → Type 0
-IsCutAt Keeps turns m done =
-    IsCutAtEvent turns m done
+IsCutAt Keeps turns m done = IsCutAtEvent turns m done
     ⊎ ((last : ℕ) × (done ≡ last + 1) × (last < turns) × Keeps (barrel_step m last))

@@ -40,6 +40,5 @@ step_counts n steps = counts_of (seen_of outcome_of n steps)
 abbrev pub each_step_counts : List RunStep → List StepCounts
 each_step_counts steps = each_processor (λ n. step_counts n steps)
 
--- no steps
 abbrev pub no_steps : StepCounts
 no_steps = record { moved = 0; held = 0; at_rest = 0; last_held = 0 }

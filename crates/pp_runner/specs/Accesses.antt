@@ -7,8 +7,7 @@ use Rattle.pp_runner.specs.Types.{Access, Answer, Need, Worker}
 use Rattle.pp_machine.specs.NeedAndEffect.{need, processor_after}
 use Rattle.pp_machine.specs.Processor.{Processor}
 
--- What an answer to a need accessed, if its event, look or write has this number: a channel, a word
--- that it read, or one that it wrote.
+-- What an answer to a need accessed, if its event, look or write has this number.
 abbrev pub accesses_by : ℕ → Need → Answer → List Access
 accesses_by number (Need.Channel channel operation) (Answer.Channel reply) =
     map (λ what. Access.OnChannel (record { channel = channel; number = number; what = what }))
@@ -21,8 +20,7 @@ accesses_by number needed answer = []
 -- Accesses are those of answers that a processor was given, in their order, each with some number.
 abbrev pub AreAccessesOf : Processor → List Answer → List Access → Type 0
 AreAccessesOf pp [] accesses = accesses ≡ []
-AreAccessesOf pp (answer ∷ answers) accesses =
-    (number : ℕ) × (rest : List Access)
+AreAccessesOf pp (answer ∷ answers) accesses = (number : ℕ) × (rest : List Access)
     × (accesses ≡ accesses_by number (need pp) answer ++ rest)
     × AreAccessesOf (processor_after pp answer) answers rest
 

@@ -38,8 +38,7 @@ abbrev pub worker_of : {A : Type 0} → Ended A × Vec Entry A → Worker A
 worker_of left =
     record { pp = left.0.pp; log = left.1; answers = left.0.answers; finish = left.0.finish }
 
--- A worker that began with this processor and this line has ended, and the line has its log and its
--- accesses.
+-- A worker that began with this processor and line has ended; the line has its log and accesses.
 pub record IsEnded {A : Type 0} (load : Processor) (size steps : ℕ) (line : LineState)
     (ended : Ended A) (after : LineState) : Type 0 where
   pub worker : (log : Vec Entry A) → log.items ≡ after.log.entries

@@ -27,8 +27,7 @@ pub record WasHeld (pp : Processor) (log : List Entry) : Type 0 where
   pub needs : NeedsChannel (need pp) channel
   pub looked : IsTrue (is_look_at channel (last_or None log))
 
--- If `happened` events happened on each channel: a step needs such an operation on a worn one,
--- which has had as many as its word can count.
+-- After `happened c` events on each channel c: a step needs such an operation on a worn one.
 pub record NeedsWornChannel (happened : ℕ → ℕ) (needed : Need) : Type 0 where
   pub channel : ℕ
   pub needs : NeedsChannel needed channel

@@ -39,8 +39,7 @@ pub record IsUnused (size steps : ℕ) (line : LineState) : Type 0 where
   pub written : line.view.written ≡ []
   pub program_orders : line.view.program_orders ≡ [] ∷ []
 
--- The processor is the replay of its answers, and the line's log and accesses record what that
--- replay did and saw.
+-- The processor is the replay of its answers; the line's log and accesses record that replay.
 pub record IsAtWork (load : Processor) (size steps : ℕ) (pp : Processor) (answers : List Answer)
     (line : LineState) : Type 0 where
   pub pp_is : pp ≡ replayed load answers
@@ -90,9 +89,8 @@ pub record IsAnswered (size : ℕ) (needed : Need) (answer : Answer) (before aft
 -- What a step's operation on a channel, read or write did to the line: it gave this answer. Without
 -- one the line stays, and so it does if central memory has no word at the address.
 abbrev pub HasActed : Need → LineState → Answer → LineState → Type 0
-HasActed (Need.Channel channel operation) before answer after =
-    (numbered : Numbered) × (answer ≡ Answer.Channel numbered.reply)
-    × IsActed before channel operation numbered after
+HasActed (Need.Channel channel operation) before answer after = (numbered : Numbered)
+    × (answer ≡ Answer.Channel numbered.reply) × IsActed before channel operation numbered after
 HasActed (Need.Read address) before (Answer.Read (Some word)) after =
     after ≡ record before { view = reads before.view address word }
 HasActed (Need.Write address word) before (Answer.Wrote true) after =
@@ -127,9 +125,8 @@ pub record HasSeen (happened : ℕ → ℕ) (line : LineState) : Type 0 where
 abbrev pub NoneOlder : (ℕ → ℕ) → List Entry → Type 0
 NoneOlder happened log = All (λ entry. happened entry.channel ≤ entry.number) log
 
--- The same line, later: it stands at the same channels and central memory, with the same shares and
--- number of program orders. It has forgotten nothing, and no entry that came is older than what it
--- had seen.
+-- The same line, later, at the same channels and central memory, with the same shares and number of
+-- program orders. It has forgotten nothing, and no entry that came is older than what it had seen.
 pub record IsSameLine (before after : LineState) : Type 0 where
   pub shares : after.view.shares ≡ before.view.shares
   pub whole : after.view.whole ≡ before.view.whole

@@ -18,8 +18,7 @@ OfEachAnswer P load xs =
 abbrev pub AllMoved : Processor → List Answer → Type 0
 AllMoved load xs = OfEachAnswer (λ pp x. outcome pp x ≡ Moved) load xs
 
--- central memory of this size has no word exactly if the address is at or past its size, and takes
--- one exactly if it is below
+-- central memory of this size has a word, and takes one, exactly if the address is below the size
 abbrev pub IsBySize : ℕ → Need → Answer → Type 0
 IsBySize size (Need.Read address) (Answer.Read word) = IsNone word ↔ (size ≤ address)
 IsBySize size (Need.Write address word) (Answer.Wrote written) = IsTrue written ↔ (address < size)
@@ -33,7 +32,6 @@ abbrev pub event_in : ℕ → Seen → Option (OfChannel Event)
 event_in channel (Seen.Did e) = Some (record { channel = channel; what = e })
 event_in channel (Seen.Saw f) = None
 
--- the events of a log, in order
 abbrev pub events_in : List Entry → List (OfChannel Event)
 events_in log = filter_map (λ entry. event_in entry.channel entry.what) log
 
@@ -60,6 +58,5 @@ pub record IsWorker {A : Type 0} (load : Processor) (size steps : ℕ) (w : Work
 abbrev pub AreWorkers : {A : Type 0} → List Processor → ℕ → ℕ → List (Worker A) → Type 0
 AreWorkers loads size steps ws = AllZip (λ load w. IsWorker load size steps w) loads ws
 
--- the logs of the workers, end to end
 abbrev pub logs_of : {A : Type 0} → List (Worker A) → List Entry
 logs_of ws = flat_map (λ w. w.log.items) ws

@@ -2,7 +2,6 @@
 -- (Manual 60100000, peripheral processors: indexed addressing, relative jumps both ways.)
 use Rattle.std.specs.Prelude.{ℕ, ◌+◌, ◌-◌, ◌%◌, nat_lt, if◌then◌else◌}
 
--- the number of places
 abbrev pub place_count : ℕ
 place_count = 0o10000
 
@@ -10,7 +9,6 @@ place_count = 0o10000
 abbrev pub place_after : ℕ → ℕ → ℕ
 place_after p n = (p + n) % place_count
 
--- the place after this one
 abbrev pub next_place : ℕ → ℕ
 next_place p = place_after p 1
 

@@ -1,6 +1,5 @@
--- Words as bits; bit 0 is the lowest, bit 17 (decimal) the uppermost of an 18-bit word. Values of d
--- are octal, counts of bits decimal. (Manual 60100000, peripheral processors: SHN, LMN, LPN, SCN,
--- LCN and their long forms.)
+-- Words as bits; bit 0 is the lowest, bit 17 (decimal) the uppermost of 18. Values of d are octal,
+-- counts decimal. (Manual 60100000, peripheral processors: SHN, LMN, LPN, SCN, LCN, LMC, LPC.)
 use Rattle.std.specs.Prelude.{ℕ, ◌+◌, ◌-◌, ◌*◌, ◌/◌, ◌%◌, ◌==◌, nat_lt, if◌then◌else◌, Bool, false, List, [], ◌∷◌, ◌++◌, map, take, drop, replicate, min, not, ◌&&◌, zero, suc, slice_index_or, zip}
 
 -- the lowest bits of a number as truth values, bit 0 first
@@ -13,7 +12,6 @@ abbrev pub number_of : List Bool → ℕ
 number_of [] = 0
 number_of (b ∷ bs) = (if b then 1 else 0) + 2 * number_of bs
 
--- the bits of an 18-bit word
 abbrev pub bits_of : ℕ → List Bool
 bits_of word = lowest_bits 18 word
 
@@ -31,11 +29,9 @@ right_shift k bs = drop k bs ++ replicate (min k 18) false
 
 -- SHN: left and round by d for d 00 to 37, right by 77 - d for d 40 to 77
 abbrev pub shift : ℕ → ℕ → ℕ
-shift word d =
-    if nat_lt d 0o40 then number_of (rotation d (bits_of word))
+shift word d = if nat_lt d 0o40 then number_of (rotation d (bits_of word))
     else number_of (right_shift (0o77 - d) (bits_of word))
 
--- each bit inverted
 abbrev pub complement : ℕ → ℕ
 complement word = number_of (map not (bits_of word))
 

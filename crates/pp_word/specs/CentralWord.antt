@@ -2,10 +2,8 @@
 -- (Manual 60100000, peripheral processors: central read and central write.)
 use Rattle.std.specs.Prelude.{ℕ, ◌+◌, ◌*◌, ◌/◌, ◌%◌, ◌^◌, List, [], ◌∷◌, fold}
 
--- the parts of a central word
 abbrev pub parts_of : ℕ → List ℕ
-parts_of word =
-    word / 2 ^ 48 % 2 ^ 12 ∷ word / 2 ^ 36 % 2 ^ 12 ∷ word / 2 ^ 24 % 2 ^ 12
+parts_of word = word / 2 ^ 48 % 2 ^ 12 ∷ word / 2 ^ 36 % 2 ^ 12 ∷ word / 2 ^ 24 % 2 ^ 12
     ∷ word / 2 ^ 12 % 2 ^ 12 ∷ word % 2 ^ 12 ∷ []
 
 -- parts put together, each to the right of those before it

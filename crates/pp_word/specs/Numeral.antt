@@ -1,5 +1,4 @@
--- Numbers in digits, printed and read: octal, and counts in decimal. A text is a list of ASCII
--- codes.
+-- Numbers in digits, printed and read: octal, and decimal counts. A text is a list of ASCII codes.
 use Rattle.std.specs.Prelude.{◌≡◌, ℕ, zero, suc, ◌+◌, ◌-◌, ◌*◌, fold, ◌/◌, ◌%◌, ◌^◌, ◌&&◌, Bool, true, List, [], ◌∷◌, ◌++◌, ◌==◌, length, nat_le, nat_lt, Option, Some, None, if◌then◌else◌}
 use Rattle.std.specs.List.{flat_map, list_all, range_with_len}
 
@@ -12,7 +11,6 @@ abbrev pub digits : ℕ → ℕ → ℕ → List ℕ
 digits base zero n = []
 digits base (suc width) n = digits base width (n / base) ++ digit (n % base)
 
--- a number in exactly `width` octal digits
 abbrev pub octal : ℕ → ℕ → List ℕ
 octal width n = digits 8 width n
 
@@ -34,16 +32,13 @@ short_decimal n = unpadded 19 (n / 10) ++ digit (n % 10)
 unfoldable pub decimal : ℕ → List ℕ
 decimal n = unpadded 14 (n / 10 ^ 6) ++ digits 10 6 (n % 10 ^ 6)
 
--- the two digits of each number below 100 in decimal, one number after another: a table from which
--- lines are put together (only a private contract cites this)
+-- 00, 01, .., 99 in decimal: a table to put lines together (only a private contract cites this)
 unfoldable pub decimal_pairs : List ℕ
 decimal_pairs = flat_map (digits 10 2) (range_with_len 0 100)
 
 -- the number that digits spell in a base, the most significant first
 abbrev pub value_of : ℕ → List ℕ → ℕ
 value_of base characters = fold (λ value character. value * base + (character - 48)) 0 characters
-
--- ---- read
 
 -- the characters of the digits of a base, from 48 (decimal) on
 abbrev pub is_digit : ℕ → ℕ → Bool

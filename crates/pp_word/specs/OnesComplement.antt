@@ -18,10 +18,8 @@ pub record IsDifference (a b c : ℕ) : Type 0 where
   pub congruent : (c + b) % all_ones ≡ a % all_ones
   pub negative_zero : (c ≡ all_ones) ↔ ((a ≡ all_ones) × (b ≡ 0))
 
--- the sum, as a number
 abbrev pub sum : ℕ → ℕ → ℕ
 sum a b = if a == all_ones && b == all_ones then all_ones else (a + b) % all_ones
 
--- the difference, as a number
 abbrev pub difference : ℕ → ℕ → ℕ
 difference a b = if a == all_ones && b == 0 then all_ones else (a + all_ones - b) % all_ones

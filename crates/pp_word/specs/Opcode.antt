@@ -17,7 +17,6 @@ short code mnemonic = record { code = code; long = false; mnemonic = mnemonic }
 abbrev pub long : ℕ → List ℕ → Row
 long code mnemonic = record { code = code; long = true; mnemonic = mnemonic }
 
--- the row of each operation
 abbrev pub row_of : Opcode → Row
 row_of PSN = short 0o00 (codes "PSN")
 row_of LJM = long 0o01 (codes "LJM")
@@ -103,6 +102,5 @@ operations =
     CRD ∷ CRM ∷ CWD ∷ CWM ∷ AJM ∷ IJM ∷ FJM ∷ EJM ∷
     IAN ∷ IAM ∷ OAN ∷ OAM ∷ ACN ∷ DCN ∷ FAN ∷ FNC ∷ []
 
--- the operation with a code
 abbrev pub opcode_at : ℕ → Opcode
 opcode_at code = slice_index_or operations code PSN
