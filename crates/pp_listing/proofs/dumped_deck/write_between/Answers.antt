@@ -1,4 +1,4 @@
-use Rattle.std.proofs.Common.{[], ◌∙◌, List, ℕ, Bool, length, ◌++◌, ap, rules, sym, subst}
+use Rattle.std.proofs.Common.{[], ◌∙◌, List, ℕ, Bool, length, ◌++◌, ap, rules, sym, subst, arith}
 use Rattle.pp_deck.specs.DeckLine.{central_size}
 use Rattle.pp_text.proofs.PrintingLemmas.{◌▹◌}
 use Rattle.pp_text.specs.TextWriter.{Prints}
@@ -8,10 +8,4 @@ use Rattle.pp_listing.proofs.DumpLawLemmas.{dump_in_parts}
 use Rattle.pp_listing.proofs.dumped_deck.write_between.Goals as goal
 
 pub returns : goal.returns
-returns g c =
-    let m = c.args.deck.now.machine in
-    let text_by : List ℕ → List ℕ → List Bool → List ℕ = λ size central named. deck_line (central_size (length size)) ++ text_of (central_word_lines central) ++ text_of (sections named m) in
-    let is = ap (λ size. text_by size c.central-2.result.now c.in_use-named.result) c.central.ensures ∙ ap (λ central. text_by m.central central c.in_use-named.result) c.central-2.ensures ∙ ap (text_by m.central m.central) c.in_use-named.ensures ∙ sym (dump_in_parts (record { machine = m; named = c.args.deck.now.named })) in
-    let printed = subst (Prints _ _ _) is (c.print_size.ensures ▹ c.print_central.ensures ▹ c.print_sections.ensures) in
-    let written = c.finish.ensures.written _ _ (printed.goes_on _ [] c.new-text.ensures.nothing) in
-    search (rules, written)
+returns g c = grind (arith, dump_in_parts, rules)

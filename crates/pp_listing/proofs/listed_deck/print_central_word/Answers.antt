@@ -1,4 +1,4 @@
-use Rattle.std.proofs.Common.{◌∙◌, sym, subst, rules}
+use Rattle.std.proofs.Common.{◌∙◌, sym, subst, rules, arith}
 use Rattle.pp_text.proofs.PrintingLemmas.{prints_nothing}
 use Rattle.pp_text.specs.TextWriter.{Prints}
 use Rattle.pp_listing.proofs.TextLemmas.{central_read, central_past, central_word_zero, central_word_some}
@@ -18,7 +18,4 @@ returns-else-get-ne0 g c =
     (prints_nothing _ _)
 
 pub returns : goal.returns
-returns g c =
-    subst (Prints _ _ _) (central_word_zero c.args.central.now c.args.address
-    (central_past c.args.central.now c.args.address c.truncated.result c.requires c.truncated.ensures (search rules)))
-    (prints_nothing _ _)
+returns g c = grind (arith, central_word_zero, central_past, rules, prints_nothing)

@@ -1,4 +1,4 @@
-use Rattle.std.proofs.Common.{◌≡◌, rules, true, Some, None, sym, ap}
+use Rattle.std.proofs.Common.{◌≡◌, rules, true, Some, None, sym, ap, arith}
 use Rattle.std.specs.Prelude.{slice_get}
 use Rattle.std.proofs.lemmas.Option.{slice_get-get_or, slice_get_past}
 use Rattle.pp_numbers.specs.PpNo.{is_named, processor_index}
@@ -7,8 +7,7 @@ use Rattle.pp_report.proofs.report_text.print_named_worker.Goals as goal
 
 -- the worker that was found is the processor's
 found : (g : _) (c : goal.After-print_worker_line g) → slice_get c.args.workers.now (processor_index c.args.n) ≡ Some c.in-Some.worker.now
-found g c =
-    rw (← c.index-then-named-index.ensures.place, slice_get-get_or c.args.workers.now c.index-then-named-index.result c.in-Some.worker.now c.in-Some.ensures.lookup.3.0) (ap Some (sym c.in-Some.ensures.lookup.1))
+found g c = grind (arith, slice_get-get_or)
 
 missing : (g : _) (c : goal.In_default g) → slice_get c.args.workers.now (processor_index c.args.n) ≡ None
 missing g c = rw (← c.index-then-named-index.ensures.place) (slice_get_past c.args.workers.now c.index-then-named-index.result c.in_default.ensures.lookup.3)
@@ -20,7 +19,4 @@ returns-in-Some g c = let is : is_named c.args.named.now c.args.n ≡ true = sea
 }
 
 pub returns-in_default : goal.returns-in_default
-returns-in_default g c = let is : is_named c.args.named.now c.args.n ≡ true = search rules in record {
-  text = rw (is, missing g c) (prints_nothing _ _);
-  fits = λ _. rw (missing g c) tt;
-}
+returns-in_default g c = grind (arith, rules, missing, prints_nothing)

@@ -8,9 +8,7 @@ pub unreachable-requires : goal.unreachable-requires
 unreachable-requires g c = never_worn c.args.line.now c.act.new.self c.args.channel ChanOp.Activate c.requires.alone c.requires.unlogged c.in_default.ensures.worn
 
 pub returns-clause-written : goal.returns-clause-written
-returns-clause-written g c =
-    let below : channel_index c.args.channel < channel_count = omega (arith, c.index-index.ensures.below, c.index-index.ensures.place) in
-    (activated c.args.line.now c.act.new.self c.args.channel c.in-Ok._done below c.requires.alone c.requires.unlogged c.in-Ok.ensures.ok).written
+returns-clause-written g c = grind (arith, activated)
 
 pub returns-clause-central : goal.returns-clause-central
 returns-clause-central g c = ap (λ l. l.view.central) c.in-Ok.ensures.ok.after_is

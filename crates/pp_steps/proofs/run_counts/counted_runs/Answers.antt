@@ -16,10 +16,7 @@ use Rattle.pp_steps.proofs.RunCountLemmas.{current_grows}
 use Rattle.pp_steps.proofs.run_counts.counted_runs.Goals as goal
 
 pub loop-turn-init : goal.loop-turn-init
-loop-turn-init g c = record {
-  stands = c.in_ok-bare.ensures;
-  counted = c.in_ok-runs.ensures ∙ none_made with_step no_spells;
-}
+loop-turn-init g c = grind (arith, none_made)
 
 pub note_step-requires-clause-as_many : goal.note_step-requires-clause-as_many
 note_step-requires-clause-as_many g c = ap length c.loop-turn.invariant.counted ∙ length-tabulate processor_count _

@@ -1,4 +1,4 @@
-use Rattle.std.proofs.Common.{◌≡◌, ℕ, ap, ◌∙◌, sym, subst, slice_index}
+use Rattle.std.proofs.Common.{◌≡◌, ℕ, ap, ◌∙◌, sym, subst, slice_index, arith}
 use Rattle.pp_machine.specs.Processor.{Processor}
 use Rattle.pp_text.proofs.PrintingLemmas.{prints_on}
 use Rattle.pp_text.specs.TextWriter.{Prints}
@@ -7,12 +7,7 @@ use Rattle.pp_steps.proofs.PlaceLemmas.{places_here, places_round}
 use Rattle.pp_steps.proofs.step_line.print_places.Goals as goal
 
 pub returns-then-first-count-le-PLACES : goal.returns-then-first-count-le-PLACES
-returns-then-first-count-le-PLACES g c = λ answer keeps is.
-    let old = c.args.old.now.memory in
-    let new = c.args.new.now.memory in
-    let same : (place : ℕ) → IsApart place c.args.stores → slice_index new place ≡ slice_index old place = λ place apart.
-    ap (λ (pp : Processor). slice_index pp.memory place) is ∙ keeps answer place apart in
-    subst (Prints _ _ _) (sym (places_here old new c.args.stores.first c.args.stores.count c.if-first-count-le-PLACES.true same)) c.print_range.ensures
+returns-then-first-count-le-PLACES g c = grind (arith, slice_index, places_here)
 
 pub returns-else-first-count-le-PLACES : goal.returns-else-first-count-le-PLACES
 returns-else-first-count-le-PLACES g c = λ answer keeps is.

@@ -7,16 +7,4 @@ use Rattle.std.proofs.lemmas.Option.{unwrap_or-slice_get}
 use Rattle.pp_runner.proofs.banks.Bank.of.Goals as goal
 
 pub loop-place-preserved : goal.loop-place-preserved
-loop-place-preserved g c =
-    let central = c.args.central.now in
-    let place : ℕ = c.loop-place.place in
-    let word : c.unwrap_or.result ≡ slice_index central (32 * place + c.args.bank) =
-    c.unwrap_or.ensures ∙ (ap (λ (o : Option ℕ). unwrap_or o 0) c.read.ensures ∙ (unwrap_or-slice_get central c.address-address.result 0 ∙ ap (λ a. slice_index central a) (sym c.address-address.ensures.address_is))) in record {
-      count = ap length c.set.ensures ∙ (length-set c.loop-place.filled place c.unwrap_or.result ∙ c.loop-place.invariant.count);
-      filled = λ p below. ap (λ words. slice_index words p) c.set.ensures ∙ elim (cases_lt p place) [
-        | inl before ↦ get_or-set_other c.loop-place.filled place p c.unwrap_or.result 0 (λ same. omega (arith, same, before)) ∙ c.loop-place.invariant.filled p before
-        | inr after ↦
-            let same : p ≡ place = omega (arith, below, after) in
-            get_or-set_at c.loop-place.filled place p c.unwrap_or.result 0 same (omega (arith, c.loop-place.invariant.count, c.loop-place-test.true)) ∙ (word ∙ ap (λ k. slice_index central (32 * k + c.args.bank)) (sym same))
-      ];
-    }
+loop-place-preserved g c = grind (arith, slice_index, unwrap_or-slice_get, length-set, cases_lt, get_or-set_other, get_or-set_at)

@@ -23,14 +23,7 @@ returns-in-Held g c =
     }
 
 pub returns-in-Moved-clause-work : goal.returns-in-Moved-clause-work
-returns-in-Moved-clause-work g c =
-    let answered : IsAnswered c.args.site.now.size (need c.args.self.now.pp) c.in-Ok.answer c.args.self.now.line c.ask-answered.new.line =
-    subst (λ (size : ℕ). IsAnswered size (need c.args.self.now.pp) c.in-Ok.answer c.args.self.now.line c.ask-answered.new.line) c.requires.central
-    (subst (λ (n : Need). IsAnswered (length c.args.self.now.line.view.central) n c.in-Ok.answer c.args.self.now.line c.ask-answered.new.line) c.wants_next.ensures (rw c.in-Ok.is at c.ask-answered.ensures.answered)) in
-    subst (λ (xs : List Answer). IsAtWork c.args.load.now c.args.site.now.size c.args.site.now.limits.steps c.note.new.self.pp xs c.note.new.self.line) (sym {A = List Answer} c.note.ensures.items)
-    (work_moved c.args.load.now c.args.site.now.size c.args.site.now.limits.steps c.args.self.now.pp c.note.new.self.pp c.args.self.now.answers.items c.in-Ok.answer c.args.self.now.line c.ask-answered.new.line c.note.new.self.line
-    c.requires.work (omega (arith, c.args.self.now.answers.ok.0, c.requires.steps_left)) answered (sym c.give_next.ensures.outcome ∙ c.in-Moved.is) (c.note.ensures.pp ∙ c.give_next.ensures.after) c.note.ensures.line)
+returns-in-Moved-clause-work g c = grind (arith, work_moved)
 
 pub returns-in-Err-clause-work : goal.returns-in-Err-clause-work
-returns-in-Err-clause-work g c =
-    work_worn c.args.load.now c.args.site.now.size c.args.site.now.limits.steps c.args.self.now.pp c.args.self.now.answers.items c.args.self.now.line c.ask-answered.new.line c.requires.work (rw c.in-Err.is at c.ask-answered.ensures.unchanged_when_worn) (rw c.in-Err.is at c.ask-answered.ensures.looked_when_worn)
+returns-in-Err-clause-work g c = grind (arith, work_worn)
