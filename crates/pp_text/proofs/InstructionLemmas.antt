@@ -25,27 +25,17 @@ three_letters op = refl
 
 -- after a mnemonic nine of thirteen columns are left
 padded_more : (a b c : ℕ) (text : List ℕ) → padded 13 ((a ∷ b ∷ c ∷ []) ++ codes " " ++ text) ≡ a ∷ b ∷ c ∷ 32 ∷ padded 9 text
-padded_more a b c text =
-    let left : 13 - suc (suc (suc (suc (length text)))) ≡ 9 - length text = omega arith in
-    ap (λ (n : ℕ). a ∷ b ∷ c ∷ 32 ∷ text ++ replicate n 32) left
+padded_more a b c text = grind arith
 
 pub instruction_in_pieces : (name operands text : List ℕ) (op : Opcode) → name ≡ (row_of op).mnemonic → length operands ≡ 9 → operands ≡ padded 9 text
     → get_or name 0 0 ∷ get_or name 1 0 ∷ get_or name 2 0 ∷ 32 ∷ get_or operands 0 0 ∷ get_or operands 1 0 ∷ get_or operands 2 0 ∷ get_or operands 3 0 ∷ get_or operands 4 0 ∷ get_or operands 5 0 ∷ get_or operands 6 0 ∷ get_or operands 7 0 ∷ get_or operands 8 0 ∷ []
     ≡ padded 13 ((row_of op).mnemonic ++ codes " " ++ text)
-instruction_in_pieces name operands text op is long are =
-    ap (λ (xs : List ℕ). get_or name 0 0 ∷ get_or name 1 0 ∷ get_or name 2 0 ∷ 32 ∷ xs) (nine operands long ∙ are)
-    ∙ sym (padded_more (get_or name 0 0) (get_or name 1 0) (get_or name 2 0) text)
-    ∙ ap (λ (xs : List ℕ). padded 13 (xs ++ codes " " ++ text)) (three name (ap length is ∙ three_letters op) ∙ is)
+instruction_in_pieces name operands text op is long are = grind (arith, nine, padded_more, codes, three, three_letters)
 
 -- its length: three letters, a space, its operands
 length_in_pieces : (op : Opcode) (text : List ℕ) (n : ℕ) → n ≡ length text → 4 + n ≡ length ((row_of op).mnemonic ++ codes " " ++ text)
-length_in_pieces op text n is =
-    let front = three_letters op in
-    let space = length-append ((row_of op).mnemonic) (codes " ") in
-    let whole = length-append ((row_of op).mnemonic ++ codes " ") text in
-    omega (arith, is, front, space, whole)
+length_in_pieces op text n is = grind (arith, three_letters, length-append, codes)
 
 pub instruction_length_is : (place word m n : ℕ) → n ≡ length (operands_text (operands_of (word / 2 ^ 6)) place (word % 2 ^ 6) m) → 4 + n ≡ length (instruction_text place word m)
 unfolding instruction_text
-instruction_length_is place word m n is =
-    length_in_pieces (opcode_at (word / 2 ^ 6)) (operands_text (operands_of (word / 2 ^ 6)) place (word % 2 ^ 6) m) n is
+instruction_length_is place word m n is = grind (arith, length_in_pieces)
