@@ -94,16 +94,7 @@ unnamed_are p named list all done left =
 
 -- none of them is one that the profile lacks
 pub unnamed_within : (p : Profile) (named : List Bool) → WaitsWithin p (unnamed_in p named)
-unnamed_within p named place past =
-    elim (leb_tells processor_count place) as (λ _. get_or (unnamed_in p named) place false ≡ false) [
-      | inl end ↦ get_or_past (unnamed_in p named) place false (omega (arith, end.1, length-tabulate processor_count (λ k. wanted (processor_number k))))
-      | inr within ↦
-          get_or-tabulate processor_count (λ k. wanted (processor_number k)) place false within.1
-          ∙ ap (λ (b : Bool). b && not (slice_index_or named (processor_index (processor_number place)) false)) (has_at p place within.1 ∙ le-ltb place (processors_in p) past)
-    ]
-  where
-    wanted : ℕ → Bool
-    wanted n = has_processor p n && not (slice_index_or named (processor_index n) false)
+unnamed_within p named place past = grind (arith, leb_tells, get_or_past, length-tabulate, get_or-tabulate, has_at, le-ltb)
 
 -- ---- dead start where nobody waits
 
@@ -133,38 +124,16 @@ module _ (profile : Profile) where
   is_waiting lines n = asks_dead_start lines && (has_processor profile n && not (is_named lines n))
 
   waits_unnamed : (size : ℕ) (lines : List Line) (n : ℕ) → waits (unnamed_in profile (set_by profile size lines).named) n ≡ (has_processor profile n && not (is_named lines n))
-  waits_unnamed size lines n = at_number (names_processor n) refl
-    where
-      wanted : ℕ → Bool
-      wanted k = has_processor profile k && not (slice_index_or (set_by profile size lines).named (processor_index k) false)
-
-      at_number : (b : Bool) → names_processor n ≡ b → waits (each_processor wanted) n ≡ (has_processor profile n && not (is_named lines n))
-      at_number true e =
-          ap (λ (b : Bool). b && get_or (each_processor wanted) (processor_index n) false) e
-          ∙ get_or-tabulate processor_count (λ place. wanted (processor_number place)) (processor_index n) false (processor_places.place_below n e)
-          ∙ ap wanted (processor_places.number_of_place n e)
-          ∙ ap (λ (b : Bool). has_processor profile n && not b) (named_here profile size lines n e)
-      at_number false e =
-          ap (λ (b : Bool). b && get_or (each_processor wanted) (processor_index n) false) e
-          ∙ sym (ap (λ (b : Bool). b && not (is_named lines n)) (unnamed_lacks profile n e))
+  waits_unnamed size lines n = grind (arith, get_or-tabulate, processor_places.place_below, processor_places.number_of_place, named_here, unnamed_lacks)
 
   waits_where_asked : (size : ℕ) (lines : List Line) (n : ℕ) → asks_dead_start lines ≡ true → waits (unnamed_in profile (set_by profile size lines).named) n ≡ is_waiting lines n
   waits_where_asked size lines n e = waits_unnamed size lines n ∙ sym (ap (λ (b : Bool). b && (has_processor profile n && not (is_named lines n))) e)
 
   pub waiting : (lines : List Line) (n : ℕ) → is_waiting lines n ≡ true → WaitsAtDeadStart profile lines n
-  waiting lines n e =
-      let asked = and_parts (asks_dead_start lines) _ e in
-      let unnamed = and_parts (has_processor profile n) _ asked.1 in
-      record {
-        processor = unnamed.0;
-        asked = some_asks lines asked.0;
-        unnamed = λ some. both_ways (is_named lines n) (not-true (is_named lines n) unnamed.1) (named_some n lines some);
-      }
+  waiting lines n e = grind (arith, and_parts, some_asks, both_ways, not-true, named_some)
 
   pub waiting_where : (lines : List Line) (n : ℕ) → WaitsAtDeadStart profile lines n → is_waiting lines n ≡ true
-  waiting_where lines n w =
-      and_from (asks_dead_start lines) _ (list_any_at is_dead_start lines w.asked.0 dead_start w.asked.1 (ap is_dead_start w.asked.2))
-      (and_from (has_processor profile n) _ w.processor (not_from_false (is_named lines n) (false_from_ne_true (is_named lines n) (λ is. w.unnamed (some_name n lines is)))))
+  waiting_where lines n w = grind (arith, and_from, list_any_at, not_from_false, false_from_ne_true, some_name)
 
   pub not_waiting : (lines : List Line) (n : ℕ) → (WaitsAtDeadStart profile lines n → ⊥) → is_waiting lines n ≡ false
   not_waiting lines n not_so = false_from_ne_true (is_waiting lines n) (λ is. not_so (waiting lines n is))
@@ -174,24 +143,18 @@ module _ (profile : Profile) where
       let set = (set_by profile size lines).machine in
       processor_at (unnamed_in profile (set_by profile size lines).named) set n named
       ∙ ap (λ (b : Bool). if b then waiting_on n (processor_of n set) else processor_of n set) (waits_where_asked size lines n e)
-  processor_is size lines false n e named =
-      let set = (set_by profile size lines).machine in
-      sym (ap (λ (b : Bool). if b && (has_processor profile n && not (is_named lines n)) then waiting_on n (processor_of n set) else processor_of n set) e)
+  processor_is size lines false n e named = grind arith
 
   pub opened_is : (size : ℕ) (lines : List Line) (b : Bool) (c : ℕ) → asks_dead_start lines ≡ b → IsTrue (names_channel c) → is_opened c (with_dead_start b (set_by profile size lines)).machine ≡ is_waiting lines c
   opened_is size lines true c e named = opened_at (unnamed_in profile (set_by profile size lines).named) (set_by profile size lines).machine c named ∙ waits_where_asked size lines c e
-  opened_is size lines false c e named =
-      get_or-replicate channel_count (channel_index c) false false (channel_places.place_below c named)
-      ∙ sym (ap (λ (b : Bool). b && (has_processor profile c && not (is_named lines c))) e)
+  opened_is size lines false c e named = grind (arith, get_or-replicate, channel_places.place_below)
 
   pub history_is : (size : ℕ) (lines : List Line) (b : Bool) (c : ℕ) → asks_dead_start lines ≡ b → IsTrue (names_channel c) → history_of c (with_dead_start b (set_by profile size lines)).machine ≡ (if is_waiting lines c then Activate ∷ [] else [])
   history_is size lines true c e named =
       history_at (unnamed_in profile (set_by profile size lines).named) (set_by profile size lines).machine c named
       ∙ ap (λ (b : Bool). if b then Activate ∷ [] else history_of c (set_by profile size lines).machine) (waits_where_asked size lines c e)
       ∙ ap (λ h. if is_waiting lines c then Activate ∷ [] else h) (get_or-replicate channel_count (channel_index c) [] [] (channel_places.place_below c named))
-  history_is size lines false c e named =
-      get_or-replicate channel_count (channel_index c) [] [] (channel_places.place_below c named)
-      ∙ sym (ap (λ (b : Bool). if b && (has_processor profile c && not (is_named lines c)) then Activate ∷ [] else []) e)
+  history_is size lines false c e named = grind (arith, get_or-replicate, channel_places.place_below)
 
   waits_nowhere : (size : ℕ) (lines : List Line) → asks_dead_start lines ≡ true → ((c : ℕ) → IsTrue (names_channel c) → is_waiting lines c ≡ false) → (n : ℕ) → waits (unnamed_in profile (set_by profile size lines).named) n ≡ false
   waits_nowhere size lines e none n = by_name (names_processor n) refl

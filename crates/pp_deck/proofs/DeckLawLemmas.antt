@@ -1,5 +1,5 @@
 -- Each deck that has a meaning keeps the law of loaded decks.
-use Rattle.std.proofs.Common.{◌≡◌, ℕ, ◌<◌, Bool, true, false, cond, IsTrue, List, [], ◌∷◌, length, get_or, Option, Some, None, Ok, Err, if◌then◌else◌, refl, sym, ap, subst, ◌∙◌, ◌++◌, append-nil}
+use Rattle.std.proofs.Common.{◌≡◌, ℕ, ◌<◌, Bool, true, false, cond, IsTrue, List, [], ◌∷◌, length, get_or, Option, Some, None, Ok, Err, if◌then◌else◌, refl, sym, ap, subst, ◌∙◌, ◌++◌, append-nil, arith}
 use Rattle.std.specs.Prelude.{option_map, position, slice_index, Some, None}
 use Rattle.std.proofs.lemmas.List.{length-replicate}
 use Rattle.pp_numbers.specs.ChannelNo.{channel_count}
@@ -36,20 +36,13 @@ module _ (profile : Profile) where
   here size lines n named = processor_is profile size lines (asks_dead_start lines) n refl named
 
   as_set : (size : ℕ) (lines : List Line) (n : ℕ) → IsTrue (names_processor n) → (WaitsAtDeadStart profile lines n → ⊥) → processor_of n (loaded profile size lines).machine ≡ processor_of n (set_by profile size lines).machine
-  as_set size lines n named not_so =
-      let set = (set_by profile size lines).machine in
-      here size lines n named ∙ ap (λ (b : Bool). if b then waiting_on n (processor_of n set) else processor_of n set) (not_waiting profile lines n not_so)
+  as_set size lines n named not_so = grind (arith, here, not_waiting)
 
   waits_there : (size : ℕ) (lines : List Line) (n : ℕ) → WaitsAtDeadStart profile lines n → processor_of n (loaded profile size lines).machine ≡ waiting_on n (processor_of n (loaded profile size lines).machine)
-  waits_there size lines n w =
-      let set = (set_by profile size lines).machine in
-      let is : processor_of n (loaded profile size lines).machine ≡ waiting_on n (processor_of n set) =
-      here size lines n (processor_named profile n w.processor) ∙ ap (λ (b : Bool). if b then waiting_on n (processor_of n set) else processor_of n set) (waiting_where profile lines n w) in
-      is ∙ sym (ap (waiting_on n) is)
+  waits_there size lines n w = grind (arith, here, processor_named, waiting_where)
 
   places_hold : (size : ℕ) (lines : List Line) (n place : ℕ) → IsTrue (names_processor n) → word_at (processor_of n (loaded profile size lines).machine) place ≡ word_at (processor_of n (set_by profile size lines).machine) place
-  places_hold size lines n place named =
-      ap (λ (pp : Processor). word_at pp place) (here size lines n named) ∙ word_either (is_waiting profile lines n) n place (processor_of n (set_by profile size lines).machine)
+  places_hold size lines n place named = grind (arith, here, word_either, is_waiting)
 
   central_holds : (size : ℕ) (lines : List Line) (central : List ℕ) → central ≡ central_loaded size lines → (address : ℕ) → address < length central → HoldsLast lines (λ k w. SetsCentralWord (line_of lines k) address w) 0 (slice_index central address)
   central_holds size lines central is =
@@ -116,16 +109,11 @@ module _ (profile : Profile) where
 
   -- central memory has the size that it says
   pub deck_size_of : (text : List ℕ) (deck : LoadedDeck) → deck_meaning profile text ≡ Ok deck → length deck.machine.central ≡ size_of (lines_of text)
-  deck_size_of text deck e =
-      let size = size_of (lines_of text) in
-      let lines = parsed_deck profile (lines_of text) in
-      ap (λ (d : LoadedDeck). length d.machine.central) (sym (loaded_is text deck e)) ∙ ap length (stays (λ d. d.machine.central) (asks_dead_start lines) (set_by profile size lines) refl) ∙ length-central_loaded size lines
+  deck_size_of text deck e = grind (arith, loaded_is, stays, length-central_loaded)
 
   -- its machine has the profile for which it was read
   pub deck_profile_of : (text : List ℕ) (deck : LoadedDeck) → deck_meaning profile text ≡ Ok deck → deck.machine.profile ≡ profile
-  deck_profile_of text deck e =
-      let lines = parsed_deck profile (lines_of text) in
-      ap (λ (d : LoadedDeck). d.machine.profile) (sym (loaded_is text deck e)) ∙ stays (λ d. d.machine.profile) (asks_dead_start lines) (set_by profile (size_of (lines_of text)) lines) refl
+  deck_profile_of text deck e = grind (arith, loaded_is, stays)
 
   pub deck_names_within : (text : List ℕ) (deck : LoadedDeck) → deck_meaning profile text ≡ Ok deck → NamesWithin profile deck.named
   deck_names_within text deck e n named is = named_has profile (parsed_deck profile (lines_of text)) (said_in_range profile (lines_of text)) n (((deck_law_of text deck e).named n named).0 is)

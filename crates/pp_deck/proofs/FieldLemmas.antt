@@ -14,9 +14,7 @@ use Rattle.pp_deck.specs.DeckText.{is_blank, is_comment, is_nonempty, fields_in,
 
 or_length : (p : ℕ → Bool) (xs : List ℕ) (b : Bool) → nat_lt (position_or_len p xs) (length xs) ≡ b → unwrap_or (cond b (Some (position_or_len p xs)) None) (length xs) ≡ position_or_len p xs
 or_length p xs true e = refl
-or_length p xs false e =
-    let past : length xs ≤ position_or_len p xs = ltb-false (position_or_len p xs) (length xs) e in
-    omega (arith, past, prefix_len-le-length (λ x. not (p x)) xs)
+or_length p xs false e = grind (arith, ltb-false, prefix_len-le-length)
 
 -- where it stands, or the length
 pub unwrap_or_position : (p : ℕ → Bool) (xs : List ℕ) → unwrap_or (position p xs) (length xs) ≡ position_or_len p xs
@@ -29,8 +27,7 @@ one_more n = omega arith
 
 blank_first : (x : ℕ) (xs : List ℕ) → is_blank x ≡ true → fields_in (x ∷ xs) ≡ fields_in xs
 unfolding fields_in
-blank_first x xs e =
-    ap (λ (pieces : List (List ℕ)). take_while (λ field. not (is_comment field)) (filter is_nonempty pieces)) (slice_split-cons_yes is_blank x xs e)
+blank_first x xs e = grind (arith, slice_split-cons_yes)
 
 after_blank : (x n : ℕ) (xs : List ℕ) (b : Bool) → is_blank x ≡ b → fields_in (drop n xs) ≡ fields_in xs → fields_in (drop (cond (not (not b)) (1 + n) 0) (x ∷ xs)) ≡ fields_in (x ∷ xs)
 after_blank x n xs true e h = ap (λ (i : ℕ). fields_in (drop i (x ∷ xs))) (one_more n) ∙ h ∙ sym (blank_first x xs e)
@@ -53,8 +50,7 @@ fields_of_blanks r xs e n =
 
 -- the fields from the first that is not blank on
 pub fields_from : (i : ℕ) (xs : List ℕ) → Some i ≡ position (λ byte. not (is_blank byte)) xs → fields_in xs ≡ fields_in (drop i xs)
-fields_from i xs e =
-    sym (behind_blanks xs) ∙ ap (λ (k : ℕ). fields_in (drop k xs)) (sym (at_position (λ byte. not (is_blank byte)) xs _ i (sym e)))
+fields_from i xs e = grind (arith, behind_blanks, at_position)
 
 -- ---- a field
 
@@ -99,10 +95,7 @@ piece_named x xs text rest more h k =
 
 piece_at : (x n : ℕ) (xs : List ℕ) (b : Bool) → b ≡ false → (more : List (List ℕ)) → TakesPiece (x ∷ xs) (cond (not b) (1 + n) 0) more → fields_in (x ∷ xs) ≡ cond (x == 42) [] (take (cond (not b) (1 + n) 0) (x ∷ xs) ∷ fields_in (drop (cond (not b) (1 + n) 0) (x ∷ xs)))
 piece_at x n xs true e more h = absurd (cc)
-piece_at x n xs false e more h =
-    let front : take (1 + n) (x ∷ xs) ≡ x ∷ take n xs = ap (λ (i : ℕ). take i (x ∷ xs)) (one_more n) in
-    piece_named x (take n xs) (x ∷ xs) (drop (1 + n) (x ∷ xs)) more (h.pieces ∙ ap (λ (piece : List ℕ). piece ∷ more) front) h.behind
-    ∙ ap (λ (piece : List ℕ). cond (x == 42) [] (piece ∷ fields_in (drop (1 + n) (x ∷ xs)))) (sym front)
+piece_at x n xs false e more h = grind (arith, one_more, piece_named)
 
 first_field : (xs : List ℕ) → 0 < length xs → is_blank (slice_index xs 0) ≡ false → fields_in xs ≡ cond (slice_index xs 0 == 42) [] (take (position_or_len is_blank xs) xs ∷ fields_in (drop (position_or_len is_blank xs) xs))
 first_field [] lt e = absurd (omega (arith, lt))
@@ -148,8 +141,7 @@ line_last text e = ap (map fields_of) (split_last is_line_feed text e)
 
 pub length-lines_of : (text : List ℕ) → length (lines_of text) ≤ length text + 1
 unfolding lines_of
-length-lines_of text =
-    omega (arith, length-map (slice_split is_line_feed text) fields_of, length-slice_split is_line_feed text, count_by-le-length is_line_feed text)
+length-lines_of text = grind (arith, length-map, length-slice_split, count_by-le-length)
 
 -- the next of the lines that are left is line k
 pub record NextLine (all : List (List (List ℕ))) (k : ℕ) (line : List (List ℕ)) (rest : List (List (List ℕ))) : Type 0 where

@@ -31,11 +31,7 @@ pub plain_most : (c : ℕ) → is_plain c ≡ true → c ≤ 126
 plain_most c e = leb-true c 126 (and_parts (nat_le 32 c) (nat_le c 126) e).1
 
 ink_no_blank : (c : ℕ) → is_ink c ≡ true → is_blank c ≡ false
-ink_no_blank c e =
-    let least = ink_least c e in
-    let space : (c == 32) ≡ false = ne_eqb c 32 (λ h. absurd (omega (arith, least, h))) in
-    let tab : (c == 9) ≡ false = ne_eqb c 9 (λ h. absurd (omega (arith, least, h))) in
-    rw (space, tab) refl
+ink_no_blank c e = grind (arith, ink_least, ne_eqb)
 
 -- the text of a field: not empty, and all ink
 pub record IsField (field : List ℕ) : Type 0 where
@@ -57,9 +53,7 @@ no_star c field e = let least = ink_least c (and_parts (is_ink c) (list_all is_i
 
 field_piece : (c : ℕ) (field : List ℕ) (more : List (List ℕ)) → list_all is_ink (c ∷ field) ≡ true → pieces ((c ∷ field) ∷ more) ≡ (c ∷ field) ∷ pieces more
 unfolding pieces
-field_piece c field more e =
-    take_while-cons (λ field. not (is_comment field)) (c ∷ field) (filter is_nonempty more)
-    ∙ ap (λ (b : Bool). cond (not b) ((c ∷ field) ∷ take_while (λ field. not (is_comment field)) (filter is_nonempty more)) []) (no_star c field e)
+field_piece c field more e = grind (arith, take_while-cons, no_star)
 
 empty_piece : (more : List (List ℕ)) → pieces ([] ∷ more) ≡ pieces more
 unfolding pieces
@@ -75,18 +69,11 @@ IsTail text fields = (field : List ℕ) → IsField field → fields_in (field +
 
 pub tail_none : IsTail [] []
 tail_none [] h = absurd (omega (arith, h.some))
-tail_none (c ∷ field) h =
-    ap fields_in (append-nil (c ∷ field)) ∙ fields_are (c ∷ field)
-    ∙ ap pieces (slice_split_none is_blank (c ∷ field) (no_blanks (c ∷ field) h.ink))
-    ∙ field_piece c field [] h.ink ∙ ap (λ (more : List (List ℕ)). (c ∷ field) ∷ more) no_more
+tail_none (c ∷ field) h = grind (arith, append-nil, fields_are, pieces, slice_split_none, no_blanks, field_piece, no_more)
 
 pub tail_blank : (text : List ℕ) → IsTail (32 ∷ text) (fields_in text)
 tail_blank text [] h = absurd (omega (arith, h.some))
-tail_blank text (c ∷ field) h =
-    fields_are (c ∷ field ++ 32 ∷ text)
-    ∙ ap pieces (slice_split_at is_blank (c ∷ field) 32 text (no_blanks (c ∷ field) h.ink) refl)
-    ∙ field_piece c field (slice_split is_blank text) h.ink
-    ∙ ap (λ (more : List (List ℕ)). (c ∷ field) ∷ more) (sym (fields_are text))
+tail_blank text (c ∷ field) h = grind (arith, fields_are, pieces, slice_split_at, no_blanks, field_piece)
 
 pub tail_field : (field text : List ℕ) (fields : List (List ℕ)) → IsField field → IsTail text fields → IsTail (32 ∷ field ++ text) (field ∷ fields)
 tail_field field text fields h tail = λ first is. tail_blank (field ++ text) first is ∙ ap (λ (more : List (List ℕ)). first ∷ more) (tail field h)

@@ -66,17 +66,7 @@ holds_last {A} lines f Sets otherwise value found there is = record {
 
 -- the heading after one line more
 for_more : (lines : List Line) (k n : ℕ) → IsFor lines k n → ((m : ℕ) → line_of lines k ≡ section m → ⊥) → IsFor lines (k + 1) n
-for_more lines k n h other = record {
-  heading = h.heading;
-  before = omega (arith, h.before);
-  names = h.names;
-  latest = λ i m low high is. at_line i m low high is (cases_order i k);
-}
-  where
-    at_line : (i m : ℕ) → h.heading < i → i < k + 1 → line_of lines i ≡ section m → (i ≡ k) ⊎ ((i < k) ⊎ (k < i)) → ⊥
-    at_line i m low high is (inl e) = other m (ap (line_of lines) (sym e) ∙ is)
-    at_line i m low high is (inr (inl less)) = h.latest i m low less is
-    at_line i m low high is (inr (inr more)) = absurd (omega (arith, high, more))
+for_more lines k n h other = grind (arith, names, cases_order)
 
 section_next : (lines : List Line) (k : ℕ) → k < length lines → section_of (take (suc k) lines) ≡ current_after (line_of lines k) (section_of (take k lines))
 section_next lines k lt =
@@ -129,10 +119,7 @@ stands : (first place w : ℕ) (ws : List ℕ) → word_among first ws place ≡
 stands first place w ws h = found_among first place w ws (leb first place) refl h
 
 is_among : (first place w : ℕ) (ws : List ℕ) → StandsAt first ws place w → word_among first ws place ≡ Some w
-is_among first place w ws h =
-    let yes : leb first place ≡ true = le-leb first place (omega (arith, h.at_place)) in
-    let at_index : place - first ≡ h.index = omega (arith, h.at_place) in
-    rw (yes, at_index) h.is_word
+is_among first place w ws h = grind (arith, le-leb)
 
 pub word_set : (line : Line) (place w : ℕ) → word_for place line ≡ Some w → SetsWord line place w
 word_set (words x ws) place w e = stands x place w ws e
@@ -171,11 +158,7 @@ then_in f (Some x) = f x
 filter_twice : {X Y A : Type 0} (f : X → Option Y) (g : Y → Option A) (xs : List X) → filter_map g (filter_map f xs) ≡ filter_map (λ x. then_in g (f x)) xs
 unfolding then_in
 filter_twice f g [] = refl
-filter_twice {X} {Y} {A} f g (x ∷ xs) = at_head (f x) ∙ ap (cons_option (then_in g (f x))) (filter_twice f g xs)
-  where
-    at_head : (o : Option Y) → filter_map g (cons_option o (filter_map f xs)) ≡ cons_option (then_in g o) (filter_map g (filter_map f xs))
-    at_head None = refl
-    at_head (Some y) = refl
+filter_twice {X} {Y} {A} f g (x ∷ xs) = grind (arith, then_in, filter_twice f g xs)
 
 pick : ℕ → List Line → ℕ → Option Line
 pick n lines k = cond (is_for n (section_of (take k lines))) (Some (line_of lines k)) None
@@ -191,9 +174,7 @@ picked f line false x e = absurd (cc)
 
 picks : {A : Type 0} (f : Line → Option A) (line : Line) (n : ℕ) (current : Option ℕ) (x : A) → current ≡ Some n → f line ≡ Some x → then_in f (cond (is_for n current) (Some line) None) ≡ Some x
 unfolding then_in
-picks f line n current x e h =
-    ap (λ (o : Option ℕ). then_in f (cond (is_for n o) (Some line) None)) e
-    ∙ ap (λ (b : Bool). then_in f (cond b (Some line) None)) (eq-eqb n n refl) ∙ h
+picks f line n current x e h = grind (arith, then_in, eq-eqb)
 
 pub own_last : {A : Type 0} (n : ℕ) (lines : List Line) (f : Line → Option A) (Sets : Line → A → Type 0) (otherwise value : A) → ((line : Line) (x : A) → f line ≡ Some x → Sets line x) → ((line : Line) (x : A) → Sets line x → f line ≡ Some x) → value ≡ unwrap_or (last_of (filter_map f (lines_for n lines))) otherwise → HoldsLast lines (λ k x. IsFor lines k n × Sets (line_of lines k) x) otherwise value
 unfolding pick lines_for
@@ -221,11 +202,7 @@ all_last {A} lines f Sets otherwise value found there is =
 
 mapped_last : {X A B : Type 0} (g : A → B) (h : X → Option A) (xs : List X) → filter_map (λ x. option_map g (h x)) xs ≡ map g (filter_map h xs)
 mapped_last g h [] = refl
-mapped_last {X} {A} {B} g h (x ∷ xs) = ap (cons_option (option_map g (h x))) (mapped_last g h xs) ∙ at_head (h x)
-  where
-    at_head : (o : Option A) → cons_option (option_map g o) (map g (filter_map h xs)) ≡ map g (cons_option o (filter_map h xs))
-    at_head None = refl
-    at_head (Some y) = refl
+mapped_last {X} {A} {B} g h (x ∷ xs) = grind (arith, mapped_last g h xs)
 
 last_mapped : {A B : Type 0} (g : A → B) (xs : List A) → last_of (map g xs) ≡ option_map g (last_of xs)
 last_mapped g xs = sym (last_or_at (map g xs)) ∙ ap (λ (n : ℕ). slice_get (map g xs) (n - 1)) (length-map xs g) ∙ slice_get-map g xs (length xs - 1) ∙ ap (option_map g) (last_or_at xs)
@@ -235,9 +212,7 @@ last_start lines = ap last_of (mapped_last registers_at start_in lines) ∙ last
 
 pub central_here : (size : ℕ) (lines : List Line) (address : ℕ) → address < length (central_loaded size lines) → get_or (central_loaded size lines) address 0 ≡ unwrap_or (last_of (filter_map (central_word_for address) lines)) 0
 unfolding central_loaded
-central_here size lines address lt =
-    get_or-tabulate size (λ i. unwrap_or (last_of (filter_map (central_word_for i) lines)) 0) address 0
-    (omega (arith, lt, length-tabulate size (λ i. unwrap_or (last_of (filter_map (central_word_for i) lines)) 0)))
+central_here size lines address lt = grind (arith, get_or-tabulate, last_of, length-tabulate)
 
 -- ---- names
 
@@ -271,27 +246,19 @@ module _ (profile : Profile) where
   block_with memory (Some s) = refl
 
   pub processor_here : (size : ℕ) (lines : List Line) (n : ℕ) → IsTrue (names_processor n) → processor_of n (set_by profile size lines).machine ≡ processor_loaded profile lines n
-  processor_here size lines n names =
-      get_or-tabulate processor_count (λ place. processor_loaded profile lines (processor_number place)) (processor_index n) no_processor (processor_places.place_below n names)
-      ∙ ap (processor_loaded profile lines) (processor_places.number_of_place n names)
+  processor_here size lines n names = grind (arith, get_or-tabulate, processor_places.place_below, processor_places.number_of_place)
 
   pub place_here : (lines : List Line) (n place : ℕ) → place < place_count → word_at (processor_loaded profile lines n) place ≡ unwrap_or (last_of (filter_map (word_for place) (lines_for n lines))) 0
   unfolding processor_loaded memory_of
-  place_here lines n place lt =
-      ap (λ (memory : List ℕ). get_or memory place 0) (memory_with _ (last_of (filter_map start_in (lines_for n lines))))
-      ∙ get_or-tabulate place_count (λ i. unwrap_or (last_of (filter_map (word_for i) (lines_for n lines))) 0) place 0 lt
+  place_here lines n place lt = grind (arith, memory_with, last_of, get_or-tabulate)
 
   pub registers_here : (lines : List Line) (n : ℕ) → registers_of (processor_loaded profile lines n) ≡ unwrap_or (last_of (filter_map (λ line. option_map registers_at (start_in line)) (lines_for n lines))) at_rest
   unfolding processor_loaded
-  registers_here lines n =
-      registers_with (memory_of (lines_for n lines)) (last_of (filter_map start_in (lines_for n lines)))
-      ∙ ap (λ (o : Option Registers). unwrap_or o at_rest) (sym (last_start (lines_for n lines)))
+  registers_here lines n = grind (arith, registers_with, last_of, last_start)
 
   pub no_block_here : (lines : List Line) (n : ℕ) → (processor_loaded profile lines n).block ≡ None
   unfolding processor_loaded
   no_block_here lines n = block_with (memory_of (lines_for n lines)) (last_of (filter_map start_in (lines_for n lines)))
 
   pub named_here : (size : ℕ) (lines : List Line) (n : ℕ) → IsTrue (names_processor n) → get_or (set_by profile size lines).named (processor_index n) false ≡ list_any (names n) lines
-  named_here size lines n named =
-      get_or-tabulate processor_count (λ place. is_named lines (processor_number place)) (processor_index n) false (processor_places.place_below n named)
-      ∙ ap (is_named lines) (processor_places.number_of_place n named)
+  named_here size lines n named = grind (arith, get_or-tabulate, processor_places.place_below, processor_places.number_of_place)

@@ -46,20 +46,11 @@ last_holds P o (x ∷ xs) h k = last_holds P (Some x) xs k.0 k.1
 
 -- what holds of each entry of a table holds of the table
 pub all_tabulate : {A : Type 0} (P : A → Type 0) (n : ℕ) (f : ℕ → A) → ((k : ℕ) → k < n → P (f k)) → All P (tabulate n f)
-all_tabulate P n f h = λ k d lt.
-    let below : k < n = omega (arith, lt, length-tabulate n f) in
-    subst P (sym (get_or-tabulate n f k d below)) (h k below)
+all_tabulate P n f h = grind (arith, length-tabulate, get_or-tabulate)
 
 -- numbers that are found or else 0 are below a bound, past the end of the table too
 small_table : (most n : ℕ) (f : ℕ → Option ℕ) → 0 < most → ((k : ℕ) → IfSome (f k) (λ w. w < most)) → (i : ℕ) → get_or (tabulate n (λ k. unwrap_or (f k) 0)) i 0 < most
-small_table most n f some h i = elim (cases_lt i n) [
-  | inl lt ↦ rw (get_or-tabulate n (λ k. unwrap_or (f k) 0) i 0 lt) (or_zero (f i) (h i))
-  | inr past ↦ rw (get_or_past (tabulate n (λ k. unwrap_or (f k) 0)) i 0 (omega (arith, past, length-tabulate n (λ k. unwrap_or (f k) 0)))) some
-]
-  where
-    or_zero : (o : Option ℕ) → IfSome o (λ w. w < most) → unwrap_or o 0 < most
-    or_zero None h = some
-    or_zero (Some w) h = h
+small_table most n f some h i = grind (arith, cases_lt, get_or-tabulate, get_or_past, length-tabulate)
 
 among_in : (P : ℕ → Type 0) (b : Bool) (ws : List ℕ) (i : ℕ) → All P ws → IfSome (cond b (slice_get ws i) None) P
 among_in P true [] i h = tt

@@ -21,42 +21,15 @@ before_first : (first place : ℕ) (ws : List ℕ) → place < first → word_am
 before_first first place ws lt = let no : leb first place ≡ false = lt-leb first place lt in rw no refl
 
 at_first : (first w : ℕ) (ws : List ℕ) → word_among first (w ∷ ws) first ≡ Some w
-at_first first w ws =
-    let yes : leb first first ≡ true = le-leb first first (omega arith) in
-    let none : first - first ≡ 0 = omega arith in
-    rw (yes, none) refl
+at_first first w ws = grind (arith, le-leb)
 
 behind_first : (first place w : ℕ) (ws : List ℕ) → first < place → word_among first (w ∷ ws) place ≡ word_among (first + 1) ws place
-behind_first first place w ws lt =
-    let yes : leb first place ≡ true = le-leb first place (omega (arith, lt)) in
-    let too : leb (first + 1) place ≡ true = le-leb (first + 1) place (omega (arith, lt)) in
-    let more : place - first ≡ suc (place - (first + 1)) = omega (arith, lt) in
-    rw (yes, too, more) refl
+behind_first first place w ws lt = grind (arith, le-leb)
 
 -- a place holds the word that is set there, else what it held
 pub get_or-with_words : (first : ℕ) (ws memory : List ℕ) (place : ℕ) → place < length memory → get_or (with_words first ws memory) place 0 ≡ unwrap_or (word_among first ws place) (get_or memory place 0)
-get_or-with_words first [] memory place lt = sym (nowhere (leb first place))
-  where
-    nowhere : (b : Bool) → unwrap_or (cond b (slice_get [] (place - first)) None) (get_or memory place 0) ≡ get_or memory place 0
-    nowhere true = refl
-    nowhere false = refl
-get_or-with_words first (w ∷ ws) memory place lt =
-    get_or-with_words (first + 1) ws (set memory first w) place (omega (arith, lt, length-set memory first w))
-    ∙ at_place (cases_order place first)
-  where
-    at_place : (place ≡ first) ⊎ ((place < first) ⊎ (first < place)) → unwrap_or (word_among (first + 1) ws place) (get_or (set memory first w) place 0) ≡ unwrap_or (word_among first (w ∷ ws) place) (get_or memory place 0)
-    at_place (inl e) =
-        ap (λ (o : Option ℕ). unwrap_or o (get_or (set memory first w) place 0)) (before_first (first + 1) place ws (omega (arith, e)))
-        ∙ ap (λ (i : ℕ). get_or (set memory first w) i 0) e ∙ get_or-set_same memory first w 0 (omega (arith, lt, e))
-        ∙ ap (λ (o : Option ℕ). unwrap_or o (get_or memory place 0)) (sym (at_first first w ws))
-        ∙ ap (λ (i : ℕ). unwrap_or (word_among first (w ∷ ws) i) (get_or memory place 0)) (sym e)
-    at_place (inr (inl less)) =
-        ap (λ (o : Option ℕ). unwrap_or o (get_or (set memory first w) place 0)) (before_first (first + 1) place ws (omega (arith, less)))
-        ∙ get_or-set_other memory first place w 0 (λ e. absurd (omega (arith, less, e)))
-        ∙ ap (λ (o : Option ℕ). unwrap_or o (get_or memory place 0)) (sym (before_first first place (w ∷ ws) less))
-    at_place (inr (inr more)) =
-        ap (unwrap_or (word_among (first + 1) ws place)) (get_or-set_other memory first place w 0 (λ e. absurd (omega (arith, more, e))))
-        ∙ ap (λ (o : Option ℕ). unwrap_or o (get_or memory place 0)) (sym (behind_first first place w ws more))
+get_or-with_words first [] memory place lt = grind arith
+get_or-with_words first (w ∷ ws) memory place lt = grind (arith, length-set, cases_order, before_first, get_or-set_same, at_first, get_or-set_other, behind_first, get_or-with_words (first + 1) ws (set memory first w) place (omega (arith, lt, length-set memory first w)))
 
 -- ---- the last word
 
@@ -69,10 +42,7 @@ or_else_is None last = refl
 
 last_word_more : (word_of : ℕ → Line → Option ℕ) (lines : List Line) (line : Line) (place : ℕ) → last_word word_of (lines ++ line ∷ []) place ≡ unwrap_or (word_of place line) (last_word word_of lines place)
 unfolding last_word
-last_word_more word_of lines line place =
-    ap (λ (ws : List ℕ). unwrap_or (last_of ws) 0) (filter_map_more (word_of place) lines line)
-    ∙ ap (λ (o : Option ℕ). unwrap_or o 0) (last_of_more (filter_map (word_of place) lines) (word_of place line))
-    ∙ or_else_is (word_of place line) (last_of (filter_map (word_of place) lines))
+last_word_more word_of lines line place = grind (arith, last_of, filter_map_more, last_of_more, or_else_is)
 
 last_words_none : (word_of : ℕ → Line → Option ℕ) (n : ℕ) → tabulate n (last_word word_of []) ≡ replicate n 0
 unfolding last_word
@@ -88,9 +58,7 @@ last_words_set word_of n lines line first ws same =
     ∙ sym (last_word_more word_of lines line i)))
 
 last_words_kept : (word_of : ℕ → Line → Option ℕ) (n : ℕ) (lines : List Line) (line : Line) → ((place : ℕ) → word_of place line ≡ None) → tabulate n (last_word word_of (lines ++ line ∷ [])) ≡ tabulate n (last_word word_of lines)
-last_words_kept word_of n lines line none =
-    tabulate_same 0 n (last_word word_of (lines ++ line ∷ [])) (last_word word_of lines)
-    (λ i lt. last_word_more word_of lines line i ∙ ap (λ (o : Option ℕ). unwrap_or o (last_word word_of lines i)) (none i))
+last_words_kept word_of n lines line none = grind (arith, tabulate_same, last_word, last_word_more)
 
 -- ---- memories
 
@@ -102,9 +70,7 @@ pub memory_none : memory_of [] ≡ replicate place_count 0
 memory_none = memory_is [] ∙ last_words_none word_for place_count
 
 pub memory_set : (lines : List Line) (x : ℕ) (ws : List ℕ) → memory_of (lines ++ words x ws ∷ []) ≡ with_words x ws (memory_of lines)
-memory_set lines x ws =
-    memory_is (lines ++ words x ws ∷ []) ∙ last_words_set word_for place_count lines (words x ws) x ws (λ place. refl)
-    ∙ ap (with_words x ws) (sym (memory_is lines))
+memory_set lines x ws = grind (arith, memory_is, last_words_set)
 
 pub memory_kept : (lines : List Line) (line : Line) → ((place : ℕ) → word_for place line ≡ None) → memory_of (lines ++ line ∷ []) ≡ memory_of lines
 memory_kept lines line none = memory_is (lines ++ line ∷ []) ∙ last_words_kept word_for place_count lines line none ∙ sym (memory_is lines)
@@ -120,9 +86,7 @@ pub central_none : (size : ℕ) → central_loaded size [] ≡ replicate size 0
 central_none size = central_is size [] ∙ last_words_none central_word_for size
 
 pub central_set : (size : ℕ) (lines : List Line) (a : ℕ) (ws : List ℕ) → central_loaded size (lines ++ central_words a ws ∷ []) ≡ with_words a ws (central_loaded size lines)
-central_set size lines a ws =
-    central_is size (lines ++ central_words a ws ∷ []) ∙ last_words_set central_word_for size lines (central_words a ws) a ws (λ address. refl)
-    ∙ ap (with_words a ws) (sym (central_is size lines))
+central_set size lines a ws = grind (arith, central_is, last_words_set)
 
 pub central_kept : (size : ℕ) (lines : List Line) (line : Line) → ((address : ℕ) → central_word_for address line ≡ None) → central_loaded size (lines ++ line ∷ []) ≡ central_loaded size lines
 central_kept size lines line none = central_is size (lines ++ line ∷ []) ∙ last_words_kept central_word_for size lines line none ∙ sym (central_is size lines)

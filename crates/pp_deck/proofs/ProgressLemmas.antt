@@ -1,5 +1,5 @@
 -- Reading lines one after another leaves what they load all together.
-use Rattle.std.proofs.Common.{◌≡◌, ℕ, ◌<◌, Bool, true, false, cond, eqb, List, [], ◌∷◌, ◌++◌, get_or, replicate, Option, Some, None, refl, sym, ap, ◌∙◌, fold, append_assoc, append-nil}
+use Rattle.std.proofs.Common.{◌≡◌, ℕ, ◌<◌, Bool, true, false, cond, eqb, List, [], ◌∷◌, ◌++◌, get_or, replicate, Option, Some, None, refl, sym, ap, ◌∙◌, fold, append_assoc, append-nil, arith}
 use Rattle.std.specs.Prelude.{filter_map, slice_index_or, slice_set, ◌||◌}
 use Rattle.std.specs.List.{list_any}
 use Rattle.std.proofs.lemmas.Bool.{eqb-true}
@@ -48,12 +48,8 @@ module _ (profile : Profile) where
 
   by_own_more : (lines : List Line) (line : Line) → by_own_lines (lines ++ line ∷ []) ≡ own_after line (by_own_lines lines)
   unfolding by_own_lines
-  by_own_more lines (start p a) =
-      both_with _ _ _ _ (memory_kept lines (start p a) (λ place. refl)) (starts_more lines (start p a))
-      ∙ start_with p a (memory_of lines) (last_of (filter_map start_in lines))
-  by_own_more lines (words x ws) =
-      both_with _ _ _ _ (memory_set lines x ws) (starts_more lines (words x ws))
-      ∙ words_with x ws (memory_of lines) (last_of (filter_map start_in lines))
+  by_own_more lines (start p a) = grind (arith, both_with, memory_kept, starts_more, start_with, last_of)
+  by_own_more lines (words x ws) = grind (arith, both_with, memory_set, starts_more, words_with, last_of)
   by_own_more lines line = both_with _ _ _ _ (memory_kept lines line (λ place. refl)) (starts_more lines line)
 
   empty_is : replicate place_count 0 ≡ empty_memory
@@ -75,10 +71,7 @@ module _ (profile : Profile) where
   own_or_not false lines line = ap by_own_lines (append-nil lines)
 
   processor_more : (lines : List Line) (line : Line) (n : ℕ) → processor_loaded profile (lines ++ line ∷ []) n ≡ cond (is_for n (section_of lines)) (own_after line (processor_loaded profile lines n)) (processor_loaded profile lines n)
-  processor_more lines line n =
-      loaded_is (lines ++ line ∷ []) n ∙ ap by_own_lines (lines_for_more n lines line)
-      ∙ own_or_not (is_for n (section_of lines)) (lines_for n lines) line
-      ∙ ap (λ (pp : Processor). cond (is_for n (section_of lines)) (own_after line pp) pp) (sym (loaded_is lines n))
+  processor_more lines line n = grind (arith, loaded_is, by_own_lines, lines_for_more, own_or_not, own_after)
 
   no_lines : (n : ℕ) → lines_for n [] ≡ []
   unfolding lines_for
@@ -98,28 +91,11 @@ module _ (profile : Profile) where
 
   entry_changed : (lines : List Line) (line : Line) (m i : ℕ) → i < processor_count → section_of lines ≡ Some m → processor_loaded profile (lines ++ line ∷ []) (processor_number i) ≡ cond (eqb i (processor_index m)) (own_after line (get_or (all_of lines) (processor_index m) no_processor)) (processor_loaded profile lines (processor_number i))
   unfolding all_of
-  entry_changed lines line m i lt e =
-      processor_more lines line n ∙ ap (λ (current : Option ℕ). cond (is_for n current) (own_after line pp) pp) e
-      ∙ ap (λ (b : Bool). cond b (own_after line pp) pp) (number_at i m lt)
-      ∙ at_entry (eqb i (processor_index m)) refl
-    where
-      n : ℕ
-      n = processor_number i
-
-      pp : Processor
-      pp = processor_loaded profile lines (processor_number i)
-
-      at_entry : (b : Bool) → eqb i (processor_index m) ≡ b → cond b (own_after line pp) pp ≡ cond b (own_after line (get_or (all_of lines) (processor_index m) no_processor)) pp
-      at_entry true same =
-          ap (own_after line) (sym (get_or-tabulate processor_count (λ k. processor_loaded profile lines (processor_number k)) i no_processor lt)
-          ∙ ap (λ (k : ℕ). get_or (all_of lines) k no_processor) (eqb-true i (processor_index m) same))
-      at_entry false other = refl
+  entry_changed lines line m i lt e = grind (arith, processor_more, own_after, number_at, all_of, get_or-tabulate, eqb-true)
 
   all_changed : (lines : List Line) (line : Line) (current : Option ℕ) → section_of lines ≡ current → changed_at current (own_after line) (all_of lines) ≡ all_of (lines ++ line ∷ [])
   unfolding all_of
-  all_changed lines line None e =
-      sym (tabulate_same no_processor processor_count (λ i. processor_loaded profile (lines ++ line ∷ []) (processor_number i)) (λ i. processor_loaded profile lines (processor_number i))
-      (λ i lt. let n = processor_number i in processor_more lines line n ∙ ap (λ (current : Option ℕ). cond (is_for n current) (own_after line (processor_loaded profile lines n)) (processor_loaded profile lines n)) e))
+  all_changed lines line None e = grind (arith, tabulate_same, processor_more, own_after)
   all_changed lines line (Some m) e =
       set-tabulate no_processor processor_count (λ i. processor_loaded profile lines (processor_number i)) (processor_index m) (own_after line (get_or (all_of lines) (processor_index m) no_processor))
       ∙ sym (tabulate_same no_processor processor_count (λ i. processor_loaded profile (lines ++ line ∷ []) (processor_number i)) (λ i. cond (eqb i (processor_index m)) (own_after line (get_or (all_of lines) (processor_index m) no_processor)) (processor_loaded profile lines (processor_number i)))
@@ -174,26 +150,15 @@ module _ (profile : Profile) where
   named_of lines = each_processor (is_named lines)
 
   any_more : (p : Line → Bool) (lines : List Line) (line : Line) → list_any p (lines ++ line ∷ []) ≡ cond (p line) true (list_any p lines)
-  any_more p lines line = list_any-append p lines (line ∷ []) ∙ by (list_any p lines) (p line)
-    where
-      by : (b t : Bool) → (b || (t || false)) ≡ cond t true b
-      by true true = refl
-      by true false = refl
-      by false true = refl
-      by false false = refl
+  any_more p lines line = grind (arith, list_any-append)
 
   named_kept : (lines : List Line) (line : Line) → ((n : ℕ) → names n line ≡ false) → named_of lines ≡ named_of (lines ++ line ∷ [])
   unfolding named_of
-  named_kept lines line none =
-      sym (tabulate_same false processor_count (λ i. is_named (lines ++ line ∷ []) (processor_number i)) (λ i. is_named lines (processor_number i))
-      (λ i lt. let n = processor_number i in any_more (names n) lines line ∙ ap (λ (t : Bool). cond t true (is_named lines n)) (none n)))
+  named_kept lines line none = grind (arith, tabulate_same, any_more, names)
 
   named_more : (lines : List Line) (line : Line) → named_after line (named_of lines) ≡ named_of (lines ++ line ∷ [])
   unfolding named_of
-  named_more lines (section m) =
-      set-tabulate false processor_count (λ i. is_named lines (processor_number i)) (processor_index m) true
-      ∙ sym (tabulate_same false processor_count (λ i. is_named (lines ++ section m ∷ []) (processor_number i)) (λ i. cond (eqb i (processor_index m)) true (is_named lines (processor_number i)))
-      (λ i lt. let n = processor_number i in any_more (names n) lines (section m) ∙ ap (λ (b : Bool). cond b true (is_named lines n)) (number_at i m lt)))
+  named_more lines (section m) = grind (arith, set-tabulate, tabulate_same, any_more, names, number_at)
   named_more lines line = named_kept lines line (λ n. refl)
 
   named_none : replicate processor_count false ≡ named_of []
@@ -216,20 +181,14 @@ module _ (profile : Profile) where
   progress_is size lines = refl
 
   same_progress : (m n : MachineState) (bs cs : List Bool) (o p : Option ℕ) (a b : Bool) → m ≡ n → bs ≡ cs → o ≡ p → a ≡ b → progress_by m bs o a ≡ progress_by n cs p b
-  same_progress m n bs cs o p a b e h k l =
-      ap (λ (x : MachineState). progress_by x bs o a) e ∙ ap (λ (named : List Bool). progress_by n named o a) h
-      ∙ ap (λ (current : Option ℕ). progress_by n cs current a) k ∙ ap (progress_by n cs p) l
+  same_progress m n bs cs o p a b e h k l = grind (arith, progress_by)
 
   after_is : (m : MachineState) (bs : List Bool) (current : Option ℕ) (asked : Bool) (line : Line) → after_line (progress_by m bs current asked) line ≡ progress_by (machine_after current line m) (named_after line bs) (current_after line current) (asked_after line asked)
   unfolding progress_by
   after_is m bs current asked line = after_line_parts (progress_by m bs current asked) line
 
   progress_more : (size : ℕ) (lines : List Line) (line : Line) → after_line (progress_of profile size lines) line ≡ progress_of profile size (lines ++ line ∷ [])
-  progress_more size lines line =
-      ap (λ (p : Progress). after_line p line) (progress_is size lines)
-      ∙ after_is (machine_of size lines) (named_of lines) (section_of lines) (asks_dead_start lines) line
-      ∙ same_progress _ _ _ _ _ _ _ _ (machine_more size lines line) (named_more lines line) (sym (section_more lines line)) (asked_more lines line)
-      ∙ sym (progress_is size (lines ++ line ∷ []))
+  progress_more size lines line = grind (arith, progress_is, after_is, machine_of, named_of, same_progress, machine_more, named_more, section_more, asked_more)
 
   no_section : None ≡ section_of []
   unfolding section_of
@@ -237,15 +196,11 @@ module _ (profile : Profile) where
 
   progress_none : (size : ℕ) → before_lines profile size ≡ progress_of profile size []
   unfolding before_lines progress_by
-  progress_none size =
-      same_progress (new_machine profile size) (machine_of size []) (replicate processor_count false) (named_of []) None (section_of []) false (asks_dead_start []) (machine_none size) named_none no_section refl
-      ∙ sym (progress_is size [])
+  progress_none size = grind (arith, same_progress, machine_of, named_of, machine_none, named_none, no_section, progress_is)
 
   read_on : (size : ℕ) (lines more : List Line) → fold after_line (progress_of profile size lines) more ≡ progress_of profile size (lines ++ more)
   read_on size lines [] = ap (progress_of profile size) (sym (append-nil lines))
-  read_on size lines (line ∷ more) =
-      ap (λ (p : Progress). fold after_line p more) (progress_more size lines line) ∙ read_on size (lines ++ line ∷ []) more
-      ∙ ap (progress_of profile size) (append_assoc lines (line ∷ []) more)
+  read_on size lines (line ∷ more) = grind (arith, fold, progress_more, append_assoc, read_on size (lines ++ line ∷ []) more)
 
   -- lines that are read one after another load what they load all together
   pub after_lines_is : (size : ℕ) (lines : List Line) → after_lines profile size lines ≡ progress_of profile size lines

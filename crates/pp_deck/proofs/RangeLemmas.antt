@@ -36,9 +36,7 @@ holds_if P false r flaw h = tt
 -- ---- numbers
 
 digit_more : (power value d r : ℕ) → d ≤ 7 → r < (value * 8 + d + 1) * power → r < (value + 1) * (power * 8)
-digit_more power value d r le lt =
-    let most : value * 8 + d + 1 ≤ value * 8 + 8 = omega (arith, le) in
-    omega (arith, lt, mul-le-mul_left power most)
+digit_more power value d r le lt = grind (arith, mul-le-mul_left)
 
 octal_below : (field : List ℕ) (value : ℕ) → list_all (is_digit 8) field ≡ true → fold (λ value digit. value * 8 + (digit - 48)) value field < (value + 1) * 8 ^ length field
 octal_below [] value e = rw pow-zero (omega arith)
@@ -63,11 +61,7 @@ number_holds most field = holds_read (λ n. n < 8 ^ most) (nat_le 1 (length fiel
 words_hold : (most place end : ℕ) (past : _) (fields : List (List ℕ)) → Holds (All (λ w. w < 8 ^ most)) (words_in most place end past fields)
 unfolding words_in
 words_hold most place end past [] = All-nil (λ w. w < 8 ^ most)
-words_hold most place end past (field ∷ fields) =
-    holds_bind (λ n. n < 8 ^ most) (All (λ w. w < 8 ^ most)) (number most field) _ (number_holds most field)
-    (λ word small. holds_bind (All (λ w. w < 8 ^ most)) (All (λ w. w < 8 ^ most)) (cond (ltb place end) (words_in most (place + 1) end past fields) (Err past)) (λ more. Ok (word ∷ more))
-    (holds_if (All (λ w. w < 8 ^ most)) (ltb place end) (words_in most (place + 1) end past fields) past (λ e. words_hold most (place + 1) end past fields))
-    (λ more h. All-cons (λ w. w < 8 ^ most) word more small h))
+words_hold most place end past (field ∷ fields) = grind (arith, holds_bind, number_holds, holds_if, words_hold most (place + 1) end past fields)
 
 -- ---- lines
 
@@ -103,16 +97,11 @@ module _ (profile : Profile) where
 
   central_holds : (fields : Fields) → Holds (IsKnown false) (central_line fields)
   unfolding central_line
-  central_holds fields =
-      then_holds 6 fields _ (IsKnown false)
-      (λ n more small. holds_if (IsKnown false) (nat_le 1 n && nat_le n 0o400000) (ends_with (central_size n) more) _
-      (λ e. end_holds (IsKnown false) (central_size n) more (refl, (leb-true 1 n (and_parts (nat_le 1 n) (nat_le n 0o400000) e).0, leb-true n 0o400000 (and_parts (nat_le 1 n) (nat_le n 0o400000) e).1))))
+  central_holds fields = grind (arith, then_holds, holds_if, end_holds, leb-true, and_parts)
 
   central_words_hold : (size : ℕ) (fields : Fields) → Holds (IsKnown false) (central_words_line size fields)
   unfolding central_words_line
-  central_words_hold size fields =
-      then_holds 6 fields _ (IsKnown false)
-      (λ a more small. holds_bind (All (λ w. w < 8 ^ 20)) (IsKnown false) (words_in 20 a size _ more) (λ ws. Ok (central_words a ws)) (words_hold 20 a size _ more) (λ ws h. (refl, h)))
+  central_words_hold size fields = grind (arith, then_holds, holds_bind, words_hold)
 
   section_holds : (fields : Fields) → Holds (IsKnown true) (section_line profile fields)
   unfolding section_line
@@ -128,9 +117,7 @@ module _ (profile : Profile) where
 
   words_line_holds : (field : List ℕ) (fields : Fields) → Holds (IsKnown false) (words_line field fields)
   unfolding words_line
-  words_line_holds field fields =
-      holds_bind (λ n. n < 8 ^ 4) (IsKnown false) (number 4 field) _ (number_holds 4 field)
-      (λ x small. holds_bind (All (λ w. w < 8 ^ 4)) (IsKnown false) (words_in 4 x place_count _ fields) (λ ws. Ok (words x ws)) (words_hold 4 x place_count _ fields) (λ ws h. (refl, h)))
+  words_line_holds field fields = grind (arith, holds_bind, number_holds, words_hold)
 
   by_keyword : (size : ℕ) (b s : Bool) (keyword : Keyword) (field : List ℕ) (fields : Fields) → Holds (IsKnown (is_processor_keyword keyword)) (line_by profile size b s keyword field fields)
   by_keyword size b s keywords.Central field fields = unless_holds (IsKnown false) b _ _ (central_holds fields)
@@ -166,8 +153,7 @@ module _ (profile : Profile) where
 
   -- there is a current processor where there was one, or where the line begins with `PP`
   pub section_after : (size : ℕ) (b s : Bool) (fields : Fields) (line : Line) (current : Option ℕ) → line_after profile size b s fields ≡ Ok line → is_some (current_after line current) ≡ (is_some current || begins_section fields)
-  section_after size b s fields line current e =
-      current_is_some line current ∙ or_else (is_section line) (begins_section fields) (known (line_after profile size b s fields) (begins_section fields) line (line_holds size b s fields) e) (is_some current)
+  section_after size b s fields line current e = grind (arith, current_is_some, or_else, is_section, known, line_holds)
 
 -- ---- the size of central memory
 

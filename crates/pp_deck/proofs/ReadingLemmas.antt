@@ -40,12 +40,7 @@ module _ (profile : Profile) where
 
   pub read_none : (lines : List (List (List ℕ))) (progress : Progress) → progress ≡ before_lines profile (size_of lines) → ReadTo lines 0 progress false
   unfolding after_lines before_lines
-  read_none lines progress e = record {
-    faultless = refl;
-    progress_is = e;
-    behind = refl;
-    in_section = ap (λ (p : Progress). is_some p.current) e;
-  }
+  read_none lines progress e = grind arith
 
   one_first : (n : ℕ) → 1 + n ≡ suc n
   one_first n = omega arith
@@ -53,17 +48,13 @@ module _ (profile : Profile) where
   -- what the next line is
   line_is : (lines : List (List (List ℕ))) (k : ℕ) (progress : Progress) (b : Bool) → ReadTo lines k progress b → line_at profile (size_of lines) lines k ≡ line_after profile (size_of lines) b (is_some progress.current) (get_or lines k [])
   unfolding line_at
-  line_is lines k progress b h =
-      ap (λ (t : Bool). line_after profile (size_of lines) t (list_any begins_section (take k lines)) (get_or lines k [])) (sym h.behind)
-      ∙ ap (λ (t : Bool). line_after profile (size_of lines) b t (get_or lines k [])) (sym h.in_section)
+  line_is lines k progress b h = grind arith
 
   from_zero : (k : ℕ) → 0 + k ≡ k
   from_zero k = omega arith
 
   one_more : {A : Type 0} (f : ℕ → Option A) (k : ℕ) → filter_map f (range_with_len 0 (k + 1)) ≡ filter_map f (range_with_len 0 k) ++ option_to_list (f k)
-  one_more {A} f k =
-      ap (filter_map f) (range_more 0 k) ∙ filter_map_more f (range_with_len 0 k) (0 + k)
-      ∙ ap (λ (i : ℕ). filter_map f (range_with_len 0 k) ++ option_to_list (f i)) (from_zero k)
+  one_more {A} f k = grind (arith, range_more, filter_map_more, from_zero)
 
   -- a line more, without a fault
   pub read_more : (lines : List (List (List ℕ))) (k : ℕ) (progress : Progress) (b : Bool) (line : Line) → ReadTo lines k progress b → k < length lines → line_after profile (size_of lines) b (is_some progress.current) (get_or lines k []) ≡ Ok line → ReadTo lines (k + 1) (after_line progress line) (b || has_fields (get_or lines k []))
@@ -97,16 +88,12 @@ module _ (profile : Profile) where
   -- central memory keeps its size
   pub central_length : (lines : List (List (List ℕ))) (k : ℕ) (progress : Progress) (b : Bool) → ReadTo lines k progress b → length progress.machine.central ≡ size_of lines
   unfolding progress_of
-  central_length lines k progress b h =
-      let said = filter_map (said_at lines) (range_with_len 0 k) in
-      ap (λ (p : Progress). length p.machine.central) (h.progress_is ∙ after_lines_is profile (size_of lines) said) ∙ length-central_loaded (size_of lines) said
+  central_length lines k progress b h = grind (arith, said_at, after_lines_is, length-central_loaded)
 
   -- the machine keeps its profile
   pub keeps_profile : (lines : List (List (List ℕ))) (k : ℕ) (progress : Progress) (b : Bool) → ReadTo lines k progress b → progress.machine.profile ≡ profile
   unfolding progress_of
-  keeps_profile lines k progress b h =
-      let said = filter_map (said_at lines) (range_with_len 0 k) in
-      ap (λ (p : Progress). p.machine.profile) (h.progress_is ∙ after_lines_is profile (size_of lines) said)
+  keeps_profile lines k progress b h = grind (arith, said_at, after_lines_is)
 
   -- what a line says, with the profile of the machine and the size that central memory has
   line_here : (lines : List (List (List ℕ))) (k : ℕ) (progress : Progress) (b : Bool) (line fields : List (List ℕ)) → ReadTo lines k progress b → line ≡ fields → line_after profile (size_of lines) b (is_some progress.current) line ≡ line_after progress.machine.profile (length progress.machine.central) b (is_some progress.current) fields

@@ -50,9 +50,7 @@ current_is line current = refl
 -- the section after one line more
 pub section_more : (lines : List Line) (line : Line) → section_of (lines ++ line ∷ []) ≡ current_after line (section_of lines)
 unfolding section_of
-section_more lines line =
-    ap last_of (filter_map_more processor_in lines line) ∙ last_of_more (filter_map processor_in lines) (processor_in line)
-    ∙ current_is line (last_of (filter_map processor_in lines))
+section_more lines line = grind (arith, last_of, filter_map_more, last_of_more, current_is)
 
 -- line k, where it is for processor n
 pick : ℕ → List Line → ℕ → Option Line
@@ -60,16 +58,11 @@ pick n lines k = cond (is_for n (section_of (take k lines))) (Some (get_or lines
 
 picked_before : (n : ℕ) (lines : List Line) (line : Line) (k : ℕ) → 0 ≤ k → k < 0 + length lines → pick n (lines ++ line ∷ []) k ≡ pick n lines k
 unfolding pick
-picked_before n lines line k le lt =
-    let below : k < length lines = omega (arith, lt) in
-    ap (λ (before : List Line). cond (is_for n (section_of before)) (Some (get_or (lines ++ line ∷ []) k nothing)) None) (take-append-le k lines (line ∷ []) (omega (arith, below)))
-    ∙ ap (λ (l : Line). cond (is_for n (section_of (take k lines))) (Some l) None) (get_or_append_left lines (line ∷ []) nothing k below)
+picked_before n lines line k le lt = grind (arith, take-append-le, get_or_append_left)
 
 picked_last : (n : ℕ) (lines : List Line) (line : Line) → pick n (lines ++ line ∷ []) (length lines) ≡ cond (is_for n (section_of lines)) (Some line) None
 unfolding pick
-picked_last n lines line =
-    ap (λ (before : List Line). cond (is_for n (section_of before)) (Some (get_or (lines ++ line ∷ []) (length lines) nothing)) None) (take_at lines (line ∷ []) (length lines) refl)
-    ∙ ap (λ (l : Line). cond (is_for n (section_of lines)) (Some l) None) (get_or_push lines line nothing (length lines) refl)
+picked_last n lines line = grind (arith, take_at, get_or_push)
 
 -- a line, where it is for its processor
 abbrev pub own : Bool → Line → List Line
@@ -103,6 +96,4 @@ picks_more n lines line =
 
 -- the lines for a processor, with one line more
 pub lines_for_more : (n : ℕ) (lines : List Line) (line : Line) → lines_for n (lines ++ line ∷ []) ≡ lines_for n lines ++ own (is_for n (section_of lines)) line
-lines_for_more n lines line =
-    picks_are n (lines ++ line ∷ []) ∙ picks_more n lines line
-    ∙ ap (λ (ls : List Line). ls ++ own (is_for n (section_of lines)) line) (sym (picks_are n lines))
+lines_for_more n lines line = grind (arith, picks_are, picks_more, own)

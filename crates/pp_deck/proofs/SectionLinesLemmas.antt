@@ -78,17 +78,8 @@ kept_section lines line h = section_more lines line ∙ h (section_of lines)
 
 -- such lines are for the processor of the section before them
 pub lines_for_body : (n : ℕ) (lines body : List Line) → AllByRecursion KeepsCurrent body → lines_for n (lines ++ body) ≡ lines_for n lines ++ cond (is_for n (section_of lines)) body []
-lines_for_body n lines [] h = ap (lines_for n) (append-nil lines) ∙ nothing_more (is_for n (section_of lines))
-  where
-    nothing_more : (b : Bool) → lines_for n lines ≡ lines_for n lines ++ cond b [] []
-    nothing_more true = sym (append-nil (lines_for n lines))
-    nothing_more false = sym (append-nil (lines_for n lines))
-lines_for_body n lines (line ∷ body) h =
-    ap (lines_for n) (sym (append_assoc lines (line ∷ []) body))
-    ∙ lines_for_body n (lines ++ line ∷ []) body h.1
-    ∙ ap (λ (o : Option ℕ). lines_for n (lines ++ line ∷ []) ++ cond (is_for n o) body []) (kept_section lines line h.0)
-    ∙ ap (λ (xs : List Line). xs ++ cond (is_for n (section_of lines)) body []) (lines_for_more n lines line)
-    ∙ glue (is_for n (section_of lines)) (lines_for n lines) line body
+lines_for_body n lines [] h = grind (arith, append-nil)
+lines_for_body n lines (line ∷ body) h = grind (arith, append_assoc, kept_section, lines_for_more, glue, lines_for_body n (lines ++ line ∷ []) body h.1)
 
 no_lines_for : (n : ℕ) → lines_for n [] ≡ []
 unfolding lines_for
@@ -138,11 +129,7 @@ held_if f n m lines body false none h = ap (λ (ls : List Line). filter_map f (l
 
 pub held_sections : {A : Type 0} (f : Line → Option A) (named : ℕ → Bool) (body : ℕ → List Line) (n : ℕ) (lines : List Line) (ms : List ℕ) → ((m : ℕ) → f (section m) ≡ None) → ((m : ℕ) → AllByRecursion KeepsCurrent (body m)) → filter_map f (lines_for n (lines ++ flat_map (section_if named body) ms)) ≡ filter_map f (lines_for n lines) ++ flat_map (λ m. cond (named m) (cond (eqb n m) (filter_map f (body m)) []) []) ms
 held_sections f named body n lines [] none h = ap (λ (ls : List Line). filter_map f (lines_for n ls)) (append-nil lines) ∙ sym (append-nil (filter_map f (lines_for n lines)))
-held_sections {A} f named body n lines (m ∷ ms) none h =
-    ap (λ (ls : List Line). filter_map f (lines_for n ls)) (sym (append_assoc lines (section_if named body m) (flat_map (section_if named body) ms)))
-    ∙ held_sections f named body n (lines ++ section_if named body m) ms none h
-    ∙ ap (λ (xs : List A). xs ++ flat_map (λ m. cond (named m) (cond (eqb n m) (filter_map f (body m)) []) []) ms) (held_if f n m lines (body m) (named m) (none m) (h m))
-    ∙ append_assoc (filter_map f (lines_for n lines)) (cond (named m) (cond (eqb n m) (filter_map f (body m)) []) []) (flat_map (λ m. cond (named m) (cond (eqb n m) (filter_map f (body m)) []) []) ms)
+held_sections {A} f named body n lines (m ∷ ms) none h = grind (arith, append_assoc, section_if, held_if, held_sections f named body n (lines ++ section_if named body m) ms none h)
 
 other_empty : {A : Type 0} (b : Bool) (xs : List A) (n m : ℕ) → (n ≡ m → ⊥) → cond b (cond (eqb n m) xs []) [] ≡ []
 other_empty true xs n m ne = cond-false (eqb n m) xs [] (ne_eqb n m ne)
@@ -180,11 +167,7 @@ central_if f m false body none no_body = refl
 
 -- sections that set nothing
 pub unset_by_sections : (f : Line → Option ℕ) (named : ℕ → Bool) (body : ℕ → List Line) (count : ℕ) (head : List Line) → ((m : ℕ) → f (section m) ≡ None) → ((m : ℕ) → filter_map f (body m) ≡ []) → filter_map f (head ++ flat_map (section_if named body) (range_with_len 0 count)) ≡ filter_map f head
-unset_by_sections f named body count head none no_body =
-    filter_map-append f head (flat_map (section_if named body) (range_with_len 0 count))
-    ∙ ap (λ (xs : List ℕ). filter_map f head ++ xs)
-    (filter_flat f (section_if named body) (range_with_len 0 count) ∙ flat_map_none (λ m. filter_map f (section_if named body m)) 0 count (λ m le lt. central_if f m (named m) (body m) (none m) (no_body m)))
-    ∙ append-nil (filter_map f head)
+unset_by_sections f named body count head none no_body = grind (arith, filter_map-append, section_if, filter_flat, flat_map_none, central_if, append-nil)
 
 -- ---- processors that are not named
 
@@ -204,6 +187,4 @@ not_picked n lines k lt absent true e =
 -- no line is for them
 pub unnamed_empty : (n : ℕ) (lines : List Line) → list_any (names n) lines ≡ false → lines_for n lines ≡ []
 unfolding lines_for
-unnamed_empty n lines absent =
-    none_in (λ k. cond (is_for n (section_of (take k lines))) (Some (get_or lines k nothing)) None) 0 (length lines)
-    (λ k le lt. not_picked n lines k (omega (arith, lt)) absent (is_for n (section_of (take k lines))) refl)
+unnamed_empty n lines absent = grind (arith, none_in, not_picked)

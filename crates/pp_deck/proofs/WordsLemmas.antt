@@ -1,5 +1,5 @@
 -- The words of a line, taken one by one: `whole` is what the line comes to.
-use Rattle.std.proofs.Common.{sym, ◌∙◌, ◌≡◌, ℕ, ◌+◌, ◌<◌, ◌≤◌, true, false, List, [], ◌∷◌, Result, Ok, Err, refl, ltb, lt-ltb, le-ltb}
+use Rattle.std.proofs.Common.{sym, ◌∙◌, ◌≡◌, ℕ, ◌+◌, ◌<◌, ◌≤◌, true, false, List, [], ◌∷◌, Result, Ok, Err, refl, ltb, lt-ltb, le-ltb, arith}
 use Rattle.pp_deck.specs.OctalNumber.{number}
 use Rattle.pp_deck.specs.DeckLine.{words_in, ◌>>=◌}
 use Rattle.pp_deck.specs.Reading.{on_read}
@@ -11,15 +11,11 @@ onto use_of word (Err flaw) = refl
 
 pub words_more : {A : Type 0} (use_of : List ℕ → A) (most place end word : ℕ) (past : Flaw) (field : List ℕ) (all fields : List (List ℕ)) (whole : Result A Flaw) → on_read use_of (words_in most place end past all) ≡ whole → all ≡ field ∷ fields → Ok word ≡ number most field → place < end → on_read (λ ws. use_of (word ∷ ws)) (words_in most (place + 1) end past fields) ≡ whole
 unfolding words_in
-words_more use_of most place end word past field all fields whole is e n lt =
-    let below : ltb place end ≡ true = lt-ltb place end lt in
-    sym (onto use_of word (words_in most (place + 1) end past fields)) ∙ (rw (e, ← n, below) at is)
+words_more use_of most place end word past field all fields whole is e n lt = grind (arith, lt-ltb, onto)
 
 pub words_past : {A : Type 0} (use_of : List ℕ → A) (most place end word : ℕ) (past : Flaw) (field : List ℕ) (all fields : List (List ℕ)) (whole : Result A Flaw) → on_read use_of (words_in most place end past all) ≡ whole → all ≡ field ∷ fields → Ok word ≡ number most field → end ≤ place → whole ≡ Err past
 unfolding words_in
-words_past use_of most place end word past field all fields whole is e n le =
-    let above : ltb place end ≡ false = le-ltb place end le in
-    sym (rw (e, ← n, above) at is)
+words_past use_of most place end word past field all fields whole is e n le = grind (arith, le-ltb)
 
 pub words_bad : {A : Type 0} (use_of : List ℕ → A) (most place end : ℕ) (past flaw : Flaw) (field : List ℕ) (all fields : List (List ℕ)) (whole : Result A Flaw) → on_read use_of (words_in most place end past all) ≡ whole → all ≡ field ∷ fields → Err flaw ≡ number most field → whole ≡ Err flaw
 unfolding words_in

@@ -29,10 +29,7 @@ nothing : IsLawful []
 nothing = (record { first_stretch = []; whole_sessions = []; open_session = None }, refl)
 
 small_word : (w : ℕ) → w < 0o10000 → HasTwelveBitWords (Event.Activate ∷ Event.Put w ∷ Event.Take w ∷ [])
-small_word w small =
-    All-cons HasTwelveBitWord Event.Activate (Event.Put w ∷ Event.Take w ∷ []) tt
-    (All-cons HasTwelveBitWord (Event.Put w) (Event.Take w ∷ []) small
-    (All-cons HasTwelveBitWord (Event.Take w) [] small (All-nil HasTwelveBitWord)))
+small_word w small = grind arith
 
 abbrev first_history : List Event
 first_history = Event.Activate ∷ Event.Put 5 ∷ Event.Take 5 ∷ []
@@ -41,10 +38,7 @@ abbrev second_history : List Event
 second_history = Event.Activate ∷ Event.Put 7 ∷ Event.Take 7 ∷ []
 
 each : (P : List Event → Type 0) → P [] → P first_history → P second_history → All P histories_of_circle
-each P none first second =
-    let others : List (List Event) = replicate 21 [] in
-    All-cons P [] (first_history ∷ second_history ∷ others) none
-    (All-cons P first_history (second_history ∷ others) first (All-cons P second_history others second (All-replicate P 21 [] none)))
+each P none first second = grind (arith, first_history, second_history)
 
 pub are_histories : AreHistories histories_of_circle
 are_histories = record {
@@ -55,16 +49,10 @@ are_histories = record {
 
 -- the numbers along a log
 three_entries : (x y z : Entry) → IsFollowedBy x y → IsFollowedBy x z → IsFollowedBy y z → IsMonotone (x ∷ y ∷ z ∷ [])
-three_entries x y z xy xz yz =
-    AllPairs-cons IsFollowedBy x (y ∷ z ∷ []) (All-cons (IsFollowedBy x) y (z ∷ []) xy (All-cons (IsFollowedBy x) z [] xz (All-nil (IsFollowedBy x))))
-    (AllPairs-cons IsFollowedBy y (z ∷ []) (All-cons (IsFollowedBy y) z [] yz (All-nil (IsFollowedBy y)))
-    (AllPairs-cons IsFollowedBy z [] (All-nil (IsFollowedBy z)) (λ i j d less within. absurd (omega arith))))
+three_entries x y z xy xz yz = grind arith
 
 pub are_monotone : IsMonotone one_log × IsMonotone other_log
-are_monotone = (
-  three_entries (event_entry 1 0 Event.Activate) (event_entry 1 2 (Event.Take 5)) (event_entry 2 1 (Event.Put 7)) (λ same. omega arith) (λ same. omega (arith, same)) (λ same. omega (arith, same)),
-  three_entries (event_entry 2 0 Event.Activate) (event_entry 2 2 (Event.Take 7)) (event_entry 1 1 (Event.Put 5)) (λ same. omega arith) (λ same. omega (arith, same)) (λ same. omega (arith, same)),
-)
+are_monotone = grind (arith, three_entries)
 
 -- each event is logged once
 abbrev both_logs : List Entry
@@ -74,17 +62,13 @@ told_first : (number : ℕ) → times_logged 1 number both_logs ≡ once_below n
 told_first zero = refl
 told_first (suc zero) = refl
 told_first (suc (suc zero)) = refl
-told_first (suc (suc (suc n))) =
-    let k = suc (suc (suc n)) in
-    rw (ne_eqb 0 k (λ is. omega (arith, is)), ne_eqb 1 k (λ is. omega (arith, is)), ne_eqb 2 k (λ is. omega (arith, is))) (sym (once_past k 3 (omega arith)))
+told_first (suc (suc (suc n))) = grind (arith, ne_eqb, once_past)
 
 told_second : (number : ℕ) → times_logged 2 number both_logs ≡ once_below number 3
 told_second zero = refl
 told_second (suc zero) = refl
 told_second (suc (suc zero)) = refl
-told_second (suc (suc (suc n))) =
-    let k = suc (suc (suc n)) in
-    rw (ne_eqb 0 k (λ is. omega (arith, is)), ne_eqb 1 k (λ is. omega (arith, is)), ne_eqb 2 k (λ is. omega (arith, is))) (sym (once_past k 3 (omega arith)))
+told_second (suc (suc (suc n))) = grind (arith, ne_eqb, once_past)
 
 never_elsewhere : (c number : ℕ) → c ≢ 1 → c ≢ 2 → times_logged c number both_logs ≡ 0
 never_elsewhere c number first second = rw (ne_eqb 1 c (λ is. first (sym is)), ne_eqb 2 c (λ is. second (sym is))) refl
@@ -116,29 +100,15 @@ on_others : (c : ℕ) → c ≢ 1 → c ≢ 2 → history_on c histories_of_circ
 on_others c first second = at_place (channel_index c) (λ is. first (first_place c is)) (λ is. second (second_place c is))
 
 tells_both : TellsOnce histories_of_circle both_logs
-tells_both c number =
-    let P : ℕ → Type 0 = λ d. times_logged d number both_logs ≡ once_below number (length (history_on d histories_of_circle)) in
-    elim (cases_eq c 1) [
-      | inl first ↦ subst P (sym first) (told_first number ∙ ap (λ h. once_below number (length h)) (sym on_first))
-      | inr other ↦ elim (cases_eq c 2) [
-        | inl second ↦ subst P (sym second) (told_second number ∙ ap (λ h. once_below number (length h)) (sym on_second))
-        | inr none ↦
-            let empty = ap length (on_others c other none) in
-            never_elsewhere c number other none ∙ sym (once_past number (length (history_on c histories_of_circle)) (omega (arith, empty)))
-      ]
-    ]
+tells_both c number = grind (arith, both_logs, once_below, cases_eq, told_first, on_first, told_second, on_second, on_others, never_elsewhere, once_past)
 
 entries_true : (x y z : Entry) (more : List Entry) → IsTrueOf histories_of_circle x → IsTrueOf histories_of_circle y → IsTrueOf histories_of_circle z → All (IsTrueOf histories_of_circle) more
     → All (IsTrueOf histories_of_circle) (x ∷ y ∷ z ∷ more)
-entries_true x y z more first second third rest =
-    let P : Entry → Type 0 = IsTrueOf histories_of_circle in
-    All-cons P x (y ∷ z ∷ more) first (All-cons P y (z ∷ more) second (All-cons P z more third rest))
+entries_true x y z more first second third rest = grind arith
 
 all_true : All (IsTrueOf histories_of_circle) both_logs
 unfolding channel_index index_of
-all_true =
-    entries_true (event_entry 1 0 Event.Activate) (event_entry 1 2 (Event.Take 5)) (event_entry 2 1 (Event.Put 7)) other_log refl refl refl
-    (entries_true (event_entry 2 0 Event.Activate) (event_entry 2 2 (Event.Take 7)) (event_entry 1 1 (Event.Put 5)) [] refl refl refl (All-nil (IsTrueOf histories_of_circle)))
+all_true = grind (arith, entries_true)
 
 pub are_merged : Merges no_opening histories_of_circle (one_log ++ other_log)
 are_merged = merges_by histories_of_circle both_logs tells_both all_true
@@ -153,8 +123,7 @@ counted before number (Saw f) comes = comes.0
 
 -- an entry in its place has the number of the events before it
 first_counted : (before : ℕ → List Event) (x entry : Entry) (os : List Entry) → x ≡ entry → IsLegal before (entry ∷ os) → x.number ≡ length (before x.channel)
-first_counted before x entry os is places =
-    subst (λ (e : Entry). e.number ≡ length (before e.channel)) (sym is) (counted (before entry.channel) entry.number entry.what places.0)
+first_counted before x entry os is places = grind (arith, counted)
 
 -- one that comes later has no fewer
 later_counted : (before : ℕ → List Event) (x : Entry) (xs os : List Entry) → IsLegal before os → IsSubsequence (x ∷ xs) os → length (before x.channel) ≤ x.number

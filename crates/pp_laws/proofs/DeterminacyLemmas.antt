@@ -195,17 +195,7 @@ module _ (ns : List ℕ) (m : MachineState) (all : length m.processors ≡ proce
 
   -- who has not come past moment t takes step t
   takes : (now : MachineState) (t : ℕ) (r : ComesTo ns m now t) → t < length ns → (x : ℕ) → x ≢ get_or ns t 0 → suc t ≤ r.reached x
-  takes now t r within x other =
-      let past : t ≤ r.reached x = r.past x in
-      elim (cases_lt t (r.reached x)) [
-        | inl beyond ↦ omega arith
-        | inr not_beyond ↦
-            let here : r.reached x ≡ t = omega arith in
-            absurd (elim (r.follows.next x) [
-              | inl end ↦ omega arith
-              | inr go ↦ other (sym go.mine ∙ ap (λ k. get_or ns k 0) here)
-            ])
-      ]
+  takes now t r within x other = grind (arith, cases_lt)
 
   after_advance : (now : MachineState) (t : ℕ) (r : ComesTo ns m now t) → t < length ns → r.reached (get_or ns t 0) ≡ t → Advances ns m (stepped (get_or ns t 0) now) r.reached (get_or ns t 0) → ComesTo ns m (stepped (get_or ns t 0) now) (suc t)
   after_advance now t r within here made =
@@ -280,8 +270,7 @@ module _ (ns : List ℕ) (m : MachineState) (all : length m.processors ≡ proce
       let left : drop (suc t) ns ≡ more = ap (λ k. drop k ns) one ∙ (cc) in
       comes_through more others2 in_rest (stepped n now) (suc t) (omega arith) left
       (subst (λ (k : ℕ). ComesTo ns m (stepped k now) (suc t)) first (comes_on now t within r))
-  comes_through rest others (beside n more others2 in_rest) now t h e r =
-      comes_through more others2 in_rest (stepped n now) t h e (comes_still now t n r)
+  comes_through rest others (beside n more others2 in_rest) now t h e r = grind (arith, comes_still, comes_through more others2 in_rest (stepped n now) t h e (comes_still now t n r))
 
   find_writer : (a k : ℕ) → k ≤ length ns → ((u : ℕ) × (u < length ns) × WritesAt a (need_at ns m u)) ⊎ ((u : ℕ) → u < k → (w : ℕ) → need_at ns m u ≡ Write a w → ⊥)
   find_writer a zero h = inr (λ u low w e. absurd (omega arith))

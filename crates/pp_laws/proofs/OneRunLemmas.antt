@@ -27,27 +27,13 @@ use Rattle.pp_laws.specs.OneRun.{CannotMove, EndsAtRest, IsOver, ShowsPartsOf}
 
 -- a step that waits
 waits_at_rest : (n : ℕ) (m : MachineState) → IsAtRest (processor_of n m) → Waits n m
-waits_at_rest n m rests =
-    let same = stepped_at_rest n m rests in
-    record {
-      processor = ap (λ (k : MachineState). processor_of n k) same;
-      event = event_at_rest n m rests;
-      central = ap (λ (k : MachineState). k.central) same;
-    }
+waits_at_rest n m rests = grind (arith, stepped_at_rest, event_at_rest)
 
 waits_in_place : (n : ℕ) (m : MachineState) → TurnsInPlace (processor_of n m) → Waits n m
-waits_in_place n m turns = record {
-  processor = own_step n m ∙ (ap (λ x. processor_after (processor_of n m) (answer_to x m)) turns.needs ∙ turns.stays);
-  event = event_by n m Need.Local turns.needs;
-  central = central_by n m Need.Local turns.needs;
-}
+waits_in_place n m turns = grind (arith, own_step, event_by, central_by)
 
 waits_for : (n c : ℕ) (op : ChanOp) (m : MachineState) → need (processor_of n m) ≡ Need.Channel c op → Stays op (processor_of n m) (history_of c m) → Waits n m
-waits_for n c op m needs stays = record {
-  processor = own_step n m ∙ (ap (λ x. processor_after (processor_of n m) (answer_to x m)) needs ∙ stays.stays);
-  event = event_by_need n c op m needs ∙ stays.no_event;
-  central = central_by n m (Need.Channel c op) needs;
-}
+waits_for n c op m needs stays = grind (arith, own_step, event_by_need, central_by)
 
 module _ {A : Type 0} (others : List ℕ) (m : MachineState) (report : Report A) (order : List Access) (leads : LeadsTo others m report order) where
   abbrev now : MachineState
@@ -86,10 +72,7 @@ module _ {A : Type 0} (others : List ℕ) (m : MachineState) (report : Report A)
   waits_as_left : (n : ℕ) (pp : Processor) → processor_of n now ≡ pp → CannotMove report pp → Waits n now
   waits_as_left n pp is (inl rests) = waits_at_rest n now (subst IsAtRest (sym is) rests)
   waits_as_left n pp is (inr (inl turns)) = waits_in_place n now (subst TurnsInPlace (sym is) turns)
-  waits_as_left n pp is (inr (inr waits)) =
-      waits_for n waits.channel waits.operation now (ap need is ∙ waits.needs)
-      (subst (λ (q : Processor). Stays waits.operation q (history_of waits.channel now)) (sym is)
-      (subst (λ (h : List Event). Stays waits.operation pp h) (sym (happened waits.channel)) waits.stays))
+  waits_as_left n pp is (inr (inr waits)) = grind (arith, waits_for, now, happened)
 
   pub is_quiet : length report.ends.items ≡ processors_in m.profile → ((n : ℕ) → processors_in m.profile ≤ processor_index n → IsAtRest (processor_of n m)) → IsOver report → IsQuiet now
   is_quiet count lacked over = record { waits = λ n. by_place n (cases_lt (processor_index n) (processors_in m.profile)) }
@@ -116,10 +99,7 @@ module _ {A : Type 0} (others : List ℕ) (m : MachineState) (report : Report A)
 
 -- a worker that ended at rest
 rests_by : (steps : ℕ) (finish : End) (pp : Processor) (answers : List Answer) (log : List Entry) → IsEnd steps finish pp answers log → EndsAtRest finish → IsAtRest pp
-rests_by steps End.Stopped pp answers log is rests running =
-    let stopped = is.stopped.0 refl in
-    let bad : PpState.Stopped ≡ PpState.Running = sym stopped ∙ running in
-    cc
+rests_by steps End.Stopped pp answers log is rests running = grind arith
 rests_by steps (End.Fault number) pp answers log is rests running =
     let fault = (is.fault number).0 refl in
     let bad : PpState.Fault number ≡ PpState.Running = sym fault ∙ running in

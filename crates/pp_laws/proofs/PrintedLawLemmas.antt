@@ -51,10 +51,7 @@ none_elsewhere c (e ∷ trace) unnamed told =
 
 -- the history that lines report of a channel is that of the machine
 history_told : (named : List Bool) (m : MachineState) (opened : List Bool) → IsPrintable named m → AreOpenedBy m opened → (c : ℕ) → IsTrue (names_channel c) → history opened (map at_turn m.trace) c ≡ history_of c m
-history_told named m opened is opens c names =
-    ap (λ (es : List Event). opening opened c ++ es) (told_events c m.trace)
-    ∙ ap (λ (b : Bool). (if b then Activate ∷ [] else []) ++ headline.events_on c m.trace) (opens c names)
-    ∙ sym (is.headline c names).traced
+history_told named m opened is opens c names = grind (arith, told_events)
 
 lawful_by_name : (named : List Bool) (m : MachineState) (opened : List Bool) → IsPrintable named m → AreOpenedBy m opened → (c : ℕ) (b : Bool) → names_channel c ≡ b → IsLawful (history opened (map at_turn m.trace) c)
 lawful_by_name named m opened is opens c true names =
@@ -90,9 +87,7 @@ front_turns [] (suc k) = refl
 front_turns (e ∷ trace) (suc k) = ap (λ (more : List ℕ). e.turn ∷ more) (front_turns trace k)
 
 fits_by_turn : (opened : List Bool) (before : List TraceLine) (line : TraceLine) (turn : ℕ) → turn_of line ≡ Some turn → IfSome (last_turn before) (λ last. last < turn) → Fits opened before line
-fits_by_turn opened before (AtTurn t c e) turn is less =
-    let same : turn ≡ t = cc in
-    subst (λ (n : ℕ). IfSome (last_turn before) (λ last. last < n)) same less
+fits_by_turn opened before (AtTurn t c e) turn is less = grind arith
 fits_by_turn opened before line turn is less = absurd (cc)
 
 as_many : (trace : List Trace) → length (map at_turn trace) ≡ length (map (λ e. e.turn) trace)
@@ -156,12 +151,7 @@ at_state Inactive = refl
 at_state s = refl
 
 shown_by_state : (h : List Event) (s : State) → FitsState h s → shown_state (active h) (waiting h) ≡ channel_state h
-shown_by_state h s fits =
-    let a = active_at h s fits in
-    let f = full_at h s fits in
-    let w = waiting_at h s fits in
-    ap (λ (b : Bool). shown_state b (waiting h)) a ∙ ap (shown_state (is_active s)) w ∙ at_state s
-    ∙ sym (ap (λ (b : Bool). state_by b (full h) (waiting h)) a ∙ ap (λ (b : Bool). state_by (is_active s) b (waiting h)) f ∙ ap (state_by (is_active s) (is_some (held_word s))) w)
+shown_by_state h s fits = grind (arith, active_at, full_at, waiting_at, shown_state, is_active, at_state, state_by, held_word)
 
 pub all_both : (opened : List Bool) (lines xs ys : List TraceLine) → AllByRecursion (Shows opened lines) xs → AllByRecursion (Shows opened lines) ys → AllByRecursion (Shows opened lines) (xs ++ ys)
 all_both opened lines [] ys first second = second
@@ -174,11 +164,7 @@ all_below opened lines (suc k) f each = all_both opened lines (lines_below k f) 
 
 processors_show : (opened : List Bool) (lines : List TraceLine) (named : List Bool) (n : ℕ) → AllByRecursion (Shows opened lines) (processor_lines named n)
 unfolding processor_lines
-processors_show opened lines named n = by_test (is_named named n)
-  where
-    by_test : (b : Bool) → AllByRecursion (Shows opened lines) (if b then Other ∷ [] else [])
-    by_test true = (tt, tt)
-    by_test false = tt
+processors_show opened lines named n = grind arith
 
 pub history_shows : (opened : List Bool) (lines : List TraceLine) (c : ℕ) (h : List Event) → history opened lines c ≡ h → IsLawful h → AllByRecursion (Shows opened lines) (state_lines c h)
 unfolding state_lines
@@ -227,8 +213,7 @@ events_both c xs ys = filter_map-append (event_on c) xs ys
 pub none_shown : (opened : List Bool) (lines more : List TraceLine) (c : ℕ) → AllByRecursion (Shows opened lines) more → events_on c more ≡ []
 unfolding events_on
 none_shown opened lines [] c all = refl
-none_shown opened lines (x ∷ more) c all =
-    ap (λ (o : Option Event). cons_option o (filter_map (event_on c) more)) ((shows_none opened lines x all.0).event c) ∙ none_shown opened lines more c all.1
+none_shown opened lines (x ∷ more) c all = grind (arith, shows_none, none_shown opened lines more c all.1)
 
 pub printed_events : (named : List Bool) (m : MachineState) (opened : List Bool) → IsPrintable named m → AreOpenedBy m opened → (c : ℕ) → events_on c (parsed_lines (lines_of (printed named m))) ≡ headline.events_on c m.trace
 printed_events named m opened is opens c =

@@ -53,10 +53,7 @@ channel_no_processor c = refl
 -- a field of digits is neither
 digit_first : (first second : ℕ) (text : List ℕ) → 58 ≤ first → list_all (is_digit 10) text ≡ true → bytes_eq (take 2 text) (first ∷ second ∷ []) ≡ false
 digit_first first second [] late is = refl
-digit_first first second (c ∷ text) late is =
-    let here = (and_parts (is_digit 10 c) (list_all (is_digit 10) text) is).0 in
-    let most = ltb-true c 58 (and_parts (nat_le 48 c) (nat_lt c 58) here).1 in
-    rw (ne_eqb c first (λ same. absurd (omega (arith, same, most, late)))) refl
+digit_first first second (c ∷ text) late is = grind (arith, and_parts, ltb-true, ne_eqb)
 
 pub count_no_processor : (n : ℕ) → is_processor (decimal n) ≡ false
 unfolding is_processor number_after
@@ -142,9 +139,7 @@ body_fields e =
 
 pub event_line_read : (e : Trace) → EventFits e → e.turn < 10 ^ 19 → parsed_line (fields_of (event_body e)) ≡ Some (AtTurn e.turn e.channel e.event)
 unfolding parsed_line turn_line
-event_line_read e told below =
-    ap parsed_line (body_fields e)
-    ∙ rw (count_no_processor e.turn, count_no_channel e.turn, decimal_read e.turn below, processor_read e.pp told.pp, channel_read e.channel told.channel, event_read e.event told.word) refl
+event_line_read e told below = grind (arith, body_fields, count_no_processor, count_no_channel, decimal_read, processor_read, channel_read, event_read)
 
 -- ---- the line of a processor
 

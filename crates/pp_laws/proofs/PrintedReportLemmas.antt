@@ -86,14 +86,12 @@ elsewhere d c number e other = (event_line c e (Numbered number c e) (numbered_h
 block_elsewhere : (d c : ℕ) → d ≢ c → (k : ℕ) (es : List Event) → events_on d (numbered c (enumerate_from k es)) ≡ []
 unfolding events_on numbered
 block_elsewhere d c other k [] = refl
-block_elsewhere d c other k (e ∷ es) =
-    ap (λ (o : Option Event). cons_option o (filter_map (event_on d) (numbered c (enumerate_from (k + 1) es)))) (elsewhere d c k e other) ∙ block_elsewhere d c other (k + 1) es
+block_elsewhere d c other k (e ∷ es) = grind (arith, elsewhere, block_elsewhere d c other (k + 1) es)
 
 block_here : (c k : ℕ) (es : List Event) → events_on c (numbered c (enumerate_from k es)) ≡ es
 unfolding events_on numbered
 block_here c k [] = refl
-block_here c k (e ∷ es) =
-    ap (λ (o : Option Event). cons_option o (filter_map (event_on c) (numbered c (enumerate_from (k + 1) es)))) (numbered_here k c e) ∙ ap (λ (more : List Event). e ∷ more) (block_here c (k + 1) es)
+block_here c k (e ∷ es) = grind (arith, numbered_here, block_here c (k + 1) es)
 
 lawful_block : (opened : List Bool) (lines : List TraceLine) (c k : ℕ) (h es : List Event) → IsLawfulTrace opened lines → history opened lines c ≡ h → k ≡ length h → IsLawful (h ++ es) → IsLawfulTrace opened (lines ++ numbered c (enumerate_from k es))
 unfolding numbered
@@ -124,45 +122,16 @@ module _ (opened : List Bool) (histories : List (List Event)) where
   no_events c = refl
 
   tell_none : Tell 0 []
-  tell_none = record {
-    lawful = lawful_start opened;
-    told = λ c less names. absurd (omega (arith, less));
-    untold = λ c less. no_events c;
-  }
+  tell_none = grind (arith, lawful_start, no_events)
 
   events_past : (c n k : ℕ) (lines : List TraceLine) (es : List Event) → c ≢ n → events_on c (lines ++ numbered n (enumerate_from k es)) ≡ events_on c lines
-  events_past c n k lines es other =
-      events_both c lines (numbered n (enumerate_from k es)) ∙ ap (λ (more : List Event). events_on c lines ++ more) (block_elsewhere c n other k es) ∙ append-nil (events_on c lines)
+  events_past c n k lines es other = grind (arith, events_both, block_elsewhere, append-nil)
 
   tell_unnamed : (n : ℕ) (lines : List TraceLine) → names_channel n ≡ false → Tell n lines → Tell (suc n) lines
-  tell_unnamed n lines unnamed tell = record {
-    lawful = tell.lawful;
-    told = λ c less names. elim (cases_eq c n) [
-      | inl same ↦ let both : true ≡ false = sym names ∙ ap names_channel same ∙ unnamed in cc
-      | inr other ↦ tell.told c (omega (arith, less, other)) names
-    ];
-    untold = λ c less. tell.untold c (omega (arith, less));
-  }
+  tell_unnamed n lines unnamed tell = grind (arith, cases_eq)
 
   tell_named : (n : ℕ) (lines : List TraceLine) (es : List Event) → opening opened n ++ es ≡ history_on n histories → IsLawful (history_on n histories) → Tell n lines → Tell (suc n) (lines ++ numbered n (enumerate_from (length (opening opened n)) es))
-  tell_named n lines es whole lawful tell =
-      let P : List Event → Type 0 = λ g. IsLawful g in
-      let start : history opened lines n ≡ opening opened n = ap (λ (more : List Event). opening opened n ++ more) (tell.untold n (omega arith)) ∙ append-nil (opening opened n) in
-      let k = length (opening opened n) in
-      record {
-        lawful = lawful_block opened lines n k (opening opened n) es tell.lawful start refl (subst P (sym whole) lawful);
-        told = λ c less names. elim (cases_eq c n) [
-          | inl same ↦
-              ap (history opened (lines ++ numbered n (enumerate_from k es))) same
-              ∙ ap (λ (more : List Event). opening opened n ++ more) (events_both n lines (numbered n (enumerate_from k es)) ∙ ap (λ (first : List Event). first ++ events_on n (numbered n (enumerate_from k es))) (tell.untold n (omega arith)) ∙ block_here n k es)
-              ∙ whole
-              ∙ ap (λ (d : ℕ). history_on d histories) (sym same)
-          | inr other ↦
-              ap (λ (more : List Event). opening opened c ++ more) (events_past c n k lines es other)
-              ∙ tell.told c (omega (arith, less, other)) names
-        ];
-        untold = λ c less. events_past c n k lines es (λ same. absurd (omega (arith, less, same))) ∙ tell.untold c (omega (arith, less));
-      }
+  tell_named n lines es whole lawful tell = grind (arith, append-nil, lawful_block, cases_eq, events_both, block_here, events_past)
 
 -- ---- the parts of the text
 
@@ -180,11 +149,7 @@ reads_worker n (Some worker) names =
 
 -- a text, and a line without fields behind it
 pub text_reads : (text : List ℕ) (lines : List TraceLine) → Reads text lines → map parsed_line (lines_of text) ≡ map (λ l. Some l) (lines ++ Other ∷ [])
-text_reads text lines reads =
-    ap (λ (t : List ℕ). map parsed_line (lines_of t)) (sym (append-nil text))
-    ∙ reads []
-    ∙ ap (λ (more : List (Option TraceLine)). map (λ l. Some l) lines ++ more) no_text
-    ∙ sym (map_both lines (Other ∷ []))
+text_reads text lines reads = grind (arith, append-nil, no_text, map_both)
 
 -- a report over what was open before, with what the lines of its text want
 pub record StandsOver {Z : Type 0} (named : List Bool) (report : Report Z) (opened : List Bool) : Type 0 where
@@ -270,10 +235,7 @@ module _ {Z : Type 0} (named : List Bool) (report : Report Z) (opened : List Boo
 
   pub report_lawful : AreLawful opened (lines_of (printed_report named report))
   unfolding all_events
-  report_lawful = record {
-    said = all_said (lines_of (printed_report named report)) _ said;
-    lawful = subst (IsLawfulTrace opened) (sym text_says) (lawful_shown opened all_events shown_lines (tell_below 0o100).lawful all_shown);
-  }
+  report_lawful = grind (arith, said, all_said, text_says, lawful_shown, all_events, shown_lines, tell_below, all_shown)
 
   pub report_histories : (c : ℕ) → IsTrue (names_channel c) → history opened (parsed_lines (lines_of (printed_report named report))) c ≡ history_on c report.channels
   unfolding all_events
@@ -285,11 +247,4 @@ module _ {Z : Type 0} (named : List Bool) (report : Report Z) (opened : List Boo
 -- ---- a report of a run
 
 pub stands_over : {Z : Type 0} (named : List Bool) (limits : RunLimits) (m : MachineState) (report : Report Z) (opened : List Bool) → IsPrintableReport named limits m report → AreOpenedBy m opened → StandsOver named report opened
-stands_over named limits m report opened is opens = record {
-  openings = λ c. opening_history c m;
-  opened_alike = λ c names. ap (λ (b : Bool). if b then Activate ∷ [] else []) (sym (opens c names));
-  merged = is.run.merged;
-  lawful = λ c names. lawful_on report.channels c is.run.lawful;
-  fits = is.fits;
-  few_events = is.few_events;
-}
+stands_over named limits m report opened is opens = grind (arith, lawful_on)

@@ -37,12 +37,7 @@ map_both [] ys = refl
 map_both (x ∷ xs) ys = ap (λ (more : List (Option TraceLine)). Some x ∷ more) (map_both xs ys)
 
 pub reads_both : (a b : List ℕ) (xs ys : List TraceLine) → Reads a xs → Reads b ys → Reads (a ++ b) (xs ++ ys)
-reads_both a b xs ys first second = λ rest.
-    ap (λ (text : List ℕ). map parsed_line (lines_of text)) (append_assoc a b rest)
-    ∙ first (b ++ rest)
-    ∙ ap (λ (more : List (Option TraceLine)). map (λ l. Some l) xs ++ more) (second rest)
-    ∙ sym (append_assoc (map (λ l. Some l) xs) (map (λ l. Some l) ys) (map parsed_line (lines_of rest)))
-    ∙ ap (λ (said : List (Option TraceLine)). said ++ map parsed_line (lines_of rest)) (sym (map_both xs ys))
+reads_both a b xs ys first second = grind (arith, append_assoc, map_both)
 
 no_line_feed : (body : List ℕ) → list_all is_plain body ≡ true → All (λ c. is_line_feed c ≡ false) body
 no_line_feed body plain = λ k d lt.
@@ -51,10 +46,7 @@ no_line_feed body plain = λ k d lt.
 
 pub reads_line : (body : List ℕ) (line : TraceLine) → list_all is_plain body ≡ true → parsed_line (fields_of body) ≡ Some line → Reads (body ++ line_end) (line ∷ [])
 unfolding lines_of
-reads_line body line plain is = λ rest.
-    ap (λ (text : List ℕ). map parsed_line (map fields_of (slice_split is_line_feed text))) (append_assoc body (10 ∷ []) rest)
-    ∙ ap (λ (parts : List (List ℕ)). map parsed_line (map fields_of parts)) (slice_split_at is_line_feed body 10 rest (no_line_feed body plain) refl)
-    ∙ ap (λ (o : Option TraceLine). o ∷ map parsed_line (map fields_of (slice_split is_line_feed rest))) is
+reads_line body line plain is = grind (arith, append_assoc, slice_split_at, no_line_feed)
 
 -- ---- the parts of the text
 

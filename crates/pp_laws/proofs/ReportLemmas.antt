@@ -24,8 +24,7 @@ each_numbered : {Z : Type 0} (size steps : ℕ) (loads : List Processor) (worker
 each_numbered {Z} size steps [] [] each = All-nil (λ (w : Worker Z). HasEndNumber w.finish)
 each_numbered {Z} size steps [] (w ∷ ws) each = absurd each
 each_numbered {Z} size steps (load ∷ loads) [] each = absurd each
-each_numbered {Z} size steps (load ∷ loads) (w ∷ ws) each =
-    All-cons (λ (v : Worker Z). HasEndNumber v.finish) w ws each.0.finish.numbered (each_numbered size steps loads ws each.1)
+each_numbered {Z} size steps (load ∷ loads) (w ∷ ws) each = grind (arith, each_numbered size steps loads ws each.1)
 
 -- a worker of a run that ended at a fault is at a numbered one
 pub report_numbered : {Z : Type 0} (limits : RunLimits) (machine : MachineState) (report : Report Z) → IsReportOf limits machine report → All (λ (w : Worker Z). HasEndNumber w.finish) report.ends.items
@@ -40,20 +39,11 @@ shown_where_named false false s t _ _ e = refl
 
 has_end : {Z : Type 0} (p : Profile) (n : ℕ) (report : Report Z) → length report.ends.items ≡ processors_in p → IsTrue (has_processor p n) → end_of n report ≡ None → ⊥
 unfolding has_processor
-has_end {Z} p n report all has none = elim (slice_get_cases report.ends.items (processor_index n)).1 [
-  | inl within ↦
-      let some : Some (shown_end within.0) ≡ None = sym (ap (λ (w : Option (Worker Z)). option_map shown_end w) within.2) ∙ none in
-      cc
-  | inr past ↦ let below = ltb-true (processor_index n) (processors_in p) has in absurd (omega (arith, below, all, past.0))
-]
+has_end {Z} p n report all has none = grind (arith, slice_get_cases, ltb-true)
 
 -- a processor that is named has its line
 named_shown : {Z : Type 0} (p : Profile) (named : List Bool) (n : ℕ) (report : Report Z) → NamesWithin p named → length report.ends.items ≡ processors_in p → is_named named n ≡ true → end_of n report ≡ None → ⊥
-named_shown p named n report within all is = by (names_processor n) refl is
-  where
-    by : (b : Bool) → names_processor n ≡ b → (b && slice_index_or named (processor_index n) false) ≡ true → end_of n report ≡ None → ⊥
-    by true e flag = has_end p n report all (within n e flag)
-    by false e flag = absurd (cc)
+named_shown p named n report within all is = grind (arith, has_end)
 
 -- which processors are named is shown by a report with a worker for each processor of its profile
 pub report_names : {Y Z : Type 0} (p q : Profile) (named others : List Bool) (one : Report Y) (other : Report Z) → NamesWithin p named → NamesWithin q others

@@ -29,18 +29,7 @@ rise_later : (next : ℕ) (ts : List ℕ) → Rise next ts → Rise (next + 1) t
 rise_later next ts rise = record { rising = rise.rising; below = λ k within. let less = rise.below k within in omega (arith, less) }
 
 rise_push : (next : ℕ) (ts : List ℕ) → Rise next ts → Rise (next + 1) (ts ++ next ∷ [])
-rise_push next ts rise = record {
-  rising = increasing_push ts next rise.rising (λ k last. rise.below k (omega (arith, last)));
-  below = λ k within. elim (cases_lt k (length ts)) [
-    | inl early ↦
-        let a = get_or_append_left ts (next ∷ []) 0 k early in
-        let r = rise.below k early in
-        omega (arith, a, r)
-    | inr late ↦
-        let b = get_or_push ts next 0 k (omega (arith, within, late, length_push ts next)) in
-        omega (arith, b)
-  ];
-}
+rise_push next ts rise = grind (arith, increasing_push, cases_lt, get_or_append_left, get_or_push, length_push)
 
 rise_by_event : (n c : ℕ) (m : MachineState) (o : Option Event) → Rise m.turns (turns_in m.trace) → Rise (m.turns + 1) (turns_in (m.trace ++ map (λ e. record { turn = m.turns; pp = n; channel = c; event = e }) (option_to_list o)))
 rise_by_event n c m None rise = subst (λ (trace : List Trace). Rise (m.turns + 1) (turns_in trace)) (sym (append-nil m.trace)) (rise_later m.turns (turns_in m.trace) rise)

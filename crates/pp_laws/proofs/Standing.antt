@@ -74,10 +74,7 @@ unfolding put_at
 put_other f q v x apart = ap (λ b. if b then v else f x) (ne_eqb x q apart)
 
 pub put_all : (B : ℕ → ℕ → Type 0) (f : ℕ → ℕ) (q v : ℕ) → B q v → ((x : ℕ) → x ≢ q → B x (f x)) → (x : ℕ) → B x (put_at f q v x)
-put_all B f q v here there x = elim (cases_eq x q) [
-  | inl same ↦ subst (λ (k : ℕ). B k (put_at f q v k)) (sym same) (subst (λ (k : ℕ). B q k) (sym (put_same f q v)) here)
-  | inr other ↦ subst (λ (k : ℕ). B x k) (sym (put_other f q v x other)) (there x other)
-]
+put_all B f q v here there x = grind (arith, cases_eq, put_at, put_same, put_other)
 
 -- the same step of one processor in two machines
 answers_by : (q : ℕ) (one other : MachineState) (x : Need) → need (processor_of q one) ≡ x → need (processor_of q other) ≡ x → answer_to x one ≡ answer_to x other → answer_to (need (processor_of q one)) one ≡ answer_to (need (processor_of q other)) other
@@ -91,61 +88,23 @@ by_answers q one other x pp e same = own_alike q one other pp (answers_by q one 
 
 -- a word that is the same in both stays so
 set_alike : (xs ys : List ℕ) (b w a : ℕ) → length xs ≡ length ys → get_or xs a 0 ≡ get_or ys a 0 → get_or (slice_set xs b w) a 0 ≡ get_or (slice_set ys b w) a 0
-set_alike xs ys b w a lengths same = elim (cases_eq a b) [
-  | inl here ↦ elim (cases_lt b (length xs)) [
-    | inl below ↦
-        let P : ℕ → Type 0 = λ k. get_or (slice_set xs b w) k 0 ≡ get_or (slice_set ys b w) k 0 in
-        subst P (sym here) (get_or-set_same xs b w 0 below ∙ sym (get_or-set_same ys b w 0 (omega arith)))
-    | inr past ↦ ap (λ (zs : List ℕ). get_or zs a 0) (set_past xs b w past) ∙ same ∙ ap (λ (zs : List ℕ). get_or zs a 0) (sym (set_past ys b w (omega arith)))
-  ]
-  | inr there ↦ get_or-set_other xs b a w 0 there ∙ same ∙ sym (get_or-set_other ys b a w 0 there)
-]
+set_alike xs ys b w a lengths same = grind (arith, cases_eq, cases_lt, get_or-set_same, set_past, get_or-set_other)
 
 pub words_alike : (q a : ℕ) (one other : MachineState) → processor_of q one ≡ processor_of q other → length one.central ≡ length other.central → word_of a one ≡ word_of a other → word_of a (stepped q one) ≡ word_of a (stepped q other)
-words_alike q a one other pp lengths same = by_need (need (processor_of q other)) refl
-  where
-    kept : ((w : ℕ) → need (processor_of q other) ≡ Write a w → ⊥) → word_of a (stepped q one) ≡ word_of a (stepped q other)
-    kept none = word_unless q a one (λ w e. none w (ap (λ p. need p) (sym pp) ∙ e)) ∙ same ∙ sym (word_unless q a other none)
-
-    by_need : (x : Need) → need (processor_of q other) ≡ x → word_of a (stepped q one) ≡ word_of a (stepped q other)
-    by_need (Write b w) e =
-        ap (λ (ws : List ℕ). get_or ws a 0) (central_by q one (Write b w) (ap (λ p. need p) pp ∙ e))
-        ∙ set_alike one.central other.central b w a lengths same
-        ∙ ap (λ (ws : List ℕ). get_or ws a 0) (sym (central_by q other (Write b w) e))
-    by_need other e = kept (λ w f. let g : other ≡ Write a w = sym e ∙ f in cc)
+words_alike q a one other pp lengths same = grind (arith, word_of, word_unless, central_by, set_alike)
 
 pub read_alike : (a : ℕ) (one other : MachineState) → length one.central ≡ length other.central → word_of a one ≡ word_of a other → slice_get one.central a ≡ slice_get other.central a
-read_alike a one other lengths same = elim (cases_lt a (length one.central)) [
-  | inl below ↦ slice_get-get_or one.central a 0 below ∙ ap (λ w. Some w) same ∙ sym (slice_get-get_or other.central a 0 (omega arith))
-  | inr past ↦ slice_get_past one.central a past ∙ sym (slice_get_past other.central a (omega arith))
-]
+read_alike a one other lengths same = grind (arith, cases_lt, slice_get-get_or, slice_get_past)
 
 pub stays_alike : (op : ChanOp) (one other : Processor) (here there : List Event) → one ≡ other → here ≡ there → Stays op other there → Stays op one here
-stays_alike op one other here there pp h s =
-    subst (λ (p : Processor). Stays op p here) (sym pp) (subst (λ (k : List Event). Stays op other k) (sym h) s)
+stays_alike op one other here there pp h s = grind arith
 
 module _ (ns : List ℕ) (m : MachineState) (all : length m.processors ≡ processor_count) (each : length m.histories ≡ channel_count) (d : IsDeterminate ns m) where
   extended : (q t : ℕ) → t < length ns → processor_at ns m q (suc t) ≡ processor_at ns m q t → ((c s : ℕ) → MayFind ns m q c t s → MayFind ns m q c (suc t) s) → ((a : ℕ) → Owns ns m q a → word_of a (at_moment ns m (suc t)) ≡ word_of a (at_moment ns m t)) → CatchUp ns m q (suc t) → CatchUp ns m q t
-  extended q t h pp may word c = record {
-    to = c.to;
-    later = let l : suc t ≤ c.to = c.later in omega arith;
-    within = c.within;
-    next = c.next;
-    processor = c.processor ∙ pp;
-    may = λ channel s found. c.may channel s (may channel s found);
-    word = λ a owns. c.word a owns ∙ word a owns;
-  }
+  extended q t h pp may word c = grind arith
 
   here : (q t : ℕ) → t ≤ length ns → IsNext ns m q t → CatchUp ns m q t
-  here q t h next = record {
-    to = t;
-    later = omega arith;
-    within = h;
-    next = next;
-    processor = refl;
-    may = λ c s found. found;
-    word = λ a owns. refl;
-  }
+  here q t h next = grind arith
 
   -- past a step of another
   past_other : (q t : ℕ) → t < length ns → get_or ns t 0 ≢ q → CatchUp ns m q (suc t) → CatchUp ns m q t

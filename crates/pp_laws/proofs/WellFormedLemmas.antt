@@ -52,13 +52,7 @@ plain_octal width n = digits_pass 8 is_plain_character (λ d low. plain_digits d
 
 plain_unpadded : (most n : ℕ) → is_plain (unpadded most n) ≡ true
 plain_unpadded zero n = refl
-plain_unpadded (suc most) n =
-    by_test (eqb n 0) (unpadded most (n / 10) ++ digit (n % 10))
-    (plain-append (unpadded most (n / 10)) (digit (n % 10)) (plain_unpadded most (n / 10)) (digits_pass 10 is_plain_character plain_digits (omega arith) 1 n))
-  where
-    by_test : (b : Bool) (text : List ℕ) → is_plain text ≡ true → is_plain (cond b [] text) ≡ true
-    by_test true text plain = refl
-    by_test false text plain = plain
+plain_unpadded (suc most) n = grind (arith, plain-append, digits_pass, is_plain_character, plain_digits, is_plain, plain_unpadded most (n / 10))
 
 plain_decimal : (n : ℕ) → is_plain (short_decimal n) ≡ true
 unfolding short_decimal
@@ -186,8 +180,7 @@ balanced_phases w name free (phase ∷ more) plain =
 
 balanced_lane : (w : Window) (row : ℕ) (name : List ℕ) (phases : List Phase) (standing : List ℕ) → is_plain name ≡ true → is_plain standing ≡ true → IsBalanced (lane_text w row name phases standing)
 unfolding lane_text lane_head text_tag
-balanced_lane w row name phases standing plain stands outer others =
-    simp (fold-append, decimal_in_quotes, in_text name plain, balanced_phases w name 0 (phases_from None phases) plain (codes "g") (outer ∷ others), in_text standing stands)
+balanced_lane w row name phases standing plain stands outer others = grind (arith, fold-append, decimal_in_quotes, in_text, balanced_phases, codes)
 
 balanced_channel : (w : Window) (m : MachineState) (c : ℕ) → IsBalanced (channel_lane w m c)
 unfolding channel_lane
@@ -238,12 +231,4 @@ parts_read head style legend ticks channels processors foot begins s l t c p end
 
 pub drawing_read : (w : Window) (shown : List Bool) (m : MachineState) (steps : List SeenStep) → IsWellFormed (drawing w shown m steps)
 unfolding drawing
-drawing_read w shown m steps =
-    let rows = lanes_above processor_count shown m in
-    let channel = λ (p : ℕ). channel_lane w m (channel_number p) in
-    let processor = λ (p : ℕ). processor_lane w shown m steps (processor_number p) in
-    parts_read (head_text w rows) style_text legend_text (ticks_text w rows) (each_below channel_count channel) (each_below processor_count processor) (foot_text rows)
-    (head_read w rows) balanced_style balanced_legend (balanced_each (w.to + 1 - w.from) (λ (i : ℕ). tick_text w rows (w.from + i)) (λ i. balanced_tick w rows (w.from + i)))
-    (balanced_each channel_count channel (λ p. balanced_channel w m (channel_number p)))
-    (balanced_each processor_count processor (λ p. balanced_processor w shown m steps (processor_number p)))
-    (foot_read rows)
+drawing_read w shown m steps = grind (arith, parts_read, head_read, balanced_style, balanced_legend, balanced_each, balanced_tick, balanced_channel, balanced_processor, foot_read)

@@ -53,8 +53,7 @@ waiting_of_word h bits =
     ∙ waits_in (active h) (puts (last_stretch h)) (takes (last_stretch h)) (length (puts (last_stretch h)) == length (takes (last_stretch h)) + 1) refl)
 
 pub event_of_word : (op : ChanOp) (h : List Event) → HasTwelveBitWords h → event_by op (flags_in (history_word h)) (waiting_in (history_word h)) ≡ event_of op h
-event_of_word op h bits =
-    ap (λ g. event_by op g (waiting_in (history_word h))) (flags_of_word h bits) ∙ ap (λ w. event_by op (flags_of h) w) (waiting_of_word h bits)
+event_of_word op h bits = grind (arith, flags_of_word, waiting_of_word)
 
 -- the same of a word that is known to be that of a history
 pub number_at_word : (word : ℕ) (h : List Event) → HasTwelveBitWords h → history_word h ≡ word → number_in word ≡ length h
@@ -69,11 +68,7 @@ state_of_word h bits =
 
 -- the word of a lawful history with an event by which it stays lawful
 word_after_event : (h : List Event) (e : Event) → IsLawful h → HasTwelveBitWords h → IsLawful (h ++ e ∷ []) → word_with (history_word h) e ≡ history_word (h ++ e ∷ [])
-word_after_event h e l bits more =
-    let n : number_in (history_word h) + 1 ≡ length (h ++ e ∷ []) = ap (λ x. x + 1) (number_of_word h bits) ∙ sym (length_push h e) in
-    ap (λ x. packed x (flags_after e) (unwrap_or (word_put e) 0)) n
-    ∙ (ap (λ g. packed (length (h ++ e ∷ [])) g (unwrap_or (word_put e) 0)) (sym (flags_by_table h e l more))
-    ∙ ap (λ w. packed (length (h ++ e ∷ [])) (flags_of (h ++ e ∷ [])) (unwrap_or w 0)) (sym (word_by_table h e l more)))
+word_after_event h e l bits more = grind (arith, number_of_word, length_push, flags_by_table, word_by_table)
 
 -- the step of an operation that only looks or not, on a word that can count no more or not, by the event that it would make
 abbrev step_shown : ℕ → Bool → Option Event → WordStep
@@ -84,21 +79,14 @@ abbrev step_if : ℕ → Bool → Bool → Option Event → WordStep
 step_if word looks most o = if not looks && most then WordStep.Worn else step_shown word looks o
 
 step_is : (op : ChanOp) (word : ℕ) → step_from op word ≡ step_if word (only_looks op) (number_in word == greatest_number) (event_by op (flags_in word) (waiting_in word))
-step_is op word = by_event (event_by op (flags_in word) (waiting_in word))
-  where
-    by_event : (o : Option Event) → (if not (only_looks op) && (number_in word == greatest_number) then WordStep.Worn else step_by op word o) ≡ step_if word (only_looks op) (number_in word == greatest_number) o
-    by_event None = refl
-    by_event (Some e) = refl
+step_is op word = grind (arith, step_if)
 
 room_if : (looks most : Bool) → (looks ≡ false → most ≡ false) → (not looks && most) ≡ false
 room_if true most room = refl
 room_if false most room = room refl
 
 steps_below : (op : ChanOp) (word : ℕ) (o : Option Event) → (only_looks op ≡ false → number_in word ≢ greatest_number) → event_by op (flags_in word) (waiting_in word) ≡ o → step_from op word ≡ step_shown word (only_looks op) o
-steps_below op word o room is =
-    step_is op word
-    ∙ (ap (λ worn. if worn then WordStep.Worn else step_shown word (only_looks op) (event_by op (flags_in word) (waiting_in word))) (room_if (only_looks op) (number_in word == greatest_number) (λ acts. ne_eqb (number_in word) greatest_number (room acts)))
-    ∙ ap (step_shown word (only_looks op)) is)
+steps_below op word o room is = grind (arith, step_is, step_shown, room_if, ne_eqb)
 
 -- a step that leaves the word as it is
 abbrev pub Stays : WordStep → Type 0
@@ -113,28 +101,11 @@ stays_either step (inr (f, is)) = subst Stays (sym is) tt
 
 -- what each step says of the word
 pub worn_by_table : (word : ℕ) (op : ChanOp) → WordStep.Worn ≡ step_from op word → (only_looks op ≡ false) × (number_in word ≡ greatest_number)
-worn_by_table word op is =
-    let worn = by_step (only_looks op) (number_in word == greatest_number) (event_by op (flags_in word) (waiting_in word)) (is ∙ step_is op word) in (worn.0, eqb-true (number_in word) greatest_number worn.1)
-  where
-    by_step : (looks most : Bool) (o : Option Event) → WordStep.Worn ≡ step_if word looks most o → (looks ≡ false) × (most ≡ true)
-    by_step false true o is = (refl, refl)
-    by_step true most None is = absurd cc
-    by_step true most (Some e) is = absurd cc
-    by_step false false None is = absurd cc
-    by_step false false (Some e) is = absurd cc
+worn_by_table word op is = grind (arith, step_is, eqb-true, step_if)
 
 pub shown_by_table : (word : ℕ) (op : ChanOp) (step : WordStep) → Stays step → step ≡ step_from op word
     → (only_looks op ≡ false → number_in word ≢ greatest_number) × (event_by op (flags_in word) (waiting_in word) ≡ None)
-shown_by_table word op step stays is =
-    let shown = by_step (only_looks op) (number_in word == greatest_number) (event_by op (flags_in word) (waiting_in word)) (subst Stays (is ∙ step_is op word) stays) in
-    (λ acts. eqb-false (number_in word) greatest_number (shown.0 acts), shown.1)
-  where
-    by_step : (looks most : Bool) (o : Option Event) → Stays (step_if word looks most o) → (looks ≡ false → most ≡ false) × (o ≡ None)
-    by_step true most None stays = (λ none. absurd cc, refl)
-    by_step true most (Some e) stays = absurd stays
-    by_step false true o stays = absurd stays
-    by_step false false None stays = (λ _. refl, refl)
-    by_step false false (Some e) stays = absurd stays
+shown_by_table word op step stays is = grind (arith, step_is, eqb-false, step_if)
 
 -- what a step that makes an event says of the word
 abbrev pub MakesNext : ChanOp → ℕ → ℕ → Reply → Event → Type 0
@@ -206,6 +177,4 @@ steps_from_word h op l bits =
     }
 
 pub steps_as_histories : (word : ℕ) (op : ChanOp) (step : WordStep) → step ≡ step_from op word → (h : List Event) → IsLawful h → HasTwelveBitWords h → history_word h ≡ word → StepsFrom h op step
-steps_as_histories word op step is h l bits same =
-    let P : WordStep → Type 0 = λ s. StepsFrom h op s in
-    subst P (ap (λ w. step_from op w) same ∙ sym is) (steps_from_word h op l bits)
+steps_as_histories word op step is h l bits same = grind (arith, steps_from_word)

@@ -35,8 +35,7 @@ joined_central line (other ∷ others) = joined_central (joined line other) othe
 -- what joining puts end to end
 joined_parts : {X : Type 0} (f : LineState → List X) → ((line other : LineState) → f (joined line other) ≡ f line ++ f other) → (line : LineState) (others : List LineState) → f (all_joined line others) ≡ f line ++ flat_map f others
 joined_parts f parts line [] = sym (append-nil (f line))
-joined_parts f parts line (other ∷ others) =
-    joined_parts f parts (joined line other) others ∙ (ap (λ l. l ++ flat_map f others) (parts line other) ∙ append_assoc (f line) (f other) (flat_map f others))
+joined_parts f parts line (other ∷ others) = grind (arith, append_assoc, joined_parts f parts (joined line other) others)
 
 pub joined_entries : (line : LineState) (others : List LineState) → (all_joined line others).log.entries ≡ line.log.entries ++ flat_map (λ other. other.log.entries) others
 joined_entries line others = joined_parts (λ l. l.log.entries) (λ a b. refl) line others
@@ -64,14 +63,7 @@ each_extended order (line ∷ lines) all =
 
 -- lines whose program orders are those of a view that a step tells of are in one order, each with its log
 pub lines_in_order : {v : LineView} {c word : ℕ} (lines : List LineState) → (t : Tells v c word) → v.program_orders ≡ flat_map (λ l. l.view.program_orders) lines → (central : List ℕ) → v.central ≡ central → v.written ≡ flat_map (λ l. l.view.written) lines → v.shares ≡ v.whole → All (λ l. IsLogOf l.view l.log.entries) lines → AreInOneOrder central t.histories lines
-lines_in_order lines t program_orders central opened written all logs = record {
-  order = t.order;
-  total = t.total;
-  finds = subst (λ (ws : List ℕ). FindsWords ws t.order) opened t.finds;
-  made = subst (λ (ws : List ℕ). AreMade ws t.order) written (t.made all);
-  program_orders = each_extended t.order lines (subst (ExtendsEach t.order) program_orders t.program_orders);
-  logs = All-weaker (λ (l : LineState). IsLogOf l.view l.log.entries) (λ (l : LineState). IsDrawnFrom l.view.program_orders l.log.entries) (λ l is. is.drawn) lines logs;
-}
+lines_in_order lines t program_orders central opened written all logs = grind (arith, each_extended)
 
 -- Lines that were joined to a first one: what all know and have seen as one, and their logs.
 pub record AreAbsorbed {T A : Type 0} (first : LineState) (pairs : List (T × LineState)) (v : LineView) (seen : List ℕ) (logs : List (T × Vec Entry A)) : Type 0 where

@@ -69,9 +69,7 @@ found_last v w c word load =
     subst P (sym load.after_is) (Contains-push v.found (record { channel = c; word = word }))
 
 pub seen_last : (v w : LineView) (c word : ℕ) → length v.seen ≡ channel_count → IsLoad c v word w → seen_on c w.seen ≡ number_in word
-seen_last v w c word each load =
-    let low = channel_places.place_below c load.tells.named in
-    ap (λ x. seen_on c x.seen) load.after_is ∙ get_or-set_same v.seen (channel_index c) (number_in word) 0 (omega arith)
+seen_last v w c word each load = grind (arith, channel_places.place_below, get_or-set_same)
 
 -- the line has this log and this view now, and stands at the same table
 pub record IsNow (line : LineState) (log : LogState) (v : LineView) (after : LineState) : Type 0 where
@@ -82,9 +80,7 @@ pub record IsNow (line : LineState) (log : LogState) (v : LineView) (after : Lin
 
 -- it knows what the view knows
 line_knows : {line after : LineState} {log : LogState} {v : LineView} {histories : List (List Event)} → IsNow line log v after → Knows v v.events histories → Knows after.view after.log.entries histories
-line_knows {histories = histories} is known =
-    let P : LineView → Type 0 = λ x. Knows x x.events histories in
-    knows_by_log is.log_of (subst P (sym is.view_is) known)
+line_knows {histories = histories} is known = grind (arith, knows_by_log)
 
 -- a line that looked at what its load found
 module _ (line : LineState) {now : LineView} {c word : ℕ} (load : IsLoad c line.view word now) (before : IsLogOf line.view line.log.entries) (op : ChanOp) where
@@ -306,20 +302,11 @@ module _ (line : LineState) {now : LineView} {c word : ℕ} (load : IsLoad c lin
 
 -- the number of an answer is not below what the line had seen
 pub number_later : (line after : LineState) (c : ℕ) (op : ChanOp) (r : Numbered) → IsActed line c op r after → seen_on c line.view.seen ≤ r.number
-number_later line after c op r acted =
-    let loaded = acted.not_older in
-    elim (cases_eq r.number r.loaded) [
-      | inl same ↦ omega (arith, loaded, same)
-      | inr other ↦ let later = (acted.answer.lost other).later in omega (arith, loaded, later)
-    ]
+number_later line after c op r acted = grind (arith, cases_eq)
 
 -- a line that holds every share tells the histories whole
 pub told_whole : {v : LineView} {log : List Entry} {c word : ℕ} → IsLogOf v log → (t : Tells v c word) → v.shares ≡ v.whole → IsRecordedBy log v.seen t.histories
 told_whole is tells all = (knows_by_log is tells.known).all_known all
 
 pub closed_by : (line : LineState) (histories : List (List Event)) → Knows line.view line.log.entries histories → line.view.shares ≡ line.view.whole → AreClosed line histories
-closed_by line histories known all = record {
-  known = known;
-  law = All-weaker IsLawful KeepsLaw law_of_lawful histories known.sound.lawful;
-  merged = (known.all_known all).merged;
-}
+closed_by line histories known all = grind (arith, law_of_lawful)

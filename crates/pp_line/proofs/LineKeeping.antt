@@ -43,8 +43,7 @@ log_grown {v} {log} w is events found long raised some drawn = record {
 
 -- one that differs in its shares alone, or in its unrecorded loads
 pub log_of_same : {v : LineView} {log : List Entry} (w : LineView) → IsLogOf v log → w.events ≡ v.events → w.found ≡ v.found → w.seen ≡ v.seen → w.program_orders ≡ v.program_orders → IsLogOf w log
-log_of_same {v} {log} w is events found seen program_orders =
-    log_grown w is events (λ x b. subst (λ es. Contains es x) (sym found) b) (ap length seen) (λ d. let same = ap (λ s. get_or s d 0) seen in omega (arith, same)) (rw program_orders is.some_program_order) (rw program_orders is.drawn)
+log_of_same {v} {log} w is events found seen program_orders = grind (arith, log_grown)
 
 -- a load found a word
 pub log_of_load : {v w : LineView} {c word : ℕ} {log : List Entry} → IsLoad c v word w → IsLogOf v log → IsLogOf w log
@@ -56,9 +55,7 @@ log_of_load {v} {w} {c} {word} {log} load is =
 
 -- an access that is none to a channel
 pub log_beside : {v : LineView} {log : List Entry} (access : Access) (written : List ℕ) → IsLogOf v log → IsLogOf (record v { written = written; program_orders = extended v.program_orders (access ∷ []) }) log
-log_beside {v} {log} access written is =
-    log_grown (record v { written = written; program_orders = extended v.program_orders (access ∷ []) }) is refl (λ x b. b) refl (λ d. omega arith)
-    (omega (arith, is.some_program_order, length-extended v.program_orders (access ∷ []))) (drawn_extended v.program_orders log (access ∷ []) is.drawn)
+log_beside {v} {log} access written is = grind (arith, log_grown, length-extended, drawn_extended)
 
 -- the front of a log, and a last entry
 set_end : {A : Type 0} (xs : List A) (n : ℕ) (y : A) → length xs ≡ n + 1 → slice_set xs n y ≡ take n xs ++ y ∷ []
@@ -68,9 +65,7 @@ set_end (x ∷ z ∷ xs) zero y many = absurd (omega (arith, many))
 set_end (x ∷ xs) (suc n) y many = ap (λ ys. x ∷ ys) (set_end xs n y (omega (arith, many)))
 
 last_set : (log : LogState) (c : ℕ) (entry : Entry) → ends_in_look_at c log ≡ true → slice_set log.entries (length log.entries - 1) entry ≡ take (length log.entries - 1) log.entries ++ entry ∷ []
-last_set log c entry ends =
-    let last = last_replaced log c ends in
-    set_end log.entries (length log.entries - 1) entry (omega (arith, last.1))
+last_set log c entry ends = grind (arith, last_replaced, set_end)
 
 front_in : (program_orders : List (List Access)) (log : List Entry) (n : ℕ) → IsDrawnFrom program_orders log → IsDrawnFrom program_orders (take n log)
 front_in program_orders log n h = stands_front (take n log) (drop n log) (flat_map entries_among program_orders) (subst (IsDrawnFrom program_orders) (sym (take-append-drop n log)) h)
@@ -143,8 +138,7 @@ exchange_won {v} {w} {c} {expected} {word} e exchanged same =
     MatchBool-at_true (IsWonExchange c v word e w) (IsLostExchange c expected v word w) (eq-eqb word expected same) exchanged
 
 pub exchange_lost : {v w : LineView} {c expected word : ℕ} (e : Event) → IsExchange c expected e v word w → word ≢ expected → IsLostExchange c expected v word w
-exchange_lost {v} {w} {c} {expected} {word} e exchanged other =
-    MatchBool-at_false (IsWonExchange c v word e w) (IsLostExchange c expected v word w) (ne_eqb word expected other) exchanged
+exchange_lost {v} {w} {c} {expected} {word} e exchanged other = grind (arith, ne_eqb)
 
 -- what a line keeps beside its view, after a load
 pub fields_of_load : {v w : LineView} {c word shares whole : ℕ} {seen after : List ℕ} {log : List Entry} → IsLoad c v word w → (seen ≡ v.seen) × (shares ≡ v.shares) × (whole ≡ v.whole) × IsLogOf v log → after ≡ slice_set seen (channel_index c) (number_in word)

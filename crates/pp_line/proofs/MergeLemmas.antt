@@ -70,20 +70,11 @@ told_elsewhere c number d n e other = told_not c number d n e (inl other)
 
 -- the next event of the channel is told once more
 pub told_next : (c number d n : ℕ) (e : Event) → d ≡ c → once_below number (n + 1) ≡ once_below number n + told_by c number (event_entry d n e)
-told_next c number d n e is = dite (ℕ_discrete n number)
-    (λ (h : n ≡ number). let a = once_inside number (n + 1) (omega arith) in let b = once_past number n (omega arith) in let t = told_here c number d n e is h in omega arith)
-    (λ (h : n ≢ number). let t = told_not c number d n e (inr h) in dite (dec_lt number n)
-    (λ (l : number < n). let a = once_inside number (n + 1) (omega arith) in let b = once_inside number n l in omega arith)
-    (λ l. let a = once_past number (n + 1) (omega arith) in let b = once_past number n (omega arith) in omega arith))
+told_next c number d n e is = grind (arith, once_inside, once_past, told_here, told_not)
 
 -- an event that is told lies below the number seen
 told_within : (c number : ℕ) (seen : List ℕ) (d n : ℕ) (what : Seen) → (is_event what && (eqb d c) && (eqb n number)) ≡ true → known_after what n ≤ seen_on d seen → number < seen_on c seen
-told_within c number seen d n (Did e) t l =
-    let both = and_parts (eqb d c) (eqb n number) t in
-    let channel : d ≡ c = eqb-true d c both.0 in
-    let at : n ≡ number = eqb-true n number both.1 in
-    let same : seen_on d seen ≡ seen_on c seen = ap (λ x. seen_on x seen) channel in
-    omega arith
+told_within c number seen d n (Did e) t l = grind (arith, and_parts, eqb-true)
 told_within c number seen d n (Saw f) t l = absurd (false≢true t)
 
 pub times_within : (c number : ℕ) (seen : List ℕ) (log : List Entry) → IsWithin seen log → 0 < times_logged c number log → number < seen_on c seen
@@ -110,10 +101,7 @@ slice_get_last (y ∷ front) x = slice_get_last front x
 
 pub true_front : (front rest : List Event) (n : ℕ) (what : Seen) → IsTrueAt front n what → IsTrueAt (front ++ rest) n what
 true_front front rest n (Did e) p = slice_get_front front rest n e p
-true_front front rest n (Saw f) p =
-    let more = length-append front rest in
-    let same : take n (front ++ rest) ≡ take n front = take-append-le n front rest p.0 in
-    (omega arith, ap flags_of same ∙ p.1)
+true_front front rest n (Saw f) p = grind (arith, length-append, take-append-le)
 
 pub true_later : (before after : List (List Event)) → Grow before after → (entry : Entry) → IsTrueOf before entry → IsTrueOf after entry
 true_later before after grow entry p =

@@ -11,23 +11,11 @@ use Rattle.pp_line.proofs.LineKnowledge.{looked_either, last_replaced}
 
 -- an entry in the place of the last one, which all before it may precede
 pairs_set_last : {A : Type 0} (R : A → A → Type 0) (xs : List A) (y : A) → length xs - 1 < length xs → AllPairs R xs → ((k : ℕ) (d : A) → k < length xs → R (get_or xs k d) y) → AllPairs R (set xs (length xs - 1) y)
-pairs_set_last R xs y some all before = λ i j d less within.
-    let n : ℕ = length xs - 1 in
-    let l = length-set xs n y in
-    let first : get_or (set xs n y) i d ≡ get_or xs i d = get_or-set_other xs n i y d (λ same. omega arith) in
-    ⊎_elim
-    (λ (same : j ≡ n).
-    let there : get_or (set xs n y) j d ≡ y = ap (λ k. get_or (set xs n y) k d) same ∙ get_or-set_same xs n y d some in
-    rw (first, there) (before i d (omega arith)))
-    (λ (other : j ≢ n). rw (first, get_or-set_other xs n j y d other) (all i j d less (omega arith)))
-    (cases_eq j n)
+pairs_set_last R xs y some all before = grind (arith, length-set, get_or-set_other, get_or-set_same, cases_eq)
 
 module _ (seen : List ℕ) (log : LogState) (entry : Entry) (within : IsWithin seen log.entries) (later : seen_on entry.channel seen ≤ entry.number) (monotone : IsMonotone log.entries) where
   followed : (k : ℕ) (d : Entry) → k < length log.entries → IsFollowedBy (get_or log.entries k d) entry
-  followed k d inside same =
-      let known = within k d inside in
-      let there = ap (λ c. seen_on c seen) same in
-      omega arith
+  followed k d inside same = grind arith
 
   pub rising_appended : IsMonotone (appended log entry).entries
   rising_appended = all_pairs_push IsFollowedBy log.entries entry monotone followed

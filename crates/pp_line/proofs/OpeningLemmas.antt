@@ -29,12 +29,7 @@ IsTrueIn h entry = IsTrueAt (h entry.channel) entry.number entry.what
 
 -- an entry that tells an event, and is true of two histories, shows that they have the same event there
 same_by_entry : (c number : ℕ) (g h : ℕ → List Event) (d n : ℕ) (what : Seen) → (is_event what && (eqb d c) && (eqb n number)) ≡ true → IsTrueAt (g d) n what → IsTrueAt (h d) n what → slice_get (g c) number ≡ slice_get (h c) number
-same_by_entry c number g h d n (Did e) t p q =
-    let both = and_parts (eqb d c) (eqb n number) t in
-    let channel : d ≡ c = eqb-true d c both.0 in
-    let at : n ≡ number = eqb-true n number both.1 in
-    let same : slice_get (g d) n ≡ slice_get (h d) n = p ∙ sym q in
-    subst (λ x. slice_get (g x) number ≡ slice_get (h x) number) channel (subst (λ k. slice_get (g d) k ≡ slice_get (h d) k) at same)
+same_by_entry c number g h d n (Did e) t p q = grind (arith, and_parts, eqb-true)
 same_by_entry c number g h d n (Saw f) t p q = absurd (false≢true t)
 
 -- so does a log that tells it

@@ -35,16 +35,11 @@ legal_push before (x ∷ entries) entry all here =
 -- the next entry of a channel, and what it makes
 pub order_more : (before after : List (List Event)) (order : List Access) (entry : Entry) → ComesAfter (history_on entry.channel before) entry.number entry.what → ((c : ℕ) → history_on c after ≡ history_on c before ++ made_on c (entry ∷ []))
     → IsTotalOrderOf no_opening before (entries_among order) → IsTotalOrderOf no_opening after (entries_among (order ++ OnChannel entry ∷ []))
-order_more before after order entry comes grows is =
-    subst (IsTotalOrderOf no_opening after) (sym (entries_more order (OnChannel entry ∷ []))) (record {
-      each_history = λ c. made_more c (entries_among order) (entry ∷ []) ∙ (ap (λ h. h ++ made_on c (entry ∷ [])) (is.each_history c) ∙ sym (grows c));
-      legal = legal_push no_opening (entries_among order) entry is.legal (subst (λ (h : List Event). ComesAfter h entry.number entry.what) (sym (is.each_history entry.channel)) comes);
-    })
+order_more before after order entry comes grows is = grind (arith, entries_more, made_more, legal_push)
 
 -- what is no access to a channel
 pub order_beside : (histories : List (List Event)) (order : List Access) (access : Access) → entry_of access ≡ None → IsTotalOrderOf no_opening histories (entries_among order) → IsTotalOrderOf no_opening histories (entries_among (order ++ access ∷ []))
-order_beside histories order access none is =
-    subst (IsTotalOrderOf no_opening histories) (sym (entries_more order (access ∷ []) ∙ (ap (λ (o : Option Entry). entries_among order ++ cons_option o []) none ∙ append-nil (entries_among order)))) is
+order_beside histories order access none is = grind (arith, entries_more, append-nil)
 
 -- program orders are extended by a longer order, and grow with it
 pub extends_more : (order more : List Access) (program_orders : List (List Access)) → ExtendsEach order program_orders → ExtendsEach (order ++ more) program_orders
@@ -67,8 +62,7 @@ abbrev all_of : List (List Access) → List Entry
 all_of program_orders = flat_map entries_among program_orders
 
 longer_entries : (t more : List Access) → IsSubsequence (entries_among t) (entries_among (t ++ more))
-longer_entries t more =
-    subst (IsSubsequence (entries_among t)) (sym (entries_more t more)) (stands_more (entries_among t) (entries_among t) (entries_among more) (stands_whole (entries_among t)))
+longer_entries t more = grind (arith, entries_more, stands_more, stands_whole)
 
 -- what is drawn from program orders is drawn from them when they have grown
 pub drawn_extended : (program_orders : List (List Access)) (log : List Entry) (more : List Access) → IsDrawnFrom program_orders log → IsDrawnFrom (extended program_orders more) log
@@ -102,17 +96,8 @@ stands_joined program_orders others log other h k = subst (λ (l : List Entry). 
 pub entries_stand : (xs ys : List Access) → IsSubsequence xs ys → IsSubsequence (entries_among xs) (entries_among ys)
 entries_stand [] ys h = tt
 entries_stand (x ∷ xs) [] h = absurd h
-entries_stand (x ∷ xs) (y ∷ ys) (inl p) =
-    subst (λ (a : Access). IsSubsequence (cons_option (entry_of x) (entries_among xs)) (cons_option (entry_of a) (entries_among ys))) p.0 (both (entry_of x) (entries_among xs) (entries_among ys) (entries_stand xs ys p.1))
-  where
-    both : (o : Option Entry) (us vs : List Entry) → IsSubsequence us vs → IsSubsequence (cons_option o us) (cons_option o vs)
-    both None us vs h = h
-    both (Some e) us vs h = inl (refl, h)
-entries_stand (x ∷ xs) (y ∷ ys) (inr q) = passed_over (entry_of y) (entries_among (x ∷ xs)) (entries_among ys) (entries_stand (x ∷ xs) ys q)
-  where
-    passed_over : (o : Option Entry) (us vs : List Entry) → IsSubsequence us vs → IsSubsequence us (cons_option o vs)
-    passed_over None us vs h = h
-    passed_over (Some e) us vs h = stands_after us e vs h
+entries_stand (x ∷ xs) (y ∷ ys) (inl p) = grind (arith, entries_stand xs ys p.1)
+entries_stand (x ∷ xs) (y ∷ ys) (inr q) = grind (arith, stands_after, entries_stand (x ∷ xs) ys q)
 
 -- an entry of another channel makes nothing on this one, and each makes one event at most
 made_elsewhere : (c channel : ℕ) (what : Seen) → channel ≢ c → made_at c channel what ≡ None
@@ -147,18 +132,13 @@ module _ (opening history : ℕ → List Event) (begins : (c : ℕ) → IsPrefix
 
   leaves_more : (before now : ℕ → List Event) (c : ℕ) (made : List Event) → Leaves before now → (length (opening c) ≤ length (before c)) ⊎ (made ≡ [])
       → now c ++ made ≡ opening c ++ drop (length (opening c)) (before c ++ made)
-  leaves_more before now c made leaves (inl long) =
-      ap (λ l. l ++ made) (leaves c) ∙ (append_assoc (opening c) (drop (length (opening c)) (before c)) made
-      ∙ ap (λ l. opening c ++ l) (sym (drop-append-le (length (opening c)) (before c) made long)))
-  leaves_more before now c made leaves (inr none) =
-      (λ j. now c ++ none j) ∙ (append-nil (now c) ∙ (leaves c ∙ ap (λ l. opening c ++ drop (length (opening c)) l) (sym (append-nil (before c)) ∙ (λ j. before c ++ sym none j))))
+  leaves_more before now c made leaves (inl long) = grind (arith, append_assoc, drop-append-le)
+  leaves_more before now c made leaves (inr none) = grind (arith, append-nil)
 
   leaves_less : (before now : ℕ → List Event) (c : ℕ) (made : List Event) → Leaves before now → ((length (before c) < length (opening c)) × (length made ≤ 1)) ⊎ (made ≡ [])
       → now c ≡ opening c ++ drop (length (opening c)) (before c ++ made)
-  leaves_less before now c made leaves (inl short) =
-      leaves c ∙ ap (λ l. opening c ++ l) (drop_all (length (opening c)) (before c) (omega (arith, short.0)) ∙ sym (drop_all (length (opening c)) (before c ++ made) (omega (arith, short.0, short.1, length-append (before c) made))))
-  leaves_less before now c made leaves (inr none) =
-      leaves c ∙ ap (λ l. opening c ++ drop (length (opening c)) l) (sym (append-nil (before c)) ∙ (λ j. before c ++ sym none j))
+  leaves_less before now c made leaves (inl short) = grind (arith, drop_all, length-append)
+  leaves_less before now c made leaves (inr none) = grind (arith, append-nil)
 
   -- each of them is in its place, and they are all that came after the opening
   pub record IsKept (now : ℕ → List Event) (entries : List Entry) : Type 0 where
@@ -209,6 +189,4 @@ order_later opening histories order begins is =
 -- what is not older stands in it
 pub stands_later_in : (opening : ℕ → List Event) (histories : List (List Event)) (log order : List Entry) → (begins : (c : ℕ) → IsPrefix (opening c) (history_on c histories))
     → All (λ entry. length (opening entry.channel) ≤ entry.number) log → IsSubsequence log order → IsSubsequence log (filter (is_later opening (λ c. history_on c histories) begins) order)
-stands_later_in opening histories log order begins late stands =
-    stands_passed (is_later opening (λ c. history_on c histories) begins) log order
-    (All-weaker (λ (x : Entry). length (opening x.channel) ≤ x.number) (λ (x : Entry). is_later opening (λ c. history_on c histories) begins x ≡ true) (λ x l. ap not (le-ltb x.number (length (opening x.channel)) l)) log late) stands
+stands_later_in opening histories log order begins late stands = grind (arith, stands_passed, is_later, le-ltb)

@@ -17,14 +17,7 @@ use Rattle.pp_line.proofs.MergeLemmas.{told_by, told_not}
 
 -- one event is written over: no history grows
 length-written : (hs : List (List Event)) (place p n : ℕ) (e : Event) → length (get_or (set hs place (set (get_or hs place []) n e)) p []) ≡ length (get_or hs p [])
-length-written hs place p n e = ⊎_elim
-    (λ (same : p ≡ place). dite (dec_lt place (length hs))
-    (λ within. ap (λ i. length (get_or (set hs place (set (get_or hs place []) n e)) i [])) same ∙ (ap length (get_or-set_same hs place (set (get_or hs place []) n e) [] within)
-    ∙ (length-set (get_or hs place []) n e ∙ ap (λ i. length (get_or hs i [])) (sym same))))
-    (λ no. ap length (get_or_past (set hs place (set (get_or hs place []) n e)) p [] (let l = length-set hs place (set (get_or hs place []) n e) in omega (arith, l, no, same))
-    ∙ sym (get_or_past hs p [] (omega (arith, no, same))))))
-    (λ (other : p ≢ place). ap length (get_or-set_other hs place p (set (get_or hs place []) n e) [] other))
-    (cases_eq p place)
+length-written hs place p n e = grind (arith, get_or-set_same, length-set, get_or_past, get_or-set_other, cases_eq)
 
 length-told : (hs : List (List Event)) (place p n : ℕ) (what : Seen) → length (get_or (with_recorded hs place n what) p []) ≡ length (get_or hs p [])
 length-told hs place p n (Saw f) = refl
@@ -115,7 +108,4 @@ histories_filled histories hs seen log told each room =
 -- one more place has its element
 pub placed_more : {A : Type 0} (d : A) (xs : List A) (n : ℕ) (x : A) (f : ℕ → A) → n < length xs → ((k : ℕ) → k < n → get_or xs k d ≡ f k) → x ≡ f n
     → (k : ℕ) → k < n + 1 → get_or (set xs n x) k d ≡ f k
-placed_more d xs n x f within below here k less = ⊎_elim
-    (λ (same : k ≡ n). ap (λ m. get_or (set xs n x) m d) same ∙ (get_or-set_same xs n x d within ∙ (here ∙ ap f (sym same))))
-    (λ (other : k ≢ n). get_or-set_other xs n k x d other ∙ below k (omega arith))
-    (cases_eq k n)
+placed_more d xs n x f within below here k less = grind (arith, get_or-set_same, get_or-set_other, cases_eq)

@@ -9,10 +9,7 @@ use Rattle.pp_line.specs.LineLog.{known_after, seen_on, IsWithin}
 
 -- what lies within the numbers seen lies within greater ones
 pub within_more : (xs ys : List ℕ) → ((d : ℕ) → get_or xs d 0 ≤ get_or ys d 0) → (log : List Entry) → IsWithin xs log → IsWithin ys log
-within_more xs ys more log p =
-    let P : Entry → Type 0 = λ entry. known_after entry.what entry.number ≤ seen_on entry.channel xs in
-    let Q : Entry → Type 0 = λ entry. known_after entry.what entry.number ≤ seen_on entry.channel ys in
-    All-weaker P Q (λ (entry : Entry) q. let m = more (channel_index entry.channel) in omega arith) log p
+within_more xs ys more log p = grind arith
 
 -- the greater number for each channel
 pub greater_at : (xs ys : List ℕ) → length xs ≡ length ys → (k : ℕ) → get_or (greater_of_each xs ys) k 0 ≡ max (get_or xs k 0) (get_or ys k 0)

@@ -108,9 +108,7 @@ module _ (whole : ℕ) (opening words : List ℕ) (views : List LineView) (histo
   elsewhere d other = same_elsewhere histories c d (e ∷ []) names other
 
   grows : (d : ℕ) → history_on d after ≡ history_on d histories ++ made_on d (event_entry c (length (history_on c histories)) e ∷ [])
-  grows d = dite (ℕ_discrete d c)
-      (λ (is : d ≡ c). rw (eq-eqb c d (sym is)) (here d is ∙ ap (λ k. history_on k histories ++ e ∷ []) (sym is)))
-      (λ (other : d ≢ c). rw (ne_eqb c d (λ same. other (sym same))) (elsewhere d other ∙ sym (append-nil (history_on d histories))))
+  grows d = grind (arith, eq-eqb, here, ne_eqb, elsewhere, append-nil)
 
   length_here : (d : ℕ) → d ≡ c → length (history_on d after) ≡ length (history_on c histories) + 1
   length_here d is = ap length (here d is) ∙ length_push (history_on c histories) e
@@ -124,9 +122,7 @@ module _ (whole : ℕ) (opening words : List ℕ) (views : List LineView) (histo
   each_after P p q = All-with_more P histories c (e ∷ []) p q
 
   word_after : (d : ℕ) → IsTrue (names_channel d) → get_or (set words (word_place c) new) (word_place d) 0 ≡ history_word (history_on d after)
-  word_after d named = dite (ℕ_discrete d c)
-      (λ (is : d ≡ c). ap (λ t. get_or (set words (word_place c) new) (word_place t) 0) is ∙ (get_or-set_same words (word_place c) new 0 (let n = k.places in let l = channel_places.place_below c names in omega arith) ∙ (sym next.2 ∙ ap history_word (sym (here d is)))))
-      (λ (other : d ≢ c). get_or-set_other words (word_place c) (word_place d) new 0 (λ same. other (one_channel d c named same)) ∙ (k.words_are d named ∙ ap history_word (sym (elsewhere d other))))
+  word_after d named = grind (arith, get_or-set_same, channel_places.place_below, here, get_or-set_other, one_channel, elsewhere)
 
   once_after : (id : ℕ) (v : LineView) → get_elem? views id ≡ some v → TellsOnce after (all_events (set views id (makes v c (length (history_on c histories)) e)))
   once_after id v at d number =

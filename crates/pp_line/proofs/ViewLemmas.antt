@@ -78,16 +78,7 @@ view_finds histories whole opening order v c word is number f =
 -- its program orders go on, perhaps it wrote, and loads are counted
 pub view_beside : (histories : List (List Event)) (whole : ℕ) (opening : List ℕ) (order now : List Access) (v : LineView) (loads : ℕ) (written : List ℕ) (program_orders : List (List Access)) → ExtendsEach now program_orders → (v.shares ≡ 0 → written ≡ [])
     → IsViewOf histories whole opening order v → IsViewOf histories whole opening now (record v { unrecorded_loads = loads; written = written; program_orders = program_orders })
-view_beside histories whole opening order now v loads written program_orders extends none f = record {
-  events_seen = f.events_seen;
-  seen_happened = f.seen_happened;
-  words_found = f.words_found;
-  program_orders = extends;
-  whole_is = f.whole_is;
-  each_channel = f.each_channel;
-  opened_with = f.opened_with;
-  spent = λ z. ((f.spent z).0, none z);
-}
+view_beside histories whole opening order now v loads written program_orders extends none f = grind arith
 
 -- the next event of a channel is made
 pub view_makes : (before after : List (List Event)) (whole : ℕ) (opening : List ℕ) (order : List Access) (v : LineView) (c n : ℕ) (e : Event) → Grow before after → IsTrue (names_channel c)
@@ -112,28 +103,10 @@ view_makes before after whole opening order v c n e grow names now next live f =
 
 -- a share is given away
 pub view_parent : (histories : List (List Event)) (whole : ℕ) (opening : List ℕ) (order : List Access) (v : LineView) → 1 < v.shares → IsViewOf histories whole opening order v → IsViewOf histories whole opening order (parent_view v)
-view_parent histories whole opening order v two f = record {
-  program_orders = f.program_orders;
-  opened_with = λ _. f.opened_with (omega arith);
-  events_seen = f.events_seen;
-  seen_happened = f.seen_happened;
-  words_found = f.words_found;
-  whole_is = λ _. f.whole_is (omega arith);
-  each_channel = λ _. f.each_channel (omega arith);
-  spent = λ z. absurd (omega arith);
-}
+view_parent histories whole opening order v two f = grind arith
 
 pub view_child : (histories : List (List Event)) (whole : ℕ) (opening : List ℕ) (order : List Access) (v : LineView) → 1 < v.shares → IsViewOf histories whole opening order v → IsViewOf histories whole opening order (child_view v)
-view_child histories whole opening order v two f = record {
-  program_orders = empty_order order;
-  opened_with = λ _. f.opened_with (omega arith);
-  events_seen = λ k d l. absurd (omega arith);
-  seen_happened = f.seen_happened;
-  words_found = All-nil (IsFound histories);
-  whole_is = λ _. f.whole_is (omega arith);
-  each_channel = λ _. f.each_channel (omega arith);
-  spent = λ _. (refl, refl);
-}
+view_child histories whole opening order v two f = grind (arith, empty_order)
 
 -- two views as one
 pub view_joined : (histories : List (List Event)) (whole : ℕ) (opening : List ℕ) (order : List Access) (v w : LineView) → 0 < v.shares → 0 < w.shares → IsViewOf histories whole opening order v → IsViewOf histories whole opening order w → IsViewOf histories whole opening order (joined_view v w)
@@ -155,32 +128,16 @@ view_joined histories whole opening order v w live other f g =
     }
 
 pub view_spent : (histories : List (List Event)) (whole : ℕ) (opening : List ℕ) (order : List Access) → IsViewOf histories whole opening order (blank_view 0 0 [] [])
-view_spent histories whole opening order = record {
-  program_orders = empty_order order;
-  opened_with = λ p. absurd (omega arith);
-  events_seen = λ k d l. absurd (omega arith);
-  seen_happened = λ c. omega arith;
-  words_found = All-nil (IsFound histories);
-  whole_is = λ p. absurd (omega arith);
-  each_channel = λ p. absurd (omega arith);
-  spent = λ _. (refl, refl);
-}
+view_spent histories whole opening order = grind (arith, empty_order)
 
 -- Where a word is found that is not the one found last, events came after that one.
 gone_on : (h : List Event) (word before n : ℕ) → HasTwelveBitWords h → history_word h ≡ word → word ≢ before → n ≤ length h → history_word (take n h) ≡ before → number_in before < number_in word
-gone_on h word before n low is other l was =
-    let first : number_in before ≡ n = number_at_word before (take n h) (twelve_bits_take n h low) was ∙ length-take-le n h l in
-    let now : number_in word ≡ length h = number_at_word word h low is in
-    dite (ℕ_discrete n (length h)) (λ (e : n ≡ length h). absurd (other (sym is ∙ (ap history_word (sym (take_all n h (omega arith))) ∙ was)))) (λ d. omega arith)
+gone_on h word before n low is other l was = grind (arith, number_at_word, twelve_bits_take, length-take-le, take_all)
 
 -- the last of the words found
 last_found : (histories : List (List Event)) (founds : List FoundWord) (found : FoundWord) → All (IsFound histories) (founds ++ found ∷ []) → IsFound histories found
-last_found histories founds found p =
-    let more = length_push founds found in
-    subst (IsFound histories) (get_or_push founds found found (length founds) refl) (p (length founds) found (omega arith))
+last_found histories founds found p = grind (arith, length_push, get_or_push)
 
 pub later_found : (histories : List (List Event)) (v : LineView) (c word before : ℕ) → All (IsFound histories) (finds v c before).found → HasTwelveBitWords (history_on c histories)
     → history_word (history_on c histories) ≡ word → word ≢ before → number_in before < number_in word
-later_found histories v c word before p low is other =
-    let last = last_found histories v.found (record { channel = c; word = before }) p in
-    gone_on (history_on c histories) word before last.0 low is other last.1 last.2
+later_found histories v c word before p low is other = grind (arith, last_found, gone_on)

@@ -31,9 +31,7 @@ pub left_there : (deck : LoadedDeck) (n : ℕ) → processor_of n (deck_to_go_on
 left_there deck n = get_or-map (λ (pp : Processor). left_of pp.state pp) deck.machine.processors (processor_index n) no_processor
 
 pub used_there : (deck : LoadedDeck) (n : ℕ) → IsTrue (names_processor n) → get_or (deck_to_go_on deck).named (processor_index n) false ≡ is_in_use deck n
-used_there deck n named =
-    get_or-tabulate processor_count (λ place. is_in_use deck (processor_number place)) (processor_index n) false (processor_places.place_below n named)
-    ∙ ap (is_in_use deck) (processor_places.number_of_place n named)
+used_there deck n named = grind (arith, get_or-tabulate, processor_places.place_below, processor_places.number_of_place)
 
 named_there : (deck : LoadedDeck) (n : ℕ) → IsTrue (names_processor n) → names_of (deck_to_go_on deck) n ≡ is_in_use deck n
 unfolding names_of
@@ -67,10 +65,7 @@ module _ (profile : Profile) where
 
   left_set : (state : PpState) (pp : Processor) → pp.state ≡ state → pp.profile ≡ profile → pp.block ≡ None → left_of state pp ≡ processor_with profile (left_of state pp).memory (start_left state pp)
   unfolding start_left
-  left_set Running pp e its none =
-      ap (λ p. record { profile = p; memory = pp.memory; a = pp.a; p = pp.p; state = pp.state; block = pp.block }) its
-      ∙ ap (λ s. record { profile = profile; memory = pp.memory; a = pp.a; p = pp.p; state = s; block = pp.block }) e
-      ∙ ap (λ b. record { profile = profile; memory = pp.memory; a = pp.a; p = pp.p; state = Running; block = b }) none
+  left_set Running pp e its none = grind arith
   left_set Stopped pp e its none = ap (λ p. record (new_processor p) { memory = pp.memory }) its
   left_set (Fault number) pp e its none = ap (λ p. record (new_processor p) { memory = pp.memory }) its
 
@@ -126,8 +121,7 @@ dump_is_deck deck loaded source steps meant ran between short =
     ∙ ap (λ (b : Bool). Ok (with_dead_start b (deck_to_go_on deck))) (none_opened (deck_to_go_on deck) (unopened deck))
 
 pub goes_on : (text : List ℕ) (deck : LoadedDeck) → text ≡ dump deck → first_busy deck.machine ≡ None → GoesOnFrom text deck
-goes_on text deck is between =
-    λ source loaded steps meant ran short. ap (deck_meaning deck.machine.profile) is ∙ dump_is_deck deck loaded source steps meant ran between (omega (arith, short, ap length is))
+goes_on text deck is between = grind (arith, dump_is_deck)
 
 -- the same of each run of each deck that a text means
 pub dump_law_of : (profile : Profile) (text : List ℕ) (deck : LoadedDeck) (steps : List ℕ) → deck_meaning profile text ≡ Ok deck → first_busy (run steps deck.machine) ≡ None
@@ -146,10 +140,7 @@ lines_left n Running pp e = refl
 lines_left n other pp e = ap (λ (state : PpState). bare (section n) ∷ instruction_lines (word_at pp 0) 0 pp.memory ++ start_line state pp.p pp.a) e
 
 section_left : (deck : LoadedDeck) (n : ℕ) → named_section (deck_to_go_on deck).named deck.machine n ≡ named_section (deck_to_go_on deck).named (deck_to_go_on deck).machine n
-section_left deck n =
-    ap (λ (lines : List ListedLine). cond (is_named (deck_to_go_on deck).named n) lines [])
-    (lines_left n (processor_of n deck.machine).state (processor_of n deck.machine) refl
-    ∙ ap (section_lines n) (sym (left_there deck n)))
+section_left deck n = grind (arith, lines_left, left_there)
 
 flat_same : (f g : ℕ → List ListedLine) (ns : List ℕ) → ((n : ℕ) → f n ≡ g n) → flat_map f ns ≡ flat_map g ns
 flat_same f g [] same = refl

@@ -23,10 +23,7 @@ module _ {A : Type 0} (f : ℕ → Option A) (number : ℕ → ℕ) where
 
   rest_at : (k count : ℕ) → k < count → rest k count ≡ cons_option (f (number k)) (rest (k + 1) count)
   unfolding rest
-  rest_at k count lt = ap (λ (n : ℕ). filter_map f (map number (range_with_len k n))) (split k count lt)
-    where
-      split : (k count : ℕ) → k < count → count - k ≡ suc (count - (k + 1))
-      split k count lt = omega (arith, lt)
+  rest_at k count lt = grind arith
 
   -- the first of these is the first of all
   pub IsFirstFrom : ℕ → ℕ → Type 0
@@ -34,10 +31,7 @@ module _ {A : Type 0} (f : ℕ → Option A) (number : ℕ → ℕ) where
 
   pub from_start : (count : ℕ) → IsFirstFrom 0 count
   unfolding IsFirstFrom rest tabulate
-  from_start count = ap (λ (n : ℕ). slice_get (filter_map f (map number (range_with_len 0 n))) 0) (whole count)
-    where
-      whole : (count : ℕ) → count - 0 ≡ count
-      whole count = omega arith
+  from_start count = grind arith
 
   pub none_more : (k count : ℕ) → k < count → IsFirstFrom k count → f (number k) ≡ None → IsFirstFrom (k + 1) count
   unfolding IsFirstFrom
@@ -49,10 +43,7 @@ module _ {A : Type 0} (f : ℕ → Option A) (number : ℕ → ℕ) where
 
   pub none_found : (k count : ℕ) → count ≤ k → IsFirstFrom k count → None ≡ slice_get (filter_map f (tabulate count number)) 0
   unfolding IsFirstFrom rest
-  none_found k count past h = ap (λ (n : ℕ). slice_get (filter_map f (map number (range_with_len k n))) 0) (over k count past) ∙ h
-    where
-      over : (k count : ℕ) → count ≤ k → 0 ≡ count - k
-      over k count past = omega (arith, past)
+  none_found k count past h = grind arith
 
 no_first : {A : Type 0} (xs ys : List A) → slice_get (xs ++ ys) 0 ≡ None → xs ≡ []
 no_first [] ys e = refl
@@ -82,13 +73,10 @@ first_behind (z ∷ xs) ys e = absurd (cc)
 
 -- what a processor or a channel gives, from its parts
 pub in_processor_there : (m : MachineState) (k n : ℕ) (pp : Processor) (o : Option Busy) → n ≡ k → pp ≡ processor_of n m → o ≡ in_processor n pp.block pp.state → busy_processor m k ≡ o
-in_processor_there m k n pp o is its gives =
-    sym (ap (busy_processor m) is) ∙ sym (ap (λ (q : Processor). in_processor n q.block q.state) its) ∙ sym gives
+in_processor_there m k n pp o is its gives = grind arith
 
 pub on_channel_there : (m : MachineState) (k c : ℕ) (h : List Event) (flags : Flags) (b : Bool) → c ≡ k → h ≡ history_of c m → flags ≡ flags_of h → flags.active ≡ b → busy_channel m k ≡ cond b (Some (Active c)) None
-on_channel_there m k c h flags b at its are is =
-    sym (ap (busy_channel m) at)
-    ∙ ap (λ (on : Bool). cond on (Some (Active c)) None) (ap active (sym its) ∙ sym (ap (λ (f : Flags). f.active) are) ∙ is)
+on_channel_there m k c h flags b at its are is = grind arith
 
 pub first_of_processors : (m : MachineState) (going_on : Busy) → Some going_on ≡ slice_get (filter_map (busy_processor m) all_processors) 0 → Some going_on ≡ slice_get (all_busy m) 0
 unfolding all_busy

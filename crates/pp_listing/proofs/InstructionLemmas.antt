@@ -68,10 +68,7 @@ instructions_read profile size first x (w ∷ m ∷ ws) small le =
 -- ---- the words that the lines set
 
 pub among_at : (first i place : ℕ) (ws : List ℕ) → place ≡ first + i → word_among first ws place ≡ slice_get ws i
-among_at first i place ws e =
-    let yes : leb first place ≡ true = le-leb first place (omega (arith, e)) in
-    let same : place - first ≡ i = omega (arith, e) in
-    rw (yes, same) refl
+among_at first i place ws e = grind (arith, le-leb)
 
 pub among_before : (first place : ℕ) (ws : List ℕ) → place < first → word_among first ws place ≡ None
 among_before first place ws lt = let no : leb first place ≡ false = lt-leb first place lt in rw no refl
@@ -89,9 +86,7 @@ value_if place v true xs ys h k = h refl
 value_if place v false xs ys h k = k refl
 
 value_here : (place v : ℕ) (line : ListedLine) (lines : List ListedLine) → word_for place (says line) ≡ Some v → filter_map (word_for place) (map says lines) ≡ [] → value_at place (line ∷ lines) ≡ v
-value_here place v line lines e h =
-    ap (λ (o : Option ℕ). unwrap_or (last_of (cons_option o (filter_map (word_for place) (map says lines)))) 0) e
-    ∙ ap (λ (xs : List ℕ). unwrap_or (last_of (v ∷ xs)) 0) h
+value_here place v line lines e h = grind (arith, last_of)
 
 value_later : (place : ℕ) (line : ListedLine) (lines : List ListedLine) → word_for place (says line) ≡ None → value_at place (line ∷ lines) ≡ value_at place lines
 value_later place line lines e = ap (λ (o : Option ℕ). unwrap_or (last_of (cons_option o (filter_map (word_for place) (map says lines)))) 0) e
@@ -99,12 +94,8 @@ value_later place line lines e = ap (λ (o : Option ℕ). unwrap_or (last_of (co
 -- a place holds its word
 pub instructions_hold : (first x i place : ℕ) (ws : List ℕ) → place ≡ x + i → value_at place (instruction_lines first x ws) ≡ get_or ws i 0
 instructions_hold first x i place [] e = refl
-instructions_hold first x zero place (w ∷ []) e =
-    value_if place w (eqb w 0) [] (one_word x w first ∷ []) (λ h. sym (eqb-true w 0 h))
-    (λ h. value_here place w (one_word x w first) [] (among_at x 0 place (w ∷ []) e) refl)
-instructions_hold first x (suc i) place (w ∷ []) e =
-    value_if place 0 (eqb w 0) [] (one_word x w first ∷ []) (λ h. refl)
-    (λ h. value_later place (one_word x w first) [] (among_at x (suc i) place (w ∷ []) e))
+instructions_hold first x zero place (w ∷ []) e = grind (arith, value_if, eqb-true, value_here, among_at)
+instructions_hold first x (suc i) place (w ∷ []) e = grind (arith, value_if, value_later, among_at)
 instructions_hold first x zero place (w ∷ m ∷ ws) e =
     let next = below place first (x + 1) (m ∷ ws) (omega (arith, e)) in
     value_if place w (eqb w 0) (instruction_lines first (x + 1) (m ∷ ws)) _ (λ h. ap (λ (xs : List ℕ). unwrap_or (last_of xs) 0) next ∙ sym (eqb-true w 0 h))

@@ -85,8 +85,7 @@ no_word_if n m w true ne = refl
 no_word_if n m w false ne = ap (λ (o : Option ℕ). cons_option o []) (other_word n m w ne (cases_order n m))
 
 head_words : (central : List ℕ) (dead : Bool) (a : ℕ) → filter_map (central_word_for a) (head_of central dead) ≡ filter_map (central_word_for a) (central_lines central)
-head_words central true a =
-    filter_map-append (central_word_for a) (central_size (length central) ∷ central_lines central) (dead_start ∷ []) ∙ append-nil (filter_map (central_word_for a) (central_lines central))
+head_words central true a = grind (arith, filter_map-append, central_lines, append-nil)
 head_words central false a = ap (filter_map (central_word_for a)) (append-nil (central_size (length central) ∷ central_lines central))
 
 pub central_held : (central : List ℕ) (dead : Bool) (named : ℕ → Bool) (pp : ℕ → Processor) (a : ℕ) → a < length central → unwrap_or (last_of (filter_map (central_word_for a) (lines_of_parts central dead named pp))) 0 ≡ get_or central a 0
@@ -127,13 +126,7 @@ dead_if p true = or-false (p dead_start)
 dead_if p false = refl
 
 any_head : (p : Line → Bool) (central : List ℕ) (dead : Bool) → p (central_size (length central)) ≡ false → ((a w : ℕ) → p (central_words a (w ∷ [])) ≡ false) → list_any p (head_of central dead) ≡ (dead && p dead_start)
-any_head p central dead no_size no_word =
-    list_any-append p (central_size (length central) ∷ central_lines central) (dead_line dead)
-    ∙ ap (λ (b : Bool). (b || list_any p (central_lines central)) || list_any p (dead_line dead)) no_size
-    ∙ ap (λ (b : Bool). b || list_any p (dead_line dead))
-    (any_flat p (word_line central) (range_with_len 0 (length central))
-    ∙ any_none (λ a. list_any p (word_line central a)) 0 (length central) (λ a le. line_without p a (get_or central a 0) (eqb (get_or central a 0) 0) (no_word a (get_or central a 0))))
-    ∙ dead_if p dead
+any_head p central dead no_size no_word = grind (arith, list_any-append, central_lines, dead_line, any_flat, word_line, any_none, line_without, dead_if)
 
 -- ---- names
 
@@ -197,10 +190,7 @@ module _ (profile : Profile) where
   starts_of memory (Some s) = refl
 
   pub start_held : (central : List ℕ) (dead : Bool) (named : ℕ → Bool) (pp : ℕ → Processor) (n : ℕ) → n < number_count → named n ≡ true → (memory : List ℕ) (o : Option (ℕ × ℕ)) → pp n ≡ processor_with profile memory o → last_of (filter_map start_in (lines_for n (lines_of_parts central dead named pp))) ≡ o
-  start_held central dead named pp n lt here memory o is =
-      ap last_of (own_held start_in central dead named pp n (λ m. refl) lt ∙ ap (λ (b : Bool). cond b (filter_map start_in (body_of (pp n))) []) here ∙ body_start (pp n))
-      ∙ ap (λ (q : Processor). last_of (filter_map start_in (map says (start_line q.state q.p q.a)))) is
-      ∙ starts_of memory o
+  start_held central dead named pp n lt here memory o is = grind (arith, last_of, own_held, body_of, body_start, starts_of)
 
   -- ---- the whole
 

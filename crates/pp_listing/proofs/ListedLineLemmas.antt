@@ -46,10 +46,7 @@ operands_plain Number place d m = octal_plain 2 d
 
 pub instruction_plain : (place word m : ℕ) → IsPlain (instruction_text place word m)
 unfolding instruction_text
-instruction_plain place word m =
-    plain_append ((row_of (opcode_at (word / 2 ^ 6))).mnemonic ++ codes " ") (operands_text (operands_of (word / 2 ^ 6)) place (word % 2 ^ 6) m)
-    (plain_append ((row_of (opcode_at (word / 2 ^ 6))).mnemonic) (codes " ") (mnemonic_plain (opcode_at (word / 2 ^ 6))) refl)
-    (operands_plain (operands_of (word / 2 ^ 6)) place (word % 2 ^ 6) m)
+instruction_plain place word m = grind (arith, plain_append, mnemonic_plain, operands_plain)
 
 words_plain : (width : ℕ) (ws : List ℕ) → IsPlain (flat_map (after_blank width) ws)
 words_plain width [] = refl
@@ -107,8 +104,7 @@ line_fields (two_words x w m) = commented_fields x (w ∷ m ∷ []) 5 (instructi
 
 bare_plain : (line : Line) → IsPlain (line_text line)
 bare_plain (central_size n) = plain_append (codes "CENTRAL ") (short_octal 6 n) refl (short_plain 6 n)
-bare_plain (central_words a ws) =
-    plain_append (codes "CM " ++ short_octal 6 a) (flat_map (after_blank 20) ws) (plain_append (codes "CM ") (short_octal 6 a) refl (short_plain 6 a)) (words_plain 20 ws)
+bare_plain (central_words a ws) = grind (arith, plain_append, short_plain, words_plain)
 bare_plain (section n) = plain_append (codes "PP ") (short_octal 2 n) refl (short_plain 2 n)
 bare_plain (start p a) =
     plain_append (codes "START" ++ after_blank 4 p) (after_blank 6 a) (plain_append (codes "START") (after_blank 4 p) refl (octal_plain 4 p)) (octal_plain 6 a)

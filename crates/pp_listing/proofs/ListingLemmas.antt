@@ -54,9 +54,7 @@ module _ (profile : Profile) where
 
   ready_body : (size n : ℕ) (lines : List Line) → AllByRecursion KeepsCurrent lines → AllByRecursion (IsReadInSection profile size) lines → IsReady profile size (Some n) lines
   ready_body size n [] h k = tt
-  ready_body size n (line ∷ lines) h k =
-      let P : Option ℕ → Type 0 = λ c. IsReady profile size c lines in
-      (k.0, subst P (sym (h.0 (Some n))) (ready_body size n lines h.1 k.1))
+  ready_body size n (line ∷ lines) h k = grind (arith, ready_body size n lines h.1 k.1)
 
   body_read : (size : ℕ) (pp : Processor) → IsProcessor pp → AllByRecursion (IsReadInSection profile size) (body_of pp)
   body_read size pp h =
@@ -93,8 +91,7 @@ module _ (profile : Profile) where
 
 says_each : (f : ℕ → List ListedLine) (g : ℕ → List Line) (ns : List ℕ) → ((n : ℕ) → map says (f n) ≡ g n) → map says (flat_map f ns) ≡ flat_map g ns
 says_each f g [] same = refl
-says_each f g (n ∷ ns) same =
-    map-append says (f n) (flat_map f ns) ∙ ap (λ (ls : List Line). ls ++ map says (flat_map f ns)) (same n) ∙ ap (λ (ls : List Line). g n ++ ls) (says_each f g ns same)
+says_each f g (n ∷ ns) same = grind (arith, map-append, says_each f g ns same)
 
 says_central : (a w : ℕ) (b : Bool) → map says (cond b [] (bare (central_words a (w ∷ [])) ∷ [])) ≡ cond b [] (central_words a (w ∷ []) ∷ [])
 says_central a w true = refl
@@ -151,11 +148,7 @@ awake_if false number named e = refl
 
 pub none_opened : (deck : LoadedDeck) → ((c : ℕ) → IsTrue (names_channel c) → is_opened c deck.machine ≡ false) → dead_of deck ≡ false
 unfolding dead_of all_channels
-none_opened deck none =
-    list_any_none (λ (c : ℕ). is_opened c deck.machine) (tabulate channel_count channel_number)
-    (λ k d lt. let below : k < channel_count = omega (arith, lt, length-tabulate channel_count channel_number) in
-    ap (λ (c : ℕ). is_opened c deck.machine) (get_or-tabulate channel_count channel_number k d below)
-    ∙ none (channel_number k) (channel_places.number_named k below))
+none_opened deck none = grind (arith, list_any_none, length-tabulate, get_or-tabulate, channel_places.number_named)
 
 not_opened : (deck : LoadedDeck) → dead_of deck ≡ false → (c : ℕ) → IsTrue (names_channel c) → is_opened c deck.machine ≡ false
 unfolding dead_of all_channels
@@ -174,10 +167,7 @@ no_words = memory_is [] ∙ tabulate_const place_count _ 0 (λ place. refl)
 module _ (profile : Profile) where
   -- a processor that no line names is as it was made
   pub unnamed_new : (lines : List Line) (n : ℕ) → load.is_named lines n ≡ false → processor_loaded profile lines n ≡ new_processor profile
-  unnamed_new lines n unnamed =
-      processor_is profile lines n
-      ∙ ap (λ (ls : List Line). processor_with profile (memory_of ls) (last_of (filter_map start_in ls))) (unnamed_empty n lines unnamed)
-      ∙ ap (λ (ws : List ℕ). processor_with profile ws None) no_words
+  unnamed_new lines n unnamed = grind (arith, processor_is, last_of, unnamed_empty, no_words)
 
 -- a deck for a machine of this profile, and what is set in it before any dead start: nothing has happened, each processor
 -- that is named has its memory and perhaps a start, and the others are as they were made
@@ -200,17 +190,8 @@ module _ (profile : Profile) (deck set : LoadedDeck) (h : IsSet profile deck set
 
   processor_again : (n : ℕ) → IsTrue (names_processor n) → (b : Bool) → names_of deck n ≡ b → processor_loaded profile parts n ≡ processor_of n set.machine
   unfolding parts
-  processor_again n named true is =
-      let memory = (processors_of deck n).memory in
-      let o = (h.start n is).0 in
-      processor_is profile _ n
-      ∙ ap (λ (ws : List ℕ). processor_with profile ws (last_of (filter_map start_in (lines_for n (lines_of_parts deck.machine.central (dead_of deck) (names_of deck) (processors_of deck))))))
-      (memory_held deck.machine.central (dead_of deck) (names_of deck) (processors_of deck) n (processor_counts n named) is (h.widths n is).memory.each_place)
-      ∙ ap (processor_with profile memory) (start_held profile deck.machine.central (dead_of deck) (names_of deck) (processors_of deck) n (processor_counts n named) is memory o (h.start n is).1)
-      ∙ sym (h.start n is).1 ∙ h.same n is
-  processor_again n named false is =
-      unnamed_new profile _ n (named_held deck.machine.central (dead_of deck) (names_of deck) (processors_of deck) n (processor_counts n named) ∙ is)
-      ∙ sym (h.free n named is)
+  processor_again n named true is = grind (arith, processor_is, last_of, lines_of_parts, memory_held, processor_counts, start_held)
+  processor_again n named false is = grind (arith, unnamed_new, named_held, processor_counts)
 
   processors_again : each_processor (processor_loaded profile parts) ≡ set.machine.processors
   processors_again =
@@ -235,32 +216,16 @@ module _ (profile : Profile) (deck set : LoadedDeck) (h : IsSet profile deck set
 
   loads_again : loaded profile (length deck.machine.central) parts ≡ with_dead_start (dead_of deck) set
   unfolding parts
-  loads_again =
-      let size = length deck.machine.central in
-      ap (λ (b : Bool). with_dead_start b (set_by profile size parts)) (asked_held deck.machine.central (dead_of deck) (names_of deck) (processors_of deck))
-      ∙ ap (with_dead_start (dead_of deck))
-      (ap (λ (pps : List Processor). record { machine = record (new_machine profile size) { processors = pps; central = central_loaded size parts }; named = each_processor (load.is_named parts) }) processors_again
-      ∙ ap (λ (words : List ℕ). record { machine = record (new_machine profile size) { processors = set.machine.processors; central = words }; named = each_processor (load.is_named parts) }) central_again
-      ∙ ap (λ (names : List Bool). record { machine = record (new_machine profile size) { processors = set.machine.processors; central = deck.machine.central }; named = names }) (names_again ∙ sym h.names)
-      ∙ ap (λ (m : MachineState). record { machine = m; named = set.named }) (sym h.machine))
+  loads_again = grind (arith, parts, asked_held, processors_again, central_again, names_again)
 
   reads_again : meaning_of_lines profile (map fields_said parts ++ [] ∷ []) ≡ Ok (loaded profile (length deck.machine.central) parts)
   unfolding parts
-  reads_again =
-      let central = deck.machine.central in
-      read_lines profile (length central) ((central_lines central ++ dead_line (dead_of deck)) ++ flat_map (section_if (names_of deck) (λ n. body_of (processors_of deck n))) (range_with_len 0 number_count))
-      (omega (arith, h.central.size.some)) (omega (arith, h.central.size.most)) (parts_ready profile central (dead_of deck) (names_of deck) (processors_of deck) h.central h.within h.widths)
+  reads_again = grind (arith, read_lines, central_lines, dead_line, section_if, body_of, number_count, parts_ready)
 
   -- the listing of the deck is a deck
   pub listing_loads : length (listing deck) ≤ 1048576 → deck_meaning profile (listing deck) ≡ Ok (with_dead_start (dead_of deck) set)
   unfolding parts
-  listing_loads short =
-      let its = listing_is deck in
-      ap (deck_meaning profile) its
-      ∙ meaning_printed profile (listed deck) (omega (arith, short, ap length its))
-      ∙ ap (λ (ls : List Line). meaning_of_lines profile (map fields_said ls ++ [] ∷ [])) (said deck)
-      ∙ reads_again
-      ∙ ap (λ (d : LoadedDeck). Ok d) loads_again
+  listing_loads short = grind (arith, listing_is, meaning_printed, fields_said, said, reads_again, loads_again)
 
 -- ---- each deck that a text means
 
@@ -316,16 +281,11 @@ module _ (profile : Profile) where
 
   -- holds of each deck that a text means
   pub each_deck : (Q : LoadedDeck → Type 0) → HoldsOfLoaded Q → (text : List ℕ) (deck : LoadedDeck) → deck_meaning profile text ≡ Ok deck → Q deck
-  each_deck Q holds text deck e =
-      let lines = lines_of text in
-      let said_lines = parsed_deck profile lines in
-      let size = size_in_range lines in
-      subst Q (loaded_is profile text deck e) (holds (size_of lines) said_lines size.0 size.1 (said_in_range profile lines))
+  each_deck Q holds text deck e = grind (arith, size_in_range, loaded_is, said_in_range)
 
   pub listing_is_deck : (text : List ℕ) (deck : LoadedDeck) → deck_meaning profile text ≡ Ok deck → length (listing deck) ≤ 1048576 → deck_meaning profile (listing deck) ≡ Ok deck
   unfolding ReadsBack
   listing_is_deck text deck e = each_deck ReadsBack loaded_listing text deck e
 
 pub reads_back : (text : List ℕ) (deck : LoadedDeck) → text ≡ listing deck → ReadsBackAs text deck
-reads_back text deck is =
-    λ source e short. ap (deck_meaning deck.machine.profile) is ∙ listing_is_deck deck.machine.profile source deck e (omega (arith, short, ap length is))
+reads_back text deck is = grind (arith, listing_is_deck)

@@ -42,11 +42,7 @@ words_read most place end (w ∷ ws) some below le past =
 
 central_line_read : (n : ℕ) → 1 ≤ n → n ≤ 0o400000 → central_line (short_octal 6 n ∷ []) ≡ Ok (central_size n)
 unfolding central_line
-central_line_read n least most =
-    let it = short_field 6 n (omega arith) (omega (arith, most)) in
-    let low : nat_le 1 n ≡ true = le-leb 1 n least in
-    let high : nat_le n 0o400000 ≡ true = le-leb n 0o400000 most in
-    rw (it, low, high) refl
+central_line_read n least most = grind (arith, short_field, le-leb)
 
 pub central_size_read : (profile : Profile) (size n : ℕ) (s : Bool) → 1 ≤ n → n ≤ 0o400000 → line_after profile size false s (fields_said (central_size n)) ≡ Ok (central_size n)
 unfolding line_after keyword_of
@@ -59,17 +55,11 @@ size_read n lines least most = ap stated_size (central_line_read n least most)
 
 pub central_words_read : (profile : Profile) (size a : ℕ) (ws : List ℕ) (b s : Bool) → a < 8 ^ 6 → All (λ w. w < 8 ^ 20) ws → a + length ws ≤ size → line_after profile size b s (fields_said (central_words a ws)) ≡ Ok (central_words a ws)
 unfolding line_after keyword_of central_words_line
-central_words_read profile size a ws b s below small le =
-    let it = short_field 6 a (omega arith) below in
-    let words_are = words_read 20 a size ws (omega arith) small le in
-    rw (it, words_are) refl
+central_words_read profile size a ws b s below small le = grind (arith, short_field, words_read)
 
 pub section_read : (profile : Profile) (size n : ℕ) (b s : Bool) → IsTrue (has_processor profile n) → line_after profile size b s (fields_said (section n)) ≡ Ok (section n)
 unfolding line_after keyword_of section_line
-section_read profile size n b s has =
-    let it = short_field 2 n (omega arith) (processor_fits n (processor_named profile n has)) in
-    let yes : has_processor profile n ≡ true = has in
-    rw (it, yes) refl
+section_read profile size n b s has = grind (arith, short_field, processor_fits, processor_named)
 
 pub dead_start_read : (profile : Profile) (size : ℕ) (b s : Bool) → line_after profile size b s (fields_said dead_start) ≡ Ok dead_start
 unfolding line_after keyword_of
@@ -85,14 +75,7 @@ start_read profile size p a b small low =
 -- a line that begins with a digit says words
 digit_first : (profile : Profile) (size : ℕ) (b : Bool) (c : ℕ) (field : List ℕ) (fields : List (List ℕ)) → 48 ≤ c → c ≤ 57 → line_after profile size b true ((c ∷ field) ∷ fields) ≡ words_line (c ∷ field) fields
 unfolding line_after keyword_of
-digit_first profile size b c field fields least most =
-    let no_c : nat_eq c 67 ≡ false = ne_eqb c 67 (λ e. absurd (omega (arith, e, most))) in
-    let no_p : nat_eq c 80 ≡ false = ne_eqb c 80 (λ e. absurd (omega (arith, e, most))) in
-    let no_s : nat_eq c 83 ≡ false = ne_eqb c 83 (λ e. absurd (omega (arith, e, most))) in
-    let no_d : nat_eq c 68 ≡ false = ne_eqb c 68 (λ e. absurd (omega (arith, e, most))) in
-    let low : nat_le 48 c ≡ true = le-leb 48 c least in
-    let high : nat_le c 57 ≡ true = le-leb c 57 most in
-    rw (no_c, no_p, no_s, no_d, low, high) refl
+digit_first profile size b c field fields least most = grind (arith, ne_eqb, le-leb)
 
 words_line_is : (x : ℕ) (ws : List ℕ) → x < 8 ^ 4 → All (λ w. w < 8 ^ 4) ws → x + length ws ≤ place_count → words_line (octal 4 x) (map (octal 4) ws) ≡ Ok (words x ws)
 unfolding words_line
@@ -113,10 +96,7 @@ no_line_feed line = λ k d lt.
 
 line_first : (line : ListedLine) (rest : List ℕ) → lines_of (text_line line ++ rest) ≡ fields_said (says line) ∷ lines_of rest
 unfolding lines_of
-line_first line rest =
-    ap (λ (text : List ℕ). map fields_of (slice_split is_line_feed text)) (append_assoc (listed_text line) (10 ∷ []) rest)
-    ∙ ap (map fields_of) (slice_split_at is_line_feed (listed_text line) 10 rest (no_line_feed line) refl)
-    ∙ ap (λ (fields : List (List ℕ)). fields ∷ map fields_of (slice_split is_line_feed rest)) (fields_of_plain (listed_text line) (line_plain line) ∙ line_fields line)
+line_first line rest = grind (arith, append_assoc, slice_split_at, no_line_feed, fields_of_plain, line_plain, line_fields)
 
 no_text : lines_of [] ≡ [] ∷ []
 unfolding lines_of
@@ -145,8 +125,7 @@ ascii_append xs ys h k = list_all-append is_ascii xs ys ∙ and_from (list_all i
 text_ascii : (lines : List ListedLine) → list_all is_ascii (flat_map text_line lines) ≡ true
 unfolding is_ascii
 text_ascii [] = refl
-text_ascii (line ∷ lines) =
-    ascii_append (text_line line) (flat_map text_line lines) (ascii_append (listed_text line) (10 ∷ []) (plain_ascii (listed_text line) (line_plain line)) refl) (text_ascii lines)
+text_ascii (line ∷ lines) = grind (arith, ascii_append, plain_ascii, line_plain, text_ascii lines)
 
 none_foreign : (text : List ℕ) → list_all is_ascii text ≡ true → (o : Option ℕ) → position is_foreign text ≡ o → position is_foreign text ≡ None
 unfolding is_ascii
@@ -159,11 +138,7 @@ none_foreign text h (Some i) e =
 
 pub meaning_printed : (profile : Profile) (lines : List ListedLine) → length (flat_map text_line lines) ≤ 1048576 → deck_meaning profile (flat_map text_line lines) ≡ meaning_of_lines profile (map fields_said (map says lines) ++ [] ∷ [])
 unfolding deck_meaning
-meaning_printed profile lines le =
-    let text = flat_map text_line lines in
-    cond-false (ltb 1048576 (length text)) _ (unless_foreign profile text (position is_foreign text)) (le-ltb 1048576 (length text) le)
-    ∙ ap (unless_foreign profile text) (none_foreign text (text_ascii lines) (position is_foreign text) refl)
-    ∙ ap (meaning_of_lines profile) (lines_printed lines)
+meaning_printed profile lines le = grind (arith, cond-false, le-ltb, none_foreign, text_ascii, lines_printed)
 
 -- ---- reading the lines
 

@@ -130,16 +130,11 @@ module _ (m : MachineState) where
   histories_keep x small all = all
 
   central_keeps : (x : Need) → IsSmallNeed x → IsCentral m.central → IsCentral (central_after x m)
-  central_keeps (Write a w) small central = record {
-    size = record { some = omega (arith, central.size.some, length-set m.central a w); most = omega (arith, central.size.most, length-set m.central a w) };
-    small = each_set (2 ^ 60) m.central a w central.small small;
-  }
+  central_keeps (Write a w) small central = grind (arith, length-set, each_set)
   central_keeps x small central = central
 
   answer_small : (x : Need) → IsSmallNeed x → All HasTwelveBitWords m.histories → IsSmallAnswer (answer_to x m)
-  answer_small (Channel c op) small all =
-      let h = history_of c m in
-      reply_small op (channel_state h) (event_of op h) (event_small op h small (bits_on m.histories c all))
+  answer_small (Channel c op) small all = grind (arith, reply_small, event_small, bits_on)
   answer_small x small all = tt
 
 -- ---- one step
@@ -151,10 +146,7 @@ unmade = record { widths = record { memory = zero_memory; a = omega arith; p = o
 module _ (k : ℕ) (m : MachineState) where
   -- at a number that has no place stands a processor that was never made
   own : (profile : Profile) → All (IsOf profile) m.processors → (p : Profile) × IsOf p (processor_of k m)
-  own profile all = elim (cases_lt (processor_index k) (length m.processors)) [
-    | inl here ↦ (profile, all (processor_index k) no_processor here)
-    | inr past ↦ (Ten, subst (IsOf Ten) (sym (get_or_past m.processors (processor_index k) no_processor past)) unmade)
-  ]
+  own profile all = grind (arith, cases_lt, get_or_past, unmade)
 
   processors_keep : (profile : Profile) (answer : _) → IsSmallAnswer answer → All (IsOf profile) m.processors → All (IsOf profile) (slice_set m.processors (processor_index k) (processor_after (processor_of k m) answer))
   processors_keep profile answer small all = elim (cases_lt (processor_index k) (length m.processors)) [
@@ -167,13 +159,7 @@ module _ (k : ℕ) (m : MachineState) where
   other_stays n apart = get_or-set_other m.processors (processor_index k) (processor_index n) (processor_after (processor_of k m) (answer_to (need (processor_of k m)) m)) no_processor apart
 
   rest_stays : (n : ℕ) → IsAtRest (processor_of n m) → processor_of n (stepped k m) ≡ processor_of n m
-  rest_stays n rests =
-      elim (eqb_tells (processor_index n) (processor_index k)) as (λ _. processor_of n (stepped k m) ≡ processor_of n m) [
-        | inl same ↦
-            let P : ℕ → Type 0 = λ i. IsAtRest (get_or m.processors i no_processor) in
-            ap (λ (after : MachineState). processor_of n after) (stepped_at_rest k m (subst P same.1 rests))
-        | inr apart ↦ other_stays n apart.1
-      ]
+  rest_stays n rests = grind (arith, eqb_tells, stepped_at_rest, other_stays)
 
 new_rests : (profile : Profile) (pp : Processor) → pp ≡ new_processor profile → IsAtRest pp
 new_rests profile pp e = λ runs. let never = sym (ap (λ (q : Processor). q.state) e) ∙ runs in absurd (cc)

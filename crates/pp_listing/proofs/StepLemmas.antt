@@ -48,9 +48,7 @@ number_fits : (bs : List Bool) → length bs ≤ 18 → number_of bs < 2 ^ 18
 number_fits bs short = omega (arith, number_small bs, pow-le-pow_right {n = 2} (lit< tt) {i = length bs} {j = 18} short)
 
 combined_small : (f : Bool → Bool → Bool) (a b : ℕ) → combination f a b < 2 ^ 18
-combined_small f a b =
-    let pairs = zip (bits_of a) (bits_of b) in
-    number_fits (map (λ pair. f pair.0 pair.1) pairs) (omega (arith, length-map pairs (λ pair. f pair.0 pair.1), length-zip (bits_of a) (bits_of b), length-lowest_bits 18 a, length-lowest_bits 18 b))
+combined_small f a b = grind (arith, zip, number_fits, length-map, length-zip, length-lowest_bits)
 
 pub conjunction_small : (a b : ℕ) → logical_product a b < 2 ^ 18
 conjunction_small a b = combined_small (λ x y. x && y) a b
@@ -69,10 +67,7 @@ one_of true x y most h k = h
 one_of false x y most h k = k
 
 pub shifted_small : (a d : ℕ) → shift a d < 2 ^ 18
-shifted_small a d =
-    one_of (nat_lt d 0o40) (number_of (rotation d (bits_of a))) (number_of (right_shift (0o77 - d) (bits_of a))) (2 ^ 18)
-    (number_fits (rotation d (bits_of a)) (omega (arith, (length-lowest_bits 18 a), length-append (drop (18 - d % 18) (bits_of a)) (take (18 - d % 18) (bits_of a)), length-drop (18 - d % 18) (bits_of a), length-take (18 - d % 18) (bits_of a))))
-    (number_fits (right_shift (0o77 - d) (bits_of a)) (omega (arith, (length-lowest_bits 18 a), length-append (drop (0o77 - d) (bits_of a)) (replicate (min (0o77 - d) 18) false), length-drop (0o77 - d) (bits_of a), length-replicate {A = Bool} (min (0o77 - d) 18) false)))
+shifted_small a d = grind (arith, one_of, number_fits, length-lowest_bits, length-append, length-drop, length-take, length-replicate)
 
 pub sum_small : (a b : ℕ) → sum a b < 2 ^ 18
 sum_small a b = one_of _ all_ones ((a + b) % all_ones) (2 ^ 18) (omega arith) (omega arith)
@@ -84,11 +79,7 @@ pub next_small : (p : ℕ) → next_place p < 2 ^ 12
 next_small p = omega arith
 
 pub indexed_small : (m x : ℕ) → m < 2 ^ 12 → x < 2 ^ 12 → indexed m x < 2 ^ 12
-indexed_small m x h k = by (nat_lt (m + x) place_count) refl
-  where
-    by : (b : Bool) → nat_lt (m + x) place_count ≡ b → (if b then m + x else m + x - 0o7777) < 2 ^ 12
-    by true e = omega (arith, ltb-true (m + x) place_count e)
-    by false e = omega (arith, h, k)
+indexed_small m x h k = grind (arith, ltb-true)
 
 pub relative_small : (p d : ℕ) → relative_to p d < 2 ^ 12
 relative_small p d = one_of (nat_lt d 0o40) ((p + d) % place_count) ((p + place_count - (0o77 - d)) % place_count) (2 ^ 12) (omega arith) (omega arith)
@@ -107,10 +98,7 @@ each_set most (v ∷ ws) (suc k) w h small zero = h zero
 each_set most (v ∷ ws) (suc k) w h small (suc i) = each_set most ws k w (λ j. h (suc j)) small i
 
 stored : (memory : List ℕ) (place word : ℕ) → IsMemory memory → word < 2 ^ 12 → IsMemory (slice_set memory place word)
-stored memory place word h small = record {
-  each_place = length-set memory place word ∙ h.each_place;
-  each_word = each_set (2 ^ 12) memory place word h.each_word small;
-}
+stored memory place word h small = grind (arith, length-set, each_set)
 
 -- words that have 12 bits
 abbrev AllSmall : List ℕ → Type 0
@@ -300,10 +288,7 @@ module _ (profile : Profile) where
   either_step false step other k l = l
 
   step_keeps : (block : Option Block) (pp : Processor) → IsOf profile pp → StepKeeps (step_of block pp)
-  step_keeps None pp h =
-      let op = operation pp in
-      let d = lower_six pp in
-      either_step (works_on_channel op && not (has_channel pp.profile d)) (local (faults pp 3)) (row op pp d) (at_rest pp h (Fault 3) None) (row_keeps op pp d h (omega arith))
+  step_keeps None pp h = grind (arith, either_step, row_keeps)
   step_keeps (Some block) pp h = block_keeps block.kind block.place pp h
 
   pub next_keeps : (pp : Processor) → IsOf profile pp → StepKeeps (next_step pp)

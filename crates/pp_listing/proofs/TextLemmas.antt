@@ -32,21 +32,12 @@ zero_first first x w (m ∷ ws) e = let is : eqb w 0 ≡ true = eq-eqb w 0 e in 
 one_first : (first x w : ℕ) (ws : List ℕ) → w ≢ 0 → (0 < length ws → is_long w ≡ false) → instruction_lines first x (w ∷ ws) ≡ one_word x w (next_of first ws) ∷ instruction_lines first (x + 1) ws
 unfolding next_of
 one_first first x w [] ne short = let is : eqb w 0 ≡ false = ne_eqb w 0 ne in rw is refl
-one_first first x w (m ∷ ws) ne short =
-    cond-false (eqb w 0) _ _ (ne_eqb w 0 ne) ∙ cond-false (is_long w) _ _ (short (omega arith))
+one_first first x w (m ∷ ws) ne short = grind (arith, cond-false, ne_eqb)
 
 -- the word at the next place
 next_is : (memory : List ℕ) (place : ℕ) → length memory ≡ place_count → place < place_count → next_of (get_or memory 0 0) (drop (place + 1) memory) ≡ get_or memory (next_place place) 0
 unfolding next_of
-next_is memory place long lt = by (cases_lt (place + 1) place_count)
-  where
-    by : (place + 1 < place_count) ⊎ (place_count ≤ place + 1) → next_of (get_or memory 0 0) (drop (place + 1) memory) ≡ get_or memory (next_place place) 0
-    by (inl more) =
-        let is : place + 1 ≡ next_place place = omega (arith, more) in
-        ap (next_of (get_or memory 0 0)) (drop_more memory (place + 1) 0 (omega (arith, more, long))) ∙ ap (λ (i : ℕ). get_or memory i 0) is
-    by (inr last) =
-        let is : 0 ≡ next_place place = omega (arith, lt, last) in
-        ap (next_of (get_or memory 0 0)) (drop_all (place + 1) memory (omega (arith, last, long))) ∙ ap (λ (i : ℕ). get_or memory i 0) is
+next_is memory place long lt = grind (arith, cases_lt, next_of, drop_more, drop_all)
 
 -- the lines from a place on
 lines_from : ℕ → List ℕ → List ListedLine
@@ -62,15 +53,11 @@ before_first memory = refl
 
 -- a text that goes on by one line
 line_passed : (whole text more : List ℕ) (line : ListedLine) (now behind : List ListedLine) → now ≡ line ∷ behind → more ≡ text ++ text_line line → text ++ flat_map text_line now ≡ whole → more ++ flat_map text_line behind ≡ whole
-line_passed whole text more line now behind are is h =
-    ap (λ (bytes : List ℕ). bytes ++ flat_map text_line behind) is
-    ∙ append_assoc text (text_line line) (flat_map text_line behind)
-    ∙ sym (ap (λ (ls : List ListedLine). text ++ flat_map text_line ls) are) ∙ h
+line_passed whole text more line now behind are is h = grind (arith, append_assoc)
 
 pub all_passed : (whole text memory : List ℕ) (place : ℕ) → length memory ≤ place → IsSoFar whole text place memory → text ≡ whole
 unfolding IsSoFar lines_from
-all_passed whole text memory place le h =
-    sym (append-nil text) ∙ sym (ap (λ (ws : List ℕ). text ++ flat_map text_line (instruction_lines (get_or memory 0 0) place ws)) (drop_all place memory le)) ∙ h
+all_passed whole text memory place le h = grind (arith, append-nil, drop_all)
 
 -- ---- one step of the loop over places
 
@@ -78,9 +65,7 @@ here : (memory : List ℕ) (place at word : ℕ) → place < place_count → at 
 here memory place at word lt is_at is_word = let at_is : at ≡ place = omega (arith, is_at, lt) in is_word ∙ ap (λ (i : ℕ). get_or memory i 0) at_is
 
 behind : (memory : List ℕ) (place at after m : ℕ) → place < place_count → at ≡ place % 2 ^ 12 → after ≡ next_place at → m ≡ get_or memory after 0 → m ≡ get_or memory (next_place place) 0
-behind memory place at after m lt is_at is_after is_m =
-    let after_is : after ≡ next_place place = omega (arith, is_at, is_after, lt) in
-    is_m ∙ ap (λ (i : ℕ). get_or memory i 0) after_is
+behind memory place at after m lt is_at is_after is_m = grind arith
 
 pub zero_step : (whole text memory : List ℕ) (place at word got : ℕ) → length memory ≡ place_count → place < place_count → at ≡ place % 2 ^ 12 → word ≡ get_or memory at 0 → got ≡ word → got ≡ 0 → IsSoFar whole text place memory → IsSoFar whole text (place + 1) memory
 unfolding IsSoFar lines_from
@@ -127,11 +112,7 @@ pub central_word_zero : (central : List ℕ) (a : ℕ) → get_or central a 0 �
 central_word_zero central a e = let is : eqb (get_or central a 0) 0 ≡ true = eq-eqb (get_or central a 0) 0 e in rw is refl
 
 pub central_word_some : (central : List ℕ) (a w : ℕ) → get_or central a 0 ≡ w → w ≢ 0 → deck_line (central_words a (w ∷ [])) ≡ flat_map text_line (central_word_line central a)
-central_word_some central a w is ne =
-    let not : eqb (get_or central a 0) 0 ≡ false = ne_eqb (get_or central a 0) 0 (λ e. ne (sym is ∙ e)) in
-    ap (λ (v : ℕ). deck_line (central_words a (v ∷ []))) (sym is)
-    ∙ sym (append-nil (text_line (bare (central_words a (get_or central a 0 ∷ [])))))
-    ∙ sym (ap (λ (b : Bool). flat_map text_line (cond b [] (bare (central_words a (get_or central a 0 ∷ [])) ∷ []))) not)
+central_word_some central a w is ne = grind (arith, ne_eqb, append-nil)
 
 address_is : (a t : ℕ) → a < 2 ^ 18 → t ≡ a % 2 ^ 18 → t ≡ a
 address_is a t lt e = omega (arith, lt, e)
@@ -159,9 +140,7 @@ listing_in_parts deck =
 -- ---- lines in pieces
 
 pub central_line_pieces : (a first w : ℕ) → first ≡ a → (((codes "CM " ++ short_octal 6 first) ++ 32 ∷ []) ++ octal 20 w) ++ 10 ∷ [] ≡ deck_line (central_words a (w ∷ []))
-central_line_pieces a first w is =
-    ap (λ (x : ℕ). (((codes "CM " ++ short_octal 6 x) ++ 32 ∷ []) ++ octal 20 w) ++ 10 ∷ []) is
-    ∙ ap (λ (xs : List ℕ). xs ++ 10 ∷ []) (append_assoc (codes "CM " ++ short_octal 6 a) (32 ∷ []) (octal 20 w) ∙ ap (λ (xs : List ℕ). (codes "CM " ++ short_octal 6 a) ++ xs) (sym (append-nil (32 ∷ octal 20 w))))
+central_line_pieces a first w is = grind (arith, codes, append_assoc, append-nil)
 
 pub section_line_pieces : (n first : ℕ) → first ≡ n → (codes "PP " ++ short_octal 2 first) ++ 10 ∷ [] ≡ deck_line (section n)
 section_line_pieces n first is = ap (λ (x : ℕ). (codes "PP " ++ short_octal 2 x) ++ 10 ∷ []) is

@@ -29,12 +29,7 @@ sum-small : (a n : ℕ) → 0 < n → n < 2 ^ 12 → sum a n ≡ (a + n) % all_o
 sum-small a n h k = let other : (n == all_ones) ≡ false = grind (arith, common_steps) in grind (arith, common_steps)
 
 sum-sum : (a n : ℕ) → 0 < n → n + 1 < 2 ^ 12 → sum (sum a 1) n ≡ sum a (n + 1)
-sum-sum a n h k =
-    let first : sum a 1 ≡ (a + 1) % all_ones = sum-small a 1 (omega arith) (omega arith) in
-    let second : sum (sum a 1) n ≡ (sum a 1 + n) % all_ones = sum-small (sum a 1) n h (omega arith) in
-    let both : sum a (n + 1) ≡ (a + (n + 1)) % all_ones = sum-small a (n + 1) (omega arith) k in
-    let joined : ((a + 1) % all_ones + n) % all_ones ≡ (a + (n + 1)) % all_ones = omega arith in
-    second ∙ ap (λ x. (x + n) % all_ones) first ∙ joined ∙ sym both
+sum-sum a n h k = grind (arith, sum-small)
 
 pub address_of-some : (a n : ℕ) → 0 < n → address_of a n ≡ sum a n
 address_of-some a n h = let some : (n == 0) ≡ false = grind (arith, common_steps) in rw some refl
@@ -82,10 +77,7 @@ module _ (profile : Profile) where
   -- words that come in, up to as many as A says
   pub inputs : (words memory : List ℕ) (a p channel m i : ℕ) → length words ≤ a → a < 2 ^ 18 →
       Gives (position a memory a p (Input channel) (place_after m i)) (map (λ word. Channel (Word word)) words) (position (a - length words) (stored memory m i words) (a - length words) p (Input channel) (place_after m (i + length words)))
-  inputs [] memory a p channel m i h k =
-      let same : a - 0 ≡ a = omega arith in
-      let here : i + 0 ≡ i = omega arith in
-      rw (same, here, stored-nil) refl
+  inputs [] memory a p channel m i h k = grind (arith, stored-nil)
   inputs (word ∷ words) memory a p channel m i h k =
       let place = place_after m i in
       let memory' = slice_set memory place word in
@@ -125,22 +117,8 @@ module _ (profile : Profile) where
   -- words that go out, up to as many as A says
   pub outputs : (count : ℕ) (memory : List ℕ) (a p channel m i : ℕ) → count ≤ a → a < 2 ^ 18 →
       Gives (position a memory a p (Output channel) (place_after m i)) (replicate count (Channel Done)) (position (a - count) memory (a - count) p (Output channel) (place_after m (i + count)))
-  outputs zero memory a p channel m i h k =
-      let same : a - 0 ≡ a = omega arith in
-      let here : i + 0 ≡ i = omega arith in
-      rw (same, here) refl
-  outputs (suc count) memory a p channel m i h k =
-      let place = place_after m i in
-      let some : 0 < a = omega arith in
-      let middle = position (a - 1) memory (a - 1) p (Output channel) (place_after m (i + 1)) in
-      let after : processor_after (midway memory a p (Output channel) place) (Channel Done) ≡ middle = output_word memory a p channel place some k ∙ ap (λ x. position (a - 1) memory (a - 1) p (Output channel) x) (next-place_from m i) in
-      let rest = outputs count memory (a - 1) p channel m (i + 1) (omega arith) (omega arith) in
-      let fewer : a - 1 - count ≡ a - suc count = omega arith in
-      let further : i + 1 + count ≡ i + suc count = omega arith in
-      let same = ap (λ n. position n memory n p (Output channel) (place_after m (i + 1 + count))) fewer
-      ∙ ap (λ n. position (a - suc count) memory (a - suc count) p (Output channel) (place_after m n)) further in
-      rw (position-some a memory a p (Output channel) place some)
-      (Gives-cons (midway memory a p (Output channel) place) middle _ (Channel Done) (replicate count (Channel Done)) (output_fits memory a p channel place) after (Gives-to middle _ _ (replicate count (Channel Done)) rest same))
+  outputs zero memory a p channel m i h k = grind arith
+  outputs (suc count) memory a p channel m i h k = grind (arith, position, midway, output_word, next-place_from, position-some, output_fits, outputs count memory (a - 1) p channel m (i + 1) (omega arith) (omega arith))
 
   central_in_word : (left : ℕ) (memory : List ℕ) (a p place central : ℕ) →
       processor_after (midway memory a p (CentralIn left) place) (Read (Some central)) ≡ position (left - 1) (stored_from memory place (parts_of central)) (sum a 1) p (CentralIn (left - 1)) ((place + 5) % place_count)
@@ -156,10 +134,7 @@ module _ (profile : Profile) where
   pub centrals_in : (centrals : List ℕ) (left : ℕ) (memory : List ℕ) (a p m i : ℕ) → length centrals ≤ left →
       length centrals < 2 ^ 12 →
       Gives (position left memory a p (CentralIn left) (place_after m i)) (map (λ central. Read (Some central)) centrals) (position (left - length centrals) (stored memory m i (parts_of_all centrals)) (address_of a (length centrals)) p (CentralIn (left - length centrals)) (place_after m (i + 5 * length centrals)))
-  centrals_in [] left memory a p m i h k =
-      let same : left - 0 ≡ left = omega arith in
-      let here : i + 5 * 0 ≡ i = omega arith in
-      rw (same, here, stored-no_parts) refl
+  centrals_in [] left memory a p m i h k = grind (arith, stored-no_parts)
   centrals_in (central ∷ centrals) left memory a p m i h k =
       let place = place_after m i in
       let n = length centrals in
@@ -190,23 +165,8 @@ module _ (profile : Profile) where
   -- central words that go out, up to as many as are left
   pub centrals_out : (count left : ℕ) (memory : List ℕ) (a p m i : ℕ) → count ≤ left → count < 2 ^ 12 →
       Gives (position left memory a p (CentralOut left) (place_after m i)) (replicate count (Wrote true)) (position (left - count) memory (address_of a count) p (CentralOut (left - count)) (place_after m (i + 5 * count)))
-  centrals_out zero left memory a p m i h k =
-      let same : left - 0 ≡ left = omega arith in
-      let here : i + 5 * 0 ≡ i = omega arith in
-      rw (same, here) refl
-  centrals_out (suc n) left memory a p m i h k =
-      let place = place_after m i in
-      let some : 0 < left = omega arith in
-      let middle = position (left - 1) memory (sum a 1) p (CentralOut (left - 1)) (place_after m (i + 5)) in
-      let after : processor_after (midway memory a p (CentralOut left) place) (Wrote true) ≡ middle = central_out_word left memory a p place ∙ ap (λ x. position (left - 1) memory (sum a 1) p (CentralOut (left - 1)) x) (five_on m i) in
-      let rest = centrals_out n (left - 1) memory (sum a 1) p m (i + 5) (omega arith) (omega arith) in
-      let fewer : left - 1 - n ≡ left - suc n = omega arith in
-      let further : i + 5 + 5 * n ≡ i + 5 * suc n = omega arith in
-      let same = ap (λ x. position x memory (address_of (sum a 1) n) p (CentralOut x) (place_after m (i + 5 + 5 * n))) fewer
-      ∙ ap (λ x. position (left - suc n) memory (address_of (sum a 1) n) p (CentralOut (left - suc n)) (place_after m x)) further
-      ∙ ap (λ x. position (left - suc n) memory x p (CentralOut (left - suc n)) (place_after m (i + 5 * suc n))) (address_of-more n a (omega arith)) in
-      rw (position-some left memory a p (CentralOut left) place some)
-      (Gives-cons (midway memory a p (CentralOut left) place) middle _ (Wrote true) (replicate n (Wrote true)) (central_out_fits left memory a p place) after (Gives-to middle _ _ (replicate n (Wrote true)) rest same))
+  centrals_out zero left memory a p m i h k = grind arith
+  centrals_out (suc n) left memory a p m i h k = grind (arith, position, midway, central_out_word, five_on, address_of-more, position-some, central_out_fits, centrals_out n (left - 1) memory (sum a 1) p m (i + 5) (omega arith) (omega arith))
 
   -- what a block needs midway
   pub input_need : (left : ℕ) (memory : List ℕ) (a p channel place : ℕ) → 0 < left →
@@ -231,6 +191,4 @@ module _ (profile : Profile) where
 
   pub central_out_need : (left : ℕ) (memory : List ℕ) (a p place : ℕ) → 0 < left →
       need (position left memory a p (CentralOut left) place) ≡ needs.Write a (central_from (midway memory a p (CentralOut left) place) place)
-  central_out_need left memory a p place h =
-      ap (λ t. need t) (position-some left memory a p (CentralOut left) place h)
-      ∙ central_out_need_midway left memory a p place
+  central_out_need left memory a p place h = grind (arith, position-some, central_out_need_midway)

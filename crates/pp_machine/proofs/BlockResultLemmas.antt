@@ -56,10 +56,7 @@ module _ (profile : Profile) where
   pub started : (memory : List ℕ) (a p count : ℕ) (kind : BlockKind) (xs : List Answer) (new : Processor) →
       IsMemory memory →
       instruction (operation (idle profile memory a p)) (idle profile memory a p) (lower_six (idle profile memory a p)) ≡ local (starts (idle profile memory a p) count kind) → Gives (position profile count (kept_memory (idle profile memory a p)) a p kind (place_after (second_word (idle profile memory a p)) 0)) xs new → Gives (idle profile memory a p) (Local ∷ xs) new
-  started memory a p count kind xs new is_memory e g =
-      let kept = kept_memory (idle profile memory a p) in
-      let here = ap (λ x. position profile count kept a p kind x) (sym (place_from-zero memory a p is_memory)) in
-      Gives-cons (idle profile memory a p) (position profile count kept a p kind (place_after (second_word (idle profile memory a p)) 0)) new Local xs (start_fits memory a p count kind e) (start_after memory a p count kind e ∙ here) g
+  started memory a p count kind xs new is_memory e g = grind (arith, idle, position, place_from-zero, start_fits, start_after)
 
   input_row : (memory : List ℕ) (a p : ℕ) → operation (idle profile memory a p) ≡ IAM →
       has_channel profile (lower_six (idle profile memory a p)) ≡ true →
@@ -84,9 +81,7 @@ module _ (profile : Profile) where
   -- a block that is over has ended
   ends_over : (pp : Processor) (xs : List Answer) (memory : List ℕ) (a : ℕ) → Gives pp xs (over profile memory a) →
       EndsBlock pp xs a
-  ends_over pp xs memory a g =
-      let e : replayed pp xs ≡ over profile memory a = replayed-Gives xs pp (over profile memory a) g in
-      record { given = given_count-Gives xs pp (over profile memory a) g; a = ap (λ t. t.a) e; p = rw e refl; running = ap (λ t. t.state) e; free = ap (λ t. t.block) e }
+  ends_over pp xs memory a g = grind (arith, over, replayed-Gives, given_count-Gives)
 
   memory_over : (pp : Processor) (xs : List Answer) (memory : List ℕ) (a : ℕ) → Gives pp xs (over profile memory a) →
       (replayed pp xs).memory ≡ memory

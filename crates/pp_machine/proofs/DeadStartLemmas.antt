@@ -21,12 +21,7 @@ use Rattle.pp_numbers.proofs.PpNoLemmas.{channel_of_processor}
 
 -- a front of a list, at any place but the next
 same_in_front : (place i : ℕ) (bs : List Bool) → i ≢ place → get_or (take (place + 1) bs) i false ≡ get_or (take place bs) i false
-same_in_front place i bs other =
-    ⊎_elim (λ (l : i < place). get_or-take (place + 1) bs i false (omega arith) ∙ sym (get_or-take place bs i false l))
-    (λ (l : place ≤ i).
-    let more = length-take (place + 1) bs in
-    let few = length-take place bs in
-    get_or_past (take (place + 1) bs) i false (omega (arith, more, other, l)) ∙ sym (get_or_past (take place bs) i false (omega (arith, few, l)))) (cases_lt i place)
+same_in_front place i bs other = grind (arith, get_or-take, length-take, get_or_past, cases_lt)
 
 -- nobody waits at first
 none_waits : (c : ℕ) → waits [] c ≡ false
@@ -34,32 +29,18 @@ none_waits c = ⊎_elim (λ (t : names_processor c ≡ true). rw t refl) (λ (t 
 
 -- of the next processor it counts whether it waits
 waits_next : (place : ℕ) (bs : List Bool) → place < processor_count → waits (take (place + 1) bs) (processor_number place) ≡ get_or bs place false
-waits_next place bs below =
-    ap (λ i. names_processor (processor_number place) && get_or (take (place + 1) bs) i false) (processor_places.place_of_number place below)
-    ∙ (ap (λ b. b && get_or (take (place + 1) bs) place false) (processor_places.number_named place below) ∙ get_or-take (place + 1) bs place false (omega arith))
+waits_next place bs below = grind (arith, processor_places.place_of_number, processor_places.number_named, get_or-take)
 
 waits_not_yet : (place : ℕ) (bs : List Bool) → place < processor_count → waits (take place bs) (processor_number place) ≡ false
-waits_not_yet place bs below =
-    let few = length-take place bs in
-    ap (λ i. names_processor (processor_number place) && get_or (take place bs) i false) (processor_places.place_of_number place below)
-    ∙ (ap (λ b. b && get_or (take place bs) place false) (processor_places.number_named place below) ∙ get_or_past (take place bs) place false (omega (arith, few)))
+waits_not_yet place bs below = grind (arith, length-take, processor_places.place_of_number, processor_places.number_named, get_or_past)
 
 -- of every other processor it is known already
 waits_other : (place : ℕ) (bs : List Bool) (c : ℕ) → place < processor_count → c ≢ processor_number place → waits (take (place + 1) bs) c ≡ waits (take place bs) c
-waits_other place bs c below other =
-    ⊎_elim (λ (t : names_processor c ≡ true).
-    let apart : processor_index c ≢ place = λ is. other (sym (processor_places.number_of_place c t) ∙ ap processor_number is) in
-    ap (λ b. names_processor c && b) (same_in_front place (processor_index c) bs apart))
-    (λ (t : names_processor c ≡ false). rw t refl) (cases_Bool (names_processor c))
+waits_other place bs c below other = grind (arith, processor_places.number_of_place, same_in_front, cases_Bool)
 
 -- no channel was opened before the first turn
 pub not_opened : (m : MachineState) (c : ℕ) → IsBeforeFirstTurn m → HoldsOnEachChannel m → IsTrue (names_channel c) → is_opened c m ≡ false
-not_opened m c before headline named =
-    ⊎_elim (λ (t : is_opened c m ≡ true).
-    let some : opening_history c m ≡ Activate ∷ [] = ap (λ b. if b then Activate ∷ [] else []) t in
-    let long : length ((Activate ∷ []) ++ events_on c m.trace) ≡ 0 = ap (λ h. length (h ++ events_on c m.trace)) (sym some) ∙ ap length (sym (headline c named).traced ∙ before.histories c named) in
-    absurd (omega (arith, long)))
-    (λ (t : is_opened c m ≡ false). t) (cases_Bool (is_opened c m))
+not_opened m c before headline named = grind (arith, cases_Bool)
 
 -- where nobody waits nothing changes
 pub none_started : (m : MachineState) → IsBeforeFirstTurn m → IsMachine m → dead_started [] m ≡ m
@@ -119,9 +100,7 @@ started_more p q m n named not_yet now same =
     λ x. record m { processors = processors x; histories = histories x; opened = opened x }
 
 pub one_more : (place : ℕ) (bs : List Bool) (m : MachineState) → place < processor_count → get_or bs place false ≡ true → with_waiting (processor_number place) (dead_started (take place bs) m) ≡ dead_started (take (place + 1) bs) m
-one_more place bs m below waiting =
-    started_more (waits (take place bs)) (waits (take (place + 1) bs)) m (processor_number place) (processor_places.number_named place below)
-    (waits_not_yet place bs below) (waits_next place bs below ∙ waiting) (λ c other. sym (waits_other place bs c below other))
+one_more place bs m below waiting = grind (arith, started_more, processor_places.number_named, waits_not_yet, waits_next, waits_other)
 
 -- its channel has no history yet
 pub still_unused : (place : ℕ) (bs : List Bool) (m : MachineState) → place < processor_count → IsBeforeFirstTurn m → history_of (processor_number place) (dead_started (take place bs) m) ≡ []

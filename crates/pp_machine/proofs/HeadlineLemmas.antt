@@ -1,5 +1,5 @@
 -- What an event leaves of the headline.
-use Rattle.std.proofs.Common.{◌≡◌, ◌≢◌, ℕ, zero, suc, ◌<◌, ◌==◌, true, false, IsTrue, List, [], ◌∷◌, ◌++◌, length, replicate, slice_set, get_or, refl, sym, ap, subst, ◌∙◌, append_assoc, eq-eqb, inl, inr, get_or-set_same, get_or-set_other}
+use Rattle.std.proofs.Common.{◌≡◌, ◌≢◌, ℕ, zero, suc, ◌<◌, ◌==◌, true, false, IsTrue, List, [], ◌∷◌, ◌++◌, length, replicate, slice_set, get_or, refl, sym, ap, subst, ◌∙◌, append_assoc, eq-eqb, inl, inr, get_or-set_same, get_or-set_other, arith}
 use Rattle.std.specs.Prelude.{if◌then◌else◌, Some, None}
 use Rattle.std.proofs.lemmas.List.{append-nil}
 use Rattle.std.proofs.lemmas.List.Elements.{filter_map-append}
@@ -20,10 +20,7 @@ empty_at (suc n) (suc c) = empty_at n c
 
 -- the headline holds of channels without history
 pub headline_of_none : (hs : List (List Event)) (n : ℕ) (h : List Event) → hs ≡ replicate n [] → h ≡ [] → IsLawful h → KeepsLaw h → (c : ℕ) → HoldsOnChannel [] [] (get_or hs c [])
-headline_of_none hs n h is none lawful law c =
-    let empty : get_or hs c [] ≡ [] = ap (λ gs. get_or gs c []) is ∙ empty_at n c in
-    let same : h ≡ get_or hs c [] = none ∙ sym empty in
-    record { traced = empty; lawful = subst IsLawful same lawful; law = subst KeepsLaw same law }
+headline_of_none hs n h is none lawful law c = grind (arith, empty_at)
 
 events_on-append : (c : ℕ) (trace : List Trace) (entry : Trace) → events_on c (trace ++ entry ∷ []) ≡ events_on c trace ++ events_on c (entry ∷ [])
 events_on-append c trace entry = filter_map-append (λ (x : Trace). if x.channel == c then Some x.event else None) trace (entry ∷ [])
@@ -37,19 +34,11 @@ other_entry d entry apart = let different : (entry.channel == d) ≡ false = ne_
 
 -- the channel of the event
 on_own : (opening before : List Event) (trace : List Trace) (entry : Trace) (after : List Event) → HoldsOnChannel opening (events_on entry.channel trace) before → after ≡ before ++ entry.event ∷ [] → IsLawful after → KeepsLaw after → HoldsOnChannel opening (events_on entry.channel (trace ++ entry ∷ [])) after
-on_own opening before trace entry after old is lawful law =
-    let events : events_on entry.channel (trace ++ entry ∷ []) ≡ events_on entry.channel trace ++ entry.event ∷ [] = events_on-append entry.channel trace entry ∙ ap (λ es. events_on entry.channel trace ++ es) (own_entry entry) in
-    record {
-      traced = is ∙ ap (λ h. h ++ entry.event ∷ []) old.traced ∙ append_assoc opening (events_on entry.channel trace) (entry.event ∷ []) ∙ ap (λ es. opening ++ es) (sym events);
-      lawful = lawful;
-      law = law;
-    }
+on_own opening before trace entry after old is lawful law = grind (arith, events_on-append, own_entry, append_assoc)
 
 -- any other channel
 on_other : (d : ℕ) (opening history : List Event) (trace : List Trace) (entry : Trace) → entry.channel ≢ d → HoldsOnChannel opening (events_on d trace) history → HoldsOnChannel opening (events_on d (trace ++ entry ∷ [])) history
-on_other d opening history trace entry apart old =
-    let events : events_on d (trace ++ entry ∷ []) ≡ events_on d trace = events_on-append d trace entry ∙ ap (λ es. events_on d trace ++ es) (other_entry d entry apart) ∙ append-nil (events_on d trace) in
-    record { traced = old.traced ∙ ap (λ es. opening ++ es) (sym events); lawful = old.lawful; law = old.law }
+on_other d opening history trace entry apart old = grind (arith, events_on-append, other_entry, append-nil)
 
 -- the headline with one more event, whose entry of the trace names its channel
 pub headline_after_event : (opening : ℕ → List Event) (before after : List (List Event)) (trace : List Trace) (entry : Trace)

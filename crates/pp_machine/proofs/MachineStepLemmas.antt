@@ -1,5 +1,5 @@
 -- A step of a processor at rest, a step that needs nothing from outside, and what is true of each step.
-use Rattle.std.proofs.Common.{◌≡◌, ◌≢◌, ℕ, ◌<◌, List, [], ◌++◌, length, map, append-nil, slice_set, refl, sym, ap, ◌∙◌, subst}
+use Rattle.std.proofs.Common.{◌≡◌, ◌≢◌, ℕ, ◌<◌, List, [], ◌++◌, length, map, append-nil, slice_set, refl, sym, ap, ◌∙◌, subst, arith}
 use Rattle.std.specs.Prelude.{None, Option, Some, Result, Ok, Err, OnOk, OnErr, IfOk}
 use Rattle.std.specs.Option.{option_to_list}
 use Rattle.std.proofs.lemmas.List.{set-get_or, get_or-set_same}
@@ -34,10 +34,7 @@ rest_needs_nothing pp rests = needs_nothing pp.state pp rests
 -- a step of a processor at rest counts a turn, and does nothing else
 pub stepped_at_rest : (n : ℕ) (m : MachineState) → IsAtRest (processor_of n m) → stepped n m ≡ record m { turns = counted m.turns }
 unfolding stepped
-stepped_at_rest n m rests =
-    ap (λ x. taken n (answer_to x m) (served n x m)) (rest_needs_nothing (processor_of n m) rests)
-    ∙ ap (λ pp. record m { processors = slice_set m.processors (processor_index n) pp; turns = counted m.turns }) (rest_changes_nothing (processor_of n m) answers.Local rests)
-    ∙ ap (λ pps. record m { processors = pps; turns = counted m.turns }) (set-get_or m.processors (processor_index n) no_processor)
+stepped_at_rest n m rests = grind (arith, rest_needs_nothing, rest_changes_nothing, set-get_or)
 
 pub outcome_at_rest : (n : ℕ) (m : MachineState) → IsAtRest (processor_of n m) → step_outcome n m ≡ AtRest
 unfolding step_outcome
@@ -59,20 +56,11 @@ outcome_alone n m local moved = ap (λ x. outcome (processor_of n m) (answer_to 
 -- a test of the flags of a channel changes no history
 pub stepped_by_probe : (n c : ℕ) (flags : Flags) (m : MachineState) → need (processor_of n m) ≡ Channel c Probe → flags ≡ flags_of (history_of c m) → stepped n m ≡ taken n (answers.Channel (replies.Flags flags)) m
 unfolding stepped
-stepped_by_probe n c flags m probes shown =
-    let x = answers.Channel (replies.Flags (flags_of (history_of c m))) in
-    ap (λ x. taken n (answer_to x m) (served n x m)) probes
-    ∙ ap (λ (h : List Event). taken n x (record m { histories = slice_set m.histories (channel_index c) h; trace = m.trace ++ [] })) (append-nil (history_of c m))
-    ∙ ap (λ (hs : List (List Event)). taken n x (record m { histories = hs; trace = m.trace ++ [] })) (set-get_or m.histories (channel_index c) [])
-    ∙ ap (λ (t : List Trace). taken n x (record m { trace = t })) (append-nil m.trace)
-    ∙ ap (λ f. taken n (answers.Channel (replies.Flags f)) m) (sym shown)
+stepped_by_probe n c flags m probes shown = grind (arith, append-nil, set-get_or)
 
 pub outcome_by_probe : (n c : ℕ) (flags : Flags) (m : MachineState) → need (processor_of n m) ≡ Channel c Probe → flags ≡ flags_of (history_of c m) → outcome (processor_of n m) (answers.Channel (replies.Flags flags)) ≡ Moved → step_outcome n m ≡ Moved
 unfolding step_outcome
-outcome_by_probe n c flags m probes shown moved =
-    ap (λ x. outcome (processor_of n m) (answer_to x m)) probes
-    ∙ ap (λ f. outcome (processor_of n m) (answers.Channel (replies.Flags f))) (sym shown)
-    ∙ moved
+outcome_by_probe n c flags m probes shown moved = grind arith
 
 -- an operation that was held made no event
 held_made_none : (op : ChanOp) (state : ChannelState) (made : Option Event) (flags : Flags) → reply_by op state made ≡ replies.Held flags → made ≡ None
@@ -88,32 +76,19 @@ held_reply flags reply e = cc
 
 -- an operation that makes no event changes nothing
 pub served_without_event : (n c : ℕ) (op : ChanOp) (m : MachineState) → event_of op (history_of c m) ≡ None → served n (Channel c op) m ≡ m
-served_without_event n c op m none =
-    let h = history_of c m in
-    ap (λ (made : Option Event). record m { histories = slice_set m.histories (channel_index c) (h ++ option_to_list made); trace = m.trace ++ map (λ e. record { turn = m.turns; pp = n; channel = c; event = e }) (option_to_list made) }) none
-    ∙ ap (λ (g : List Event). record m { histories = slice_set m.histories (channel_index c) g; trace = m.trace ++ [] }) (append-nil h)
-    ∙ ap (λ (hs : List (List Event)). record m { histories = hs; trace = m.trace ++ [] }) (set-get_or m.histories (channel_index c) [])
-    ∙ ap (λ (t : List Trace). record m { trace = t }) (append-nil m.trace)
+served_without_event n c op m none = grind (arith, append-nil, set-get_or)
 
 served_held : (n : ℕ) (x : Need) (m : MachineState) (flags : Flags) → answer_to x m ≡ answers.Channel (replies.Held flags) → served n x m ≡ m
 served_held n Nothing m flags e = cc
 served_held n Local m flags e = cc
 served_held n (Read a) m flags e = cc
 served_held n (Write a w) m flags e = cc
-served_held n (Channel c op) m flags e =
-    let h = history_of c m in
-    served_without_event n c op m (held_made_none op (channel_state h) (event_of op h) flags (held_reply flags (reply_to op h) e))
+served_held n (Channel c op) m flags e = grind (arith, served_without_event, held_made_none, held_reply)
 
 -- a step that is held counts a turn, and does nothing else
 stepped_held : (n : ℕ) (m : MachineState) → step_outcome n m ≡ Held → stepped n m ≡ record m { turns = counted m.turns }
 unfolding stepped step_outcome
-stepped_held n m e =
-    let pp = processor_of n m in
-    let x = answer_to (need pp) m in
-    let held : IsHeldAnswer x = held_by_answer pp x e in
-    ap (λ (k : MachineState). taken n x k) (served_held n (need pp) m held.0 held.1)
-    ∙ ap (λ (q : Processor). record m { processors = slice_set m.processors (processor_index n) q; turns = counted m.turns }) (held_changes_nothing pp x e)
-    ∙ ap (λ (pps : List Processor). record m { processors = pps; turns = counted m.turns }) (set-get_or m.processors (processor_index n) no_processor)
+stepped_held n m e = grind (arith, held_by_answer, served_held, held_changes_nothing, set-get_or)
 
 pub held_step : {E : Type 0} (n : ℕ) (old new : MachineState) (result : Result Outcome E) → OnOk result (new ≡ stepped n old) → IfOk result (λ o. o ≡ step_outcome n old) →
     IfOk result (λ o. o ≡ Held → new ≡ record old { turns = counted old.turns })
@@ -124,21 +99,15 @@ held_step n old new (Err e) ok outcome = tt
 stepped_fault : (n : ℕ) (m : MachineState) → processor_index n < length m.processors → (processor_of n m).state ≡ Running →
     IsAtFault (processor_of n (stepped n m)) → KeepsMemoryAndRegisters (processor_of n m) (processor_of n (stepped n m))
 unfolding stepped
-stepped_fault n m within running fault =
-    let pp = processor_of n m in
-    let x = answer_to (need pp) m in
-    let here : processor_of n (taken n x (served n (need pp) m)) ≡ processor_after pp x = get_or-set_same m.processors (processor_index n) (processor_after pp x) no_processor within in
-    subst (λ (q : Processor). KeepsMemoryAndRegisters pp q) (sym here) (fault_keeps pp x running (subst (λ (q : Processor). IsAtFault q) here fault))
+stepped_fault n m within running fault = grind (arith, get_or-set_same, fault_keeps)
 
 running_is_no_fault : (pp : Processor) → pp.state ≡ Running → IsAtFault pp → ⊥
 running_is_no_fault pp running fault = let is : pp.state ≡ Fault fault.0 = fault.1 in cc
 
 pub fault_step : {E : Type 0} (n : ℕ) (old new : MachineState) (result : Result Outcome E) → processor_index n < length old.processors → OnOk result (new ≡ stepped n old) → OnErr result (new ≡ old) →
     (processor_of n old).state ≡ Running → IsAtFault (processor_of n new) → KeepsMemoryAndRegisters (processor_of n old) (processor_of n new)
-fault_step n old new (Ok o) within ok err running fault =
-    subst (λ (m : MachineState). KeepsMemoryAndRegisters (processor_of n old) (processor_of n m)) (sym ok) (stepped_fault n old within running (subst (λ (m : MachineState). IsAtFault (processor_of n m)) ok fault))
-fault_step n old new (Err e) within ok err running fault =
-    absurd (running_is_no_fault (processor_of n old) running (subst (λ (m : MachineState). IsAtFault (processor_of n m)) err fault))
+fault_step n old new (Ok o) within ok err running fault = grind (arith, stepped_fault)
+fault_step n old new (Err e) within ok err running fault = grind (arith, running_is_no_fault)
 
 -- ---- what a kind of step comes to
 

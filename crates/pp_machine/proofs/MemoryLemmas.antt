@@ -11,8 +11,7 @@ replicate-zero (suc n) (suc place) = replicate-zero n place
 
 -- a run of as many zeros as there are places is a memory
 IsMemory-replicate : (n : ℕ) → n ≡ place_count → IsMemory (replicate n 0)
-IsMemory-replicate n e =
-    record { each_place = length-replicate n 0 ∙ e; each_word = λ place. let zero_there = replicate-zero n place in omega arith }
+IsMemory-replicate n e = grind (arith, length-replicate, replicate-zero)
 
 pub zero_memory : IsMemory (replicate 4096 0)
 zero_memory = IsMemory-replicate 4096 refl

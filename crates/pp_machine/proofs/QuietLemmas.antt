@@ -38,12 +38,7 @@ none_made (Some event) none = cc
 
 -- an operation that makes no event changes no history
 served_quiet : (n c : ℕ) (operation : ChanOp) (m : MachineState) → event_of operation (history_of c m) ≡ None → served n (Channel c operation) m ≡ m
-served_quiet n c operation m none =
-    let h = history_of c m in
-    ap (λ (made : Option Event). record m { histories = slice_set m.histories (channel_index c) (h ++ option_to_list made); trace = m.trace ++ map (λ e. record { turn = m.turns; pp = n; channel = c; event = e }) (option_to_list made) }) none
-    ∙ ap (λ (g : List Event). record m { histories = slice_set m.histories (channel_index c) g; trace = m.trace ++ [] }) (append-nil h)
-    ∙ ap (λ (hs : List (List Event)). record m { histories = hs; trace = m.trace ++ [] }) (set-get_or m.histories (channel_index c) [])
-    ∙ ap (λ (t : List Trace). record m { trace = t }) (append-nil m.trace)
+served_quiet n c operation m none = grind (arith, append-nil, set-get_or)
 
 -- a quiet step changes its processor, and counts a turn
 quiet_need : (n : ℕ) (x : Need) (pp : Processor) (ps : List Processor) (t : ℕ) (m : MachineState) → IsTrue (is_quiet x m) → pp ≡ processor_of n (beside ps t m)
@@ -61,10 +56,7 @@ quiet_need n (Write a w) pp ps t m quiet here = cc
 stepped_quiet : (n : ℕ) (pp : Processor) (ps : List Processor) (t : ℕ) (m : MachineState) → pp ≡ processor_of n (beside ps t m) → IsTrue (is_quiet (need pp) m)
     → stepped n (beside ps t m) ≡ beside (slice_set ps (processor_index n) (step_beside m pp)) (counted t) m
 unfolding stepped
-stepped_quiet n pp ps t m here quiet =
-    let k = beside ps t m in
-    ap (λ (q : Processor). taken n (answer_to (need q) k) (served n (need q) k)) (sym here)
-    ∙ quiet_need n (need pp) pp ps t m quiet here
+stepped_quiet n pp ps t m here quiet = grind (arith, beside, quiet_need)
 
 -- the first processors of a list, each a step ahead
 abbrev stepping : ℕ → MachineState → List Processor → List Processor
@@ -78,10 +70,7 @@ length-stepping (suc place) m ps = length-set (stepping place m ps) place (step_
 -- those from the place on are not
 stepping_after : (place k : ℕ) (m : MachineState) (ps : List Processor) → place ≤ k → get_or (stepping place m ps) k no_processor ≡ get_or ps k no_processor
 stepping_after zero k m ps after = refl
-stepping_after (suc place) k m ps after =
-    let apart : k ≢ place = omega arith in
-    get_or-set_other (stepping place m ps) place k (step_beside m (get_or ps place no_processor)) no_processor apart
-    ∙ stepping_after place k m ps (omega arith)
+stepping_after (suc place) k m ps after = grind (arith, get_or-set_other, stepping, stepping_after place k m ps (omega arith))
 
 -- those before it are
 stepping_before : (place k : ℕ) (m : MachineState) (ps : List Processor) → place ≤ length ps → k < place → get_or (stepping place m ps) k no_processor ≡ step_beside m (get_or ps k no_processor)
@@ -100,9 +89,7 @@ stepping_before (suc place) k m ps within before =
 round_to : (p : Profile) (place : ℕ) (m : MachineState) (ps : List Processor) (t : ℕ) → place ≤ processors_in p → t ≤ 2 ^ 64 - 1
     → ((k : ℕ) → k < processors_in p → IsTrue (is_quiet (need (get_or ps k no_processor)) m))
     → run (barrel p place) (beside ps t m) ≡ beside (stepping place m ps) (min (t + place) (2 ^ 64 - 1)) m
-round_to p zero m ps t within bound quiet =
-    let same : t ≡ min (t + 0) (2 ^ 64 - 1) = omega arith in
-    ap (λ u. beside ps u m) same
+round_to p zero m ps t within bound quiet = grind (arith, beside)
 round_to p (suc place) m ps t within bound quiet =
     let more : suc place ≡ place + 1 = omega arith in
     let n = processor_number place in
@@ -136,18 +123,13 @@ ran_behind (suc steps) round k m ps past = stepping_after round k m (ran steps r
 ran_ahead : (steps round k : ℕ) (m : MachineState) (ps : List Processor) → round ≤ length ps → k < round → get_or (ran steps round m ps) k no_processor ≡ steps_beside steps m (get_or ps k no_processor)
 unfolding steps_beside
 ran_ahead zero round k m ps all within = refl
-ran_ahead (suc steps) round k m ps all within =
-    stepping_before round k m (ran steps round m ps) (omega (arith, length-ran steps round m ps)) within
-    ∙ ap (step_beside m) (ran_ahead steps round k m ps all within)
+ran_ahead (suc steps) round k m ps all within = grind (arith, stepping_before, ran, length-ran, ran_ahead steps round k m ps all within)
 
 -- whole rounds of quiet steps
 rounds_ran : (p : Profile) (steps : ℕ) (m : MachineState) → processors_in p ≤ length m.processors → m.turns ≤ 2 ^ 64 - 1
     → ((j k : ℕ) → j < steps → k < processors_in p → IsTrue (is_quiet (need (steps_beside j m (get_or m.processors k no_processor))) m))
     → run (whole_rounds p steps) m ≡ beside (ran steps (processors_in p) m m.processors) (min (m.turns + steps * processors_in p) (2 ^ 64 - 1)) m
-rounds_ran p zero m all bound quiet =
-    let none : 0 * processors_in p ≡ 0 = no_rounds p in
-    let same : m.turns ≡ min (m.turns + 0 * processors_in p) (2 ^ 64 - 1) = omega arith in
-    ap (λ turns. run (barrel p turns) m) none ∙ ap (λ u. beside m.processors u m) same
+rounds_ran p zero m all bound quiet = grind (arith, no_rounds, beside)
 rounds_ran p (suc steps) m all bound quiet =
     let round = processors_in p in
     let ps = ran steps round m m.processors in
@@ -245,10 +227,7 @@ still_beside zero m pp still = refl
 still_beside (suc steps) m pp still = ap (step_beside m) (still_beside steps m pp still) ∙ still
 
 still_ahead : (steps : ℕ) (m : MachineState) (pp : Processor) → IsTrue (is_quiet (need pp) m) → step_beside m pp ≡ pp → IsAhead steps m pp pp
-still_ahead steps m pp quiet still = record {
-  quiet = λ j before. subst (λ (q : Processor). IsTrue (is_quiet (need q) m)) (sym (still_beside j m pp still)) quiet;
-  after = sym (still_beside steps m pp still);
-}
+still_ahead steps m pp quiet still = grind (arith, still_beside)
 
 ahead_and_still : (steps most : ℕ) (m : MachineState) (old new : Processor) → IsAhead steps m old new → IsTrue (is_quiet (need new) m) → step_beside m new ≡ new → steps ≤ most → IsAhead most m old new
 ahead_and_still steps most m old new first quiet still within =
@@ -294,25 +273,7 @@ ahead_with_rest steps round place m ps qs rests further = record {
 -- a processor that went ahead, and then those behind its place, as far as it did
 pub ahead_together : (steps round place : ℕ) (m : MachineState) (ps qs : List Processor) (new : Processor) → place < length ps → place < round → IsAhead steps m (get_or ps place no_processor) new
     → AreAhead steps round (place + 1) m (slice_set ps place new) qs → AreAhead steps round place m ps qs
-ahead_together steps round place m ps qs new inside turn first further = record {
-  as_many = further.as_many ∙ length-set ps place new;
-  before = λ k before.
-      let apart : k ≢ place = omega arith in
-      further.before k (omega arith) ∙ get_or-set_other ps place k new no_processor apart;
-  behind = λ k past.
-      let apart : k ≢ place = omega arith in
-      further.behind k past ∙ get_or-set_other ps place k new no_processor apart;
-  ahead = λ k after within.
-      elim (eqb_tells k place) as (λ _. IsAhead steps m (get_or ps k no_processor) (get_or qs k no_processor)) [
-        | inl same ↦
-            let here : get_or qs place no_processor ≡ new = further.before place (omega arith) ∙ get_or-set_same ps place new no_processor inside in
-            let there : IsAhead steps m (get_or ps place no_processor) (get_or qs place no_processor) = subst (λ (q : Processor). IsAhead steps m (get_or ps place no_processor) q) (sym here) first in
-            subst (λ i. IsAhead steps m (get_or ps i no_processor) (get_or qs i no_processor)) (sym same.1) there
-        | inr apart ↦
-            let old = get_or-set_other ps place k new no_processor apart.1 in
-            subst (λ (q : Processor). IsAhead steps m q (get_or qs k no_processor)) old (further.ahead k (omega (arith, apart.1)) within)
-      ];
-}
+ahead_together steps round place m ps qs new inside turn first further = grind (arith, length-set, get_or-set_other, eqb_tells, get_or-set_same)
 
 refuted : (b : Bool) → IsTrue b → b ≡ false → ⊥
 refuted b holds fails = absurd (false≢true (sym fails ∙ holds))
@@ -320,45 +281,11 @@ refuted b holds fails = absurd (false≢true (sym fails ∙ holds))
 -- as many steps as it made before, or fewer, are made again
 made_again : (again steps most : ℕ) (m : MachineState) (old between new : Processor) → IsAhead most m old between → steps ≤ most → IsAhead again m old new → again ≤ steps
     → (again < steps → is_quiet (need new) m ≡ false) → IsAhead steps m old new
-made_again again steps most m old between new first within then less exact =
-    elim (leb_tells steps again) as (λ _. IsAhead steps m old new) [
-      | inl all ↦ let after = all.1 in let same : again ≡ steps = omega arith in subst (λ k. IsAhead k m old new) same then
-      | inr fewer ↦
-          let before = fewer.1 in
-          let stops : is_quiet (need (steps_beside again m old)) m ≡ false = subst (λ (pp : Processor). is_quiet (need pp) m ≡ false) then.after (exact before) in
-          absurd (refuted (is_quiet (need (steps_beside again m old)) m) (first.quiet again (omega arith)) stops)
-    ]
+made_again again steps most m old between new first within then less exact = grind (arith, leb_tells, refuted)
 
 -- where it was put back, and went as far as the others
 pub ahead_again : (again steps most round place : ℕ) (m : MachineState) (ps qs : List Processor) (old between new : Processor) → place < length ps → place < round → old ≡ get_or ps place no_processor
     → IsAhead most m old between → steps < most → AreAhead steps round (place + 1) m (slice_set ps place between) qs
     → IsAhead again m old new → again ≤ steps → (again < steps → is_quiet (need new) m ≡ false)
     → AreAhead steps round place m ps (slice_set (slice_set qs place old) place new)
-ahead_again again steps most round place m ps qs old between new inside turn here first within further then less exact =
-    let whole : IsAhead steps m old new = made_again again steps most m old between new first (omega arith) then less exact in
-    let back = slice_set qs place old in
-    let count : length (slice_set back place new) ≡ length ps = length-set back place new ∙ length-set qs place old ∙ further.as_many ∙ length-set ps place between in
-    let there : place < length back = omega (arith, length-set back place new) in
-    let others : AreAhead steps round (place + 1) m (slice_set ps place new) (slice_set back place new) = record {
-      as_many = count ∙ sym (length-set ps place new);
-      before = λ k before.
-          elim (eqb_tells k place) as (λ _. get_or (slice_set back place new) k no_processor ≡ get_or (slice_set ps place new) k no_processor) [
-            | inl same ↦ rw same.1 (get_or-set_same back place new no_processor there ∙ sym (get_or-set_same ps place new no_processor inside))
-            | inr apart ↦
-                get_or-set_other back place k new no_processor apart.1 ∙ get_or-set_other qs place k old no_processor apart.1
-                ∙ further.before k before ∙ get_or-set_other ps place k between no_processor apart.1
-                ∙ sym (get_or-set_other ps place k new no_processor apart.1)
-          ];
-      behind = λ k past.
-          let apart : k ≢ place = omega arith in
-          get_or-set_other back place k new no_processor apart ∙ get_or-set_other qs place k old no_processor apart
-          ∙ further.behind k past ∙ get_or-set_other ps place k between no_processor apart
-          ∙ sym (get_or-set_other ps place k new no_processor apart);
-      ahead = λ k after bound.
-          let apart : k ≢ place = omega arith in
-          let from : get_or (slice_set ps place between) k no_processor ≡ get_or (slice_set ps place new) k no_processor = get_or-set_other ps place k between no_processor apart ∙ sym (get_or-set_other ps place k new no_processor apart) in
-          let to : get_or qs k no_processor ≡ get_or (slice_set back place new) k no_processor = sym (get_or-set_other back place k new no_processor apart ∙ get_or-set_other qs place k old no_processor apart) in
-          subst (λ (q : Processor). IsAhead steps m (get_or (slice_set ps place new) k no_processor) q) to
-          (subst (λ (q : Processor). IsAhead steps m q (get_or qs k no_processor)) from (further.ahead k after bound));
-    } in
-    ahead_together steps round place m ps (slice_set back place new) new inside turn (subst (λ (pp : Processor). IsAhead steps m pp new) here whole) others
+ahead_again again steps most round place m ps qs old between new inside turn here first within further then less exact = grind (arith, made_again, length-set, eqb_tells, get_or-set_same, get_or-set_other, ahead_together)

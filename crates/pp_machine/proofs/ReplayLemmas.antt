@@ -78,10 +78,7 @@ pub given_count-Gives : (xs : List Answer) (pp new : Processor) → Gives pp xs 
     → given_count pp xs ≡ length xs
 unfolding given_count
 given_count-Gives [] pp new g = refl
-given_count-Gives (x ∷ xs) pp new g =
-    let more : given_count (processor_after pp x) xs ≡ length xs =
-    given_count-Gives xs (processor_after pp x) new g.1 in
-    rw g.0 (omega arith)
+given_count-Gives (x ∷ xs) pp new g = grind (arith, given_count-Gives xs (processor_after pp x) new g.1)
 
 -- answers that are all counted are all given
 counted-cons : (b : Bool) (m n : ℕ) → (if b then m + 1 else 0) ≡ suc n → (b ≡ true) × (m ≡ n)
@@ -109,8 +106,7 @@ Gives-to pp new other xs g e = rw (← e) g
 pub Gives-append : (xs ys : List Answer) (pp middle new : Processor) → Gives pp xs middle
     → Gives middle ys new → Gives pp (xs ++ ys) new
 Gives-append [] ys pp middle new g h = rw g h
-Gives-append (x ∷ xs) ys pp middle new g h =
-    (g.0, Gives-append xs ys (processor_after pp x) middle new g.1 h)
+Gives-append (x ∷ xs) ys pp middle new g h = grind (arith, Gives-append xs ys (processor_after pp x) middle new g.1 h)
 
 -- one more answer, if all before it are given and it fits
 
@@ -134,14 +130,8 @@ collected_along-Gives : {X : Type 0} (tells : ChanOp → Reply → Option X) (xs
     → collected_along tells pp (xs ++ x ∷ [])
     ≡ collected_along tells pp xs ++ contribution tells (need new) x
 unfolding collected_along
-collected_along-Gives tells [] pp new x g f =
-    rw (g, f) (append-nil (contribution tells (need new) x))
-collected_along-Gives tells (y ∷ xs) pp new x g f =
-    rw g.0 (ap (λ more. contribution tells (need pp) y ++ more)
-    (collected_along-Gives tells xs (processor_after pp y) new x g.1 f)
-    ∙ sym (append_assoc (contribution tells (need pp) y)
-    (collected_along tells (processor_after pp y) xs)
-    (contribution tells (need new) x)))
+collected_along-Gives tells [] pp new x g f = grind (arith, append-nil)
+collected_along-Gives tells (y ∷ xs) pp new x g f = grind (arith, append_assoc, collected_along-Gives tells xs (processor_after pp y) new x g.1 f)
 
 pub collected_along-push : {X : Type 0} (tells : ChanOp → Reply → Option X) (xs : List Answer)
     (pp : Processor) (x : Answer) → given_count pp xs ≡ length xs

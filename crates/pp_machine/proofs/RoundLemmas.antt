@@ -23,21 +23,10 @@ other_processor n place m apart = get_or-set_other m.processors (processor_index
 
 -- what is at rest stays at rest
 rest_stays : (n place : ℕ) (m : MachineState) → IsAtRest (get_or m.processors place no_processor) → IsAtRest (get_or (stepped n m).processors place no_processor)
-rest_stays n place m rests =
-    elim (eqb_tells place (processor_index n)) as (λ _. IsAtRest (get_or (stepped n m).processors place no_processor)) [
-      | inl same ↦
-          let here : get_or m.processors place no_processor ≡ processor_of n m = ap (λ i. get_or m.processors i no_processor) same.1 in
-          let still = stepped_at_rest n m (subst IsAtRest here rests) in
-          subst (λ (k : MachineState). IsAtRest (get_or k.processors place no_processor)) (sym still) rests
-      | inr apart ↦ subst IsAtRest (sym (other_processor n place m apart.1)) rests
-    ]
+rest_stays n place m rests = grind (arith, eqb_tells, stepped_at_rest, other_processor)
 
 pub passes_over_stepped : (next : List ℕ) (n : ℕ) (m : MachineState) → PassesOverRest next m.processors → PassesOverRest next (stepped n m).processors
-passes_over_stepped next n m passes = λ place named. record {
-  forward = (passes place named).forward;
-  within = (passes place named).within;
-  at_rest = λ between after before. rest_stays n between m ((passes place named).at_rest between after before);
-}
+passes_over_stepped next n m passes = grind (arith, rest_stays)
 
 -- so far all processors from place to running are at rest, and the list passes over them from each place on
 pub record PassesFrom (next : List ℕ) (place running : ℕ) (processors : List Processor) : Type 0 where
@@ -45,11 +34,7 @@ pub record PassesFrom (next : List ℕ) (place running : ℕ) (processors : List
   pub further : (k : ℕ) → place ≤ k → k ≤ processor_count → RestBetween k (get_or next k 0) processors
 
 none_between : (place : ℕ) (processors : List Processor) → place ≤ processor_count → RestBetween place place processors
-none_between place processors within = record {
-  forward = omega arith;
-  within = within;
-  at_rest = λ between after before. absurd (omega arith);
-}
+none_between place processors within = grind arith
 
 pub passes_from_end : (next : List ℕ) (processors : List Processor) → get_or next processor_count 0 ≡ processor_count → PassesFrom next processor_count processor_count processors
 passes_from_end next processors last = record {
@@ -64,14 +49,7 @@ passes_from_end next processors last = record {
 set_before : (next : List ℕ) (place running : ℕ) (processors : List Processor) → place < length next → RestBetween place running processors
     → ((k : ℕ) → place + 1 ≤ k → k ≤ processor_count → RestBetween k (get_or next k 0) processors)
     → PassesFrom (slice_set next place running) place running processors
-set_before next place running processors inside ahead further = record {
-  ahead = ahead;
-  further = λ k after within.
-      elim (eqb_tells k place) as (λ _. RestBetween k (get_or (slice_set next place running) k 0) processors) [
-        | inl same ↦ rw (same.1, get_or-set_same next place running 0 inside) ahead
-        | inr apart ↦ rw (get_or-set_other next place k running 0 apart.1) (further k (omega (arith, apart.1)) within)
-      ];
-}
+set_before next place running processors inside ahead further = grind (arith, eqb_tells, get_or-set_same, get_or-set_other)
 
 pub passes_from_running : (next : List ℕ) (place running : ℕ) (processors : List Processor) → place < length next → place < processor_count → PassesFrom next (place + 1) running processors → PassesFrom (slice_set next place place) place place processors
 passes_from_running next place running processors inside named so_far =
@@ -127,11 +105,7 @@ passed_to p place running m n forward rest within is =
 
 -- at rest as far as a place, and so to any place before it
 pub rest_to : (place running turns : ℕ) (processors : List Processor) → place ≤ turns → turns ≤ running → RestBetween place running processors → RestBetween place turns processors
-rest_to place running turns processors within before rest = record {
-  forward = within;
-  within = let bound = rest.within in omega arith;
-  at_rest = λ between after until. rest.at_rest between after (omega arith);
-}
+rest_to place running turns processors within before rest = grind arith
 
 -- whole rounds, and then more turns
 pub barrel_rounds : (p : Profile) (turns rounds : ℕ) (m : MachineState) → run (barrel p (rounds * processors_in p + turns)) m ≡ run (barrel p turns) (run (whole_rounds p rounds) m)

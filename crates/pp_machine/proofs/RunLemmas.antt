@@ -39,9 +39,7 @@ run_more ns i m h =
 -- over one more turn of the barrel
 pub barrel_more : (p : Profile) (n : ℕ) (m : MachineState)
     → run (barrel p (n + 1)) m ≡ stepped (processor_in_turn p n) (run (barrel p n) m)
-barrel_more p n m =
-    let more : n + 1 ≡ suc n = omega arith in
-    rw more (run-append (barrel p n) (processor_in_turn p n) m)
+barrel_more p n m = grind (arith, run-append)
 
 stepped_profile : (n : ℕ) (m : MachineState) → (stepped n m).profile ≡ m.profile
 unfolding stepped
@@ -55,8 +53,7 @@ run_profile (n ∷ ns) m = run_profile ns (stepped n m) ∙ stepped_profile n m
 -- as many processors as turns
 pub length-barrel : (p : Profile) (turns : ℕ) → length (barrel p turns) ≡ turns
 length-barrel p zero = refl
-length-barrel p (suc turns) =
-    omega (arith, length_push (barrel p turns) (processor_in_turn p turns), length-barrel p turns)
+length-barrel p (suc turns) = grind (arith, length_push, length-barrel p turns)
 
 abbrev entry_of : ℕ → ℕ → MachineState → Event → Trace
 entry_of n c m e = record { turn = m.turns; pp = n; channel = c; event = e }
@@ -68,16 +65,10 @@ Leaves n c m o = (d : ℕ) → IsTrue (names_channel d)
     (get_or (slice_set m.histories (channel_index c) (history_of c m ++ option_to_list o)) (channel_index d) [])
 
 no_event : (n c : ℕ) (m : MachineState) → HoldsOnEachChannel m → Leaves n c m None
-no_event n c m h d names =
-    subst (λ (t : List Trace). HoldsOnChannel (opening_history d m) (events_on d t) (get_or (slice_set m.histories (channel_index c) (history_of c m ++ [])) (channel_index d) [])) (sym (append-nil m.trace))
-    (subst (λ (hs : List (List Event)). HoldsOnChannel (opening_history d m) (events_on d m.trace) (get_or hs (channel_index d) []))
-    (sym (ap (λ (k : List Event). slice_set m.histories (channel_index c) k) (append-nil (history_of c m)) ∙ set-get_or m.histories (channel_index c) [])) (h d names))
+no_event n c m h d names = grind (arith, append-nil, set-get_or)
 
 elsewhere : (d : ℕ) (trace : List Trace) (entry : Trace) → entry.channel ≢ d → events_on d (trace ++ entry ∷ []) ≡ events_on d trace
-elsewhere d trace entry apart =
-    let different : (entry.channel == d) ≡ false = ne_eqb entry.channel d apart in
-    let none : events_on d (entry ∷ []) ≡ [] = rw different refl in
-    filter_map-append (λ (x : Trace). if x.channel == d then Some x.event else None) trace (entry ∷ []) ∙ ap (λ es. events_on d trace ++ es) none ∙ append-nil (events_on d trace)
+elsewhere d trace entry apart = grind (arith, ne_eqb, filter_map-append, append-nil)
 
 -- a number that names no channel
 unnamed : (n c : ℕ) (m : MachineState) (e : Event) → length m.histories ≡ channel_count → (IsTrue (names_channel c) → ⊥) → HoldsOnEachChannel m → Leaves n c m (Some e)

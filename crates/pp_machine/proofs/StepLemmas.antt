@@ -1,5 +1,5 @@
 -- What is true of each step, whatever the instruction.
-use Rattle.std.proofs.Common.{◌≡◌, ◌≢◌, ℕ, ◌-◌, ◌==◌, ◌&&◌, not, Bool, true, false, Option, None, Some, if◌then◌else◌, refl, ◌↔◌}
+use Rattle.std.proofs.Common.{◌≡◌, ◌≢◌, ℕ, ◌-◌, ◌==◌, ◌&&◌, not, Bool, true, false, Option, None, Some, if◌then◌else◌, refl, ◌↔◌, arith}
 use Rattle.pp_word.specs.Address.{relative_to}
 use Rattle.pp_word.specs.OnesComplement.{difference}
 use Rattle.pp_word.specs.declared.opcode.Opcode.{Opcode}
@@ -107,10 +107,7 @@ block_keeps (Input channel) place pp h = λ word. counts_down_keep pp (stores_at
 block_keeps (Output channel) place pp h = counts_down_keep pp pp (Output channel) place h refl
 
 step_keeps : (block : Option Block) (pp : Processor) → pp.state ≡ Running → StepKeeps pp (step_of block pp)
-step_keeps None pp h =
-    let op = operation pp in
-    let d = lower_six pp in
-    either_step (works_on_channel op && not (has_channel pp.profile d)) pp (local (faults pp 3)) (row op pp d) (faulted pp 3) (row_keeps op pp d h)
+step_keeps None pp h = grind (arith, either_step, faulted, row_keeps)
 step_keeps (Some block) pp h = block_keeps block.kind block.place pp h
 
 cut_keeps : (kind : BlockKind) (place : ℕ) (pp : Processor) → pp.state ≡ Running → Keeps pp (cut_short kind place pp)

@@ -27,23 +27,18 @@ pub stored_from-place_from : (words memory : List ℕ) (m i : ℕ) →
     stored_from memory (place_after m i) words ≡ stored memory m i words
 unfolding stored
 stored_from-place_from [] memory m i = refl
-stored_from-place_from (word ∷ words) memory m i =
-    ap (λ place. stored_from (slice_set memory (place_after m i) word) place words) (next-place_from m i)
-    ∙ stored_from-place_from words (slice_set memory (place_after m i) word) m (i + 1)
+stored_from-place_from (word ∷ words) memory m i = grind (arith, next-place_from, stored_from-place_from words (slice_set memory (place_after m i) word) m (i + 1))
 
 pub stored-append : (words more memory : List ℕ) (m i : ℕ) →
     stored memory m i (words ++ more) ≡ stored (stored memory m i words) m (i + length words) more
 unfolding stored
 stored-append [] more memory m i = let here : i + 0 ≡ i = omega arith in rw here refl
-stored-append (word ∷ words) more memory m i =
-    let further : i + 1 + length words ≡ i + length (word ∷ words) = omega arith in
-    stored-append words more (slice_set memory (place_after m i) word) m (i + 1) ∙ rw further refl
+stored-append (word ∷ words) more memory m i = grind (arith, stored-append words more (slice_set memory (place_after m i) word) m (i + 1))
 
 length-stored : (words memory : List ℕ) (m i : ℕ) → length (stored memory m i words) ≡ length memory
 unfolding stored
 length-stored [] memory m i = refl
-length-stored (word ∷ words) memory m i =
-    length-stored words (slice_set memory (place_after m i) word) m (i + 1) ∙ grind (arith, common_steps)
+length-stored (word ∷ words) memory m i = grind (arith, common_steps, length-stored words (slice_set memory (place_after m i) word) m (i + 1))
 
 stored_others : (words memory : List ℕ) (m i place : ℕ) → ((j : ℕ) → j < length words →
     place ≢ place_after m (i + j)) → slice_index (stored memory m i words) place ≡ slice_index memory place
@@ -62,11 +57,7 @@ stored_words : (words memory : List ℕ) (m i j : ℕ) → i + length words ≤ 
     j < length words → slice_index (stored memory m i words) (place_after m (i + j)) ≡ slice_index words j
 unfolding stored
 stored_words [] memory m i j h l k = absurd (omega arith)
-stored_words (word ∷ words) memory m i zero h l k =
-    let here : i + 0 ≡ i = omega arith in
-    let inside : place_after m i < length memory = omega arith in
-    rw here (stored_others words (slice_set memory (place_after m i) word) m (i + 1) (place_after m i) (λ j n. apart_places m i j (omega arith))
-    ∙ get_or-set_same memory (place_after m i) word 0 inside)
+stored_words (word ∷ words) memory m i zero h l k = grind (arith, stored_others, apart_places, get_or-set_same)
 stored_words (word ∷ words) memory m i (suc j) h l k =
     let further : i + suc j ≡ i + 1 + j = omega arith in
     let long : length (slice_set memory (place_after m i) word) ≡ place_count = grind (arith, common_steps) in
@@ -76,11 +67,7 @@ stored_words (word ∷ words) memory m i (suc j) h l k =
 pub BringsWords-stored : (words memory : List ℕ) (m : ℕ) → length words ≤ place_count →
     length memory ≡ place_count →
     BringsWords memory (stored memory m 0 words) m (length words) (λ i. slice_index words i)
-BringsWords-stored words memory m h l = record {
-  words = λ i k. let here : i ≡ 0 + i = omega arith in ap (λ j. slice_index (stored memory m 0 words) (place_after m j)) here ∙ stored_words words memory m 0 i (omega arith) l k;
-  others = λ place k apart. stored_others words memory m 0 place (λ j n. let here : 0 + j ≡ j = omega arith in rw here (apart j n));
-  each_place = length-stored words memory m 0;
-}
+BringsWords-stored words memory m h l = grind (arith, slice_index, stored, stored_words, stored_others, length-stored)
 
 -- the parts of central words, one after another
 pub parts_of_all : List ℕ → List ℕ

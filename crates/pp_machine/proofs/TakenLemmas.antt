@@ -26,29 +26,16 @@ use Rattle.pp_machine.specs.declared.pp_state.PpState.TheVariants.{Running}
 
 -- what was read at the place of processor n is that processor
 pub own_processor : {before now : MachineState} {i : ℕ} {pp : Processor} (n : ℕ) → before ≡ now → i ≡ processor_index n → i < length before.processors → pp ≡ get_or before.processors i pp → pp ≡ processor_of n now
-own_processor {before} {now} {i} {pp} n view place within read =
-    get_or_read before.processors i pp within read no_processor
-    ∙ ap (λ k. get_or before.processors k no_processor) place
-    ∙ ap (processor_of n) view
+own_processor {before} {now} {i} {pp} n view place within read = grind (arith, get_or_read)
 
 -- a machine whose processor n took an answer, and which counted a turn
 pub taken_by : {before now new : MachineState} {i : ℕ} {pp after : Processor} (n : ℕ) (x : Answer) → before ≡ now → i ≡ processor_index n → pp ≡ processor_of n now → after ≡ processor_after pp x
     → new ≡ record before { processors = slice_set before.processors i after; turns = counted before.turns } → new ≡ taken n x now
-taken_by {before} {now} {new} {i} {pp} {after} n x view place own is new_is =
-    new_is
-    ∙ ap (λ (m : MachineState). record m { processors = slice_set m.processors i after; turns = counted m.turns }) view
-    ∙ ap (λ k. record now { processors = slice_set now.processors k after; turns = counted now.turns }) place
-    ∙ ap (λ q. record now { processors = slice_set now.processors (processor_index n) q; turns = counted now.turns }) (is ∙ ap (λ p. processor_after p x) own)
+taken_by {before} {now} {new} {i} {pp} {after} n x view place own is new_is = grind arith
 
 -- a machine with other processors, as many as it had, is a whole one
 pub with_processors : {m : MachineState} (processors : List Processor) → length processors ≡ length m.processors → IsMachine m → IsMachine (record m { processors = processors })
-with_processors processors many is = record {
-  processors = many ∙ is.processors;
-  channels = is.channels;
-  opened = is.opened;
-  central = is.central;
-  headline = is.headline;
-}
+with_processors processors many is = grind arith
 
 never_held : (block : Option Block) → is_held block Local ≡ false
 never_held None = refl
@@ -71,10 +58,7 @@ if_missing (Some found) true t e none h = cc
 
 -- a machine that got one of its processors back as it was
 pub same_machine : {before now : MachineState} {pp after : Processor} (i : ℕ) → before ≡ now → pp ≡ get_or before.processors i pp → after ≡ pp → record before { processors = slice_set before.processors i after } ≡ now
-same_machine {before} {now} {pp} {after} i view read same =
-    ap (λ q. record before { processors = slice_set before.processors i q }) (same ∙ read)
-    ∙ ap (λ (pps : List Processor). record before { processors = pps }) (set-get_or before.processors i pp)
-    ∙ view
+same_machine {before} {now} {pp} {after} i view read same = grind (arith, set-get_or)
 
 -- a step by what it needs
 pub stepped_for : (n : ℕ) (x : Need) (m : MachineState) → need (processor_of n m) ≡ x → stepped n m ≡ taken n (answer_to x m) (served n x m)
@@ -87,10 +71,7 @@ outcome_for n x m needs = ap (λ x. outcome (processor_of n m) (answer_to x m)) 
 
 -- what was read at the place of channel n is its history
 pub own_history : {before now : MachineState} {i : ℕ} {h : List Event} (n : ℕ) → before ≡ now → i ≡ channel_index n → i < length before.histories → h ≡ get_or before.histories i h → h ≡ history_of n now
-own_history {before} {now} {i} {h} n view place within read =
-    get_or_read before.histories i h within read []
-    ∙ ap (λ k. get_or before.histories k []) place
-    ∙ ap (history_of n) view
+own_history {before} {now} {i} {h} n view place within read = grind (arith, get_or_read)
 
 -- a list that lost again what was put at its end
 pub popped : {X : Type 0} {before pushed after : List X} {n : ℕ} (e : X) → pushed ≡ before ++ e ∷ [] → n ≡ length pushed → after ≡ take (n - 1) pushed → after ≡ before
@@ -110,8 +91,4 @@ if_fits false step fault pp x fit other = refl
 
 pub taken_by_row : (op : Opcode) (d : ℕ) (pp : Processor) (x : Answer) → IsAtInstruction op d pp → IsTrue (fits (need pp) x) → fits Need.Local x ≡ false → answered (row op pp d) pp x ≡ processor_after pp x
 unfolding need processor_after
-taken_by_row op d pp x next fit other =
-    let is : next_step pp ≡ instruction op pp d = ap (λ b. step_of b pp) next.free ∙ ap (λ o. instruction o pp (lower_six pp)) (sym next.operation) ∙ ap (λ e. instruction op pp e) (sym next.lower_six) in
-    let needs : need pp ≡ need_of (instruction op pp d) = ap (λ s. if_running s (need_of (next_step pp)) Need.Nothing) next.running ∙ ap need_of is in
-    let after : processor_after pp x ≡ answered (instruction op pp d) pp x = ap (λ s. if_running s (answered (next_step pp) pp x) pp) next.running ∙ ap (λ s. answered s pp x) is in
-    if_fits (works_on_channel op && not (has_channel pp.profile d)) (row op pp d) (local (faults pp no_such_channel)) pp x (subst (λ y. IsTrue (fits y x)) needs fit) other ∙ sym after
+taken_by_row op d pp x next fit other = grind (arith, if_fits)

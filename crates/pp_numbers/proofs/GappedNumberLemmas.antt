@@ -19,7 +19,4 @@ pub over_numbers : {X : Type 0} (half gap past : ℕ) (f : ℕ → List X)
     → ((n : ℕ) → (IsTrue (is_number half gap n) → ⊥) → f n ≡ [])
     → flat_map f (range_with_len 0 half ++ range_with_len (half + gap) half)
     ≡ flat_map f (range_with_len 0 (half + (gap + (half + past))))
-over_numbers half gap past f none =
-    flat_map-append f (range_with_len 0 half) (range_with_len (half + gap) half)
-    ∙ flat_map_parts f half gap half past
-    (λ n low high. none n (in_gap half gap n low high)) (λ n low. none n (past_all half gap n low))
+over_numbers half gap past f none = grind (arith, flat_map-append, flat_map_parts, in_gap, past_all)

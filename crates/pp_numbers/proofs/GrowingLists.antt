@@ -26,11 +26,7 @@ range_more a n = ap (range_with_len a) (one n) ∙ from a n
 -- numbers, and those after them
 pub range_append : (a m n : ℕ)
     → range_with_len a (m + n) ≡ range_with_len a m ++ range_with_len (a + m) n
-range_append a zero n =
-    ap (range_with_len a) (zero_more n) ∙ ap (λ (k : ℕ). range_with_len k n) (sym (add-zero a))
-  where
-    zero_more : (n : ℕ) → 0 + n ≡ n
-    zero_more n = omega arith
+range_append a zero n = grind (arith, add-zero)
 range_append a (suc m) n =
     ap (range_with_len a) (suc_more m n)
     ∙ ap (λ (ks : List ℕ). a ∷ ks)
@@ -86,13 +82,7 @@ flat_map_parts {X} f first gap second past none_between none_past = sym (
 -- a table, and one entry more
 pub tabulate_more : {A : Type 0} (n : ℕ) (f : ℕ → A) → tabulate (n + 1) f ≡ tabulate n f ++ f n ∷ []
 unfolding tabulate
-tabulate_more {A} n f =
-    ap (map f) (range_more 0 n)
-    ∙ map-append f (range_with_len 0 n) ((0 + n) ∷ [])
-    ∙ ap (λ (k : ℕ). map f (range_with_len 0 n) ++ f k ∷ []) (from_zero n)
-  where
-    from_zero : (n : ℕ) → 0 + n ≡ n
-    from_zero n = omega arith
+tabulate_more {A} n f = grind (arith, range_more, map-append)
 
 pub filter_map_one : {A : Type 0} (o : Option A) → cons_option o [] ≡ option_to_list o
 filter_map_one None = refl
@@ -100,9 +90,7 @@ filter_map_one (Some x) = refl
 
 pub filter_map_more : {X A : Type 0} (f : X → Option A) (xs : List X) (x : X)
     → filter_map f (xs ++ x ∷ []) ≡ filter_map f xs ++ option_to_list (f x)
-filter_map_more {X} {A} f xs x =
-    filter_map-append f xs (x ∷ [])
-    ∙ ap (λ (ys : List A). filter_map f xs ++ ys) (filter_map_one (f x))
+filter_map_more {X} {A} f xs x = grind (arith, filter_map-append, filter_map_one)
 
 -- two tests that agree on each number
 pub filter_map_same : {A : Type 0} (f g : ℕ → Option A) (a n : ℕ)

@@ -25,19 +25,8 @@ suffix_len-push q xs x = ap (prefix_len q) (reverse-append xs (x ∷ []))
 
 pub after_last-found : {A : Type 0} (p : A → Bool) (xs : List A) (x : A) → p x ≡ true
     → after_last p (xs ++ x ∷ []) ≡ []
-after_last-found {A} p xs x e =
-    let q : A → Bool = λ y. not (p y) in
-    let s : suffix_len q (xs ++ x ∷ []) ≡ 0 =
-    suffix_len-push q xs x ∙ ap (λ b. cond (not b) (1 + suffix_len q xs) 0) e in
-    drop_all (length (xs ++ x ∷ []) - suffix_len q (xs ++ x ∷ [])) (xs ++ x ∷ []) (omega (arith, s))
+after_last-found {A} p xs x e = grind (arith, suffix_len-push, drop_all)
 
 pub after_last-push : {A : Type 0} (p : A → Bool) (xs : List A) (x : A) → p x ≡ false
     → after_last p (xs ++ x ∷ []) ≡ after_last p xs ++ x ∷ []
-after_last-push {A} p xs x e =
-    let q : A → Bool = λ y. not (p y) in
-    let s : suffix_len q (xs ++ x ∷ []) ≡ 1 + suffix_len q xs =
-    suffix_len-push q xs x ∙ ap (λ b. cond (not b) (1 + suffix_len q xs) 0) e in
-    let n : length (xs ++ x ∷ []) - suffix_len q (xs ++ x ∷ []) ≡ length xs - suffix_len q xs =
-    omega (arith, s, length_push xs x) in
-    ap (λ k. drop k (xs ++ x ∷ [])) n
-    ∙ drop-append-le (length xs - suffix_len q xs) xs (x ∷ []) (omega arith)
+after_last-push {A} p xs x e = grind (arith, suffix_len-push, length_push, drop-append-le)

@@ -24,16 +24,9 @@ no_position p xs false e n = ltb-false (position_or_len p xs) (length xs) e
 pub split_first : (p : ℕ → Bool) (xs rest : List ℕ) (i : ℕ)
     → Some i ≡ position p xs → rest ≡ drop (i + 1) xs
     → slice_split p xs ≡ take i xs ∷ slice_split p rest
-split_first p xs rest i e h =
-    let here = at_position p xs _ i (sym e) in
-    let there = position-Some p xs i 0 (sym e) in
-    slice_split_first p xs 0 (omega (arith, here, there.0))
-    ∙ ap (λ (k : ℕ). take k xs ∷ slice_split p (drop (k + 1) xs)) (sym here)
-    ∙ ap (λ (l : List ℕ). take i xs ∷ slice_split p l) (sym h)
+split_first p xs rest i e h = grind (arith, at_position, position-Some, slice_split_first)
 
 -- a list in which none passes is one piece
 pub split_last : (p : ℕ → Bool) (xs : List ℕ) → None ≡ position p xs
     → slice_split p xs ≡ xs ∷ []
-split_last p xs e =
-    let past = no_position p xs _ refl (sym e) in
-    slice_split_none p xs (λ k d lt. fails_before_first p xs k d (omega (arith, lt, past)))
+split_last p xs e = grind (arith, no_position, slice_split_none, fails_before_first)

@@ -15,15 +15,7 @@ use Rattle.pp_numbers.specs.PpNo.{all_processors, processor_count, processor_pla
 -- the number of a place is n's exactly if the place is
 pub number_at : (place n : ℕ) → place < processor_count
     → eqb (processor_number place) n ≡ eqb place (processor_index n)
-number_at place n below = ⊎_elim
-    (λ (same : place ≡ processor_index n). eq-eqb (processor_number place) n
-    (ap processor_number same
-    ∙ processor_places.number_of_place n (processor_places.named_below n (omega arith)))
-    ∙ sym (eq-eqb place (processor_index n) same))
-    (λ (other : place ≢ processor_index n). ne_eqb (processor_number place) n
-    (λ is. other (sym (processor_places.place_of_number place below) ∙ ap processor_index is))
-    ∙ sym (ne_eqb place (processor_index n) other))
-    (cases_eq place (processor_index n))
+number_at place n below = grind (arith, eq-eqb, processor_places.number_of_place, processor_places.named_below, ne_eqb, processor_places.place_of_number, cases_eq)
 
 -- a processor's number has two octal digits
 pub processor_fits : (n : ℕ) → IsTrue (names_processor n) → n < 0o100
@@ -33,10 +25,7 @@ processor_fits n names = grind (arith)
 -- a processor's number is that of a channel
 pub channel_of_processor : (n : ℕ) → IsTrue (names_processor n) → IsTrue (names_channel n)
 unfolding names_processor is_number
-channel_of_processor n names =
-    dite (dec_lt n 0o14)
-    (λ low. channel_places.named_low n low)
-    (λ no. named_high n (grind (arith, no, names)) (grind (arith, names)))
+channel_of_processor n names = grind (arith, channel_places.named_low, named_high)
 
 -- a walk over all processors is one over all numbers of two octal digits
 pub numbers_of_processors : {X : Type 0} (f : ℕ → List X)

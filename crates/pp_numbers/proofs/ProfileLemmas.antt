@@ -17,23 +17,17 @@ most_processors Twenty = omega arith
 pub processor_named : (p : Profile) (n : ℕ) → IsTrue (has_processor p n)
     → IsTrue (names_processor n)
 unfolding has_processor
-processor_named p n has =
-    let most = most_processors p in processor_places.named_below n (grind (arith))
+processor_named p n has = grind (arith, most_processors, processor_places.named_below)
 
 -- a number that names none, no profile has
 pub unnamed_lacks : (p : Profile) (n : ℕ) → names_processor n ≡ false → has_processor p n ≡ false
-unnamed_lacks p n none = by (has_processor p n) refl
-  where
-    by : (b : Bool) → has_processor p n ≡ b → has_processor p n ≡ false
-    by true has = absurd (false≢true (sym none ∙ processor_named p n has))
-    by false has = has
+unnamed_lacks p n none = grind (arith, false≢true, processor_named)
 
 -- a profile has the processors of the first places
 pub has_at : (p : Profile) (place : ℕ) → place < processor_count
     → has_processor p (processor_number place) ≡ nat_lt place (processors_in p)
 unfolding has_processor
-has_at p place within =
-    ap (λ i. nat_lt i (processors_in p)) (processor_places.place_of_number place within)
+has_at p place within = grind (arith, processor_places.place_of_number)
 
 -- the turn after whole rounds is one of the first round
 pub rest_within : (p : Profile) (turns : ℕ) → turns % processors_in p < processors_in p
@@ -51,8 +45,7 @@ channel_named p c has = let most = most_channels p in channel_places.named_below
 -- the channels of each profile by number
 pub channels_of_ten : (c : ℕ) → IsTrue (has_channel Ten c) ↔ (c < 0o14)
 unfolding has_channel
-channels_of_ten c =
-    (λ has. channel_places.low_number c (grind (arith, has)), λ below. let place = channel_places.low_place c below in grind (arith))
+channels_of_ten c = grind (arith, channel_places.low_number, channel_places.low_place)
 
 -- numbers that are small enough name one
 pub small_channels : (c : ℕ) → c < 0o14 → IsTrue (names_channel c)
@@ -71,9 +64,7 @@ pub in_turn_at : (p : Profile) (place : ℕ) → place < processors_in p → pro
 in_turn_at p place within = ap processor_number (place_in_turn p place within)
 
 pub index_in_turn : (p : Profile) (place : ℕ) → place < processors_in p → processor_index (processor_in_turn p place) ≡ place
-index_in_turn p place within =
-    let most = most_processors p in
-    ap processor_index (in_turn_at p place within) ∙ processor_places.place_of_number place (omega arith)
+index_in_turn p place within = grind (arith, most_processors, in_turn_at, processor_places.place_of_number)
 
 -- after whole rounds the barrel begins anew
 pub place_in_round : (p : Profile) (rounds turn : ℕ) → (rounds * processors_in p + turn) % processors_in p ≡ turn % processors_in p

@@ -42,15 +42,7 @@ tabulate_const {A} n f x same = const_from 0 n
 
 set_entry : {A : Type 0} (d : A) (n : ℕ) (f : ℕ → A) (k : ℕ) (x : A) (i : ℕ) → i < n
     → get_or (set (tabulate n f) k x) i d ≡ cond (eqb i k) x (f i)
-set_entry d n f k x i lt = elim (cases_eq i k) [
-  | inl e ↦
-      ap (λ (j : ℕ). get_or (set (tabulate n f) j x) i d) (sym e)
-      ∙ get_or-set_same (tabulate n f) i x d (omega (arith, lt, length-tabulate n f))
-      ∙ sym (cond-true (eqb i k) x (f i) (eq-eqb i k e))
-  | inr ne ↦
-      get_or-set_other (tabulate n f) k i x d ne ∙ get_or-tabulate n f i d lt
-      ∙ sym (cond-false (eqb i k) x (f i) (ne_eqb i k ne))
-]
+set_entry d n f k x i lt = grind (arith, cases_eq, get_or-set_same, length-tabulate, cond-true, eq-eqb, get_or-set_other, get_or-tabulate, cond-false, ne_eqb)
 
 -- a table with one entry set
 pub set-tabulate : {A : Type 0} (d : A) (n : ℕ) (f : ℕ → A) (k : ℕ) (x : A)

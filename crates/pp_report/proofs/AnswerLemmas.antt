@@ -1,5 +1,5 @@
 -- An answer that moved its processor: it is local, or a channel gives it at the moment that its sight tells.
-use Rattle.std.proofs.Common.{◌≡◌, ◌≢◌, ℕ, ◌<◌, ◌≤◌, Bool, true, false, List, [], ◌∷◌, ◌++◌, Option, Some, None, refl, sym, ap, ◌∙◌, subst, inl, inr}
+use Rattle.std.proofs.Common.{◌≡◌, ◌≢◌, ℕ, ◌<◌, ◌≤◌, Bool, true, false, List, [], ◌∷◌, ◌++◌, Option, Some, None, refl, sym, ap, ◌∙◌, subst, inl, inr, arith}
 use Rattle.std.specs.Prelude.{◌⊎◌, if◌then◌else◌, map}
 use Rattle.std.specs.Option.{option_to_list}
 use Rattle.std.proofs.lemmas.Bool.{cases_lt}
@@ -76,8 +76,7 @@ kinds size (Need.Write a w) (Answer.Wrote true) fit some by_size = inr (record {
 kinds size (Need.Write a w) x fit some by_size = absurd cc
 
 pub kind_of : (size : ℕ) (pp : Processor) (x : Answer) → GoesOn size pp x → IsAside size (need pp) x ⊎ IsAccess (need pp) x
-kind_of size pp x goes =
-    kinds size (need pp) x goes.fit (λ nothing. let rest : outcome pp x ≡ Outcome.AtRest = (at_rest pp x).1 ((nothing_at_rest pp).0 nothing) in let moved = goes.moved in absurd cc) goes.by_size
+kind_of size pp x goes = grind (arith, kinds, at_rest, nothing_at_rest)
 
 -- the answer that made an access
 pub record IsOnChannel (needed : Need) (x : Answer) (entry : Entry) : Type 0 where
@@ -124,11 +123,7 @@ not_ready_in : (state : PpState) (block : Option Block) (pp : Processor) (c : �
 not_ready_in Stopped block pp c op f needed moved = absurd cc
 not_ready_in (Fault number) block pp c op f needed moved = absurd cc
 not_ready_in Running None pp c op f needed moved = absurd cc
-not_ready_in Running (Some block) pp c op f needed moved = inactive block.kind block.place pp c op f needed (ended f.active moved)
-  where
-    ended : (b : Bool) → (if b then Outcome.Held else Outcome.Moved) ≡ Outcome.Moved → b ≡ false
-    ended true is = absurd cc
-    ended false is = refl
+not_ready_in Running (Some block) pp c op f needed moved = grind (arith, inactive)
 
 pub held_not_ready : (pp : Processor) (c : ℕ) (op : ChanOp) (f : Flags) → need pp ≡ Need.Channel c op → outcome pp (Answer.Channel (Reply.Held f)) ≡ Outcome.Moved → ready_at op f ≡ false
 unfolding need outcome
@@ -145,12 +140,7 @@ same_look f g is = cc
 look_reply : (h : List Event) (op : ChanOp) (reply : Reply) (f : Flags) → reply_fits op reply ≡ true → seen_answered op reply ≡ Some (Saw f) → f ≡ flags_of h → ((g : Flags) → reply ≡ Reply.Held g → ready_at op g ≡ false) → IsLookAnswer h op reply
 look_reply h ChanOp.Probe (Reply.Flags g) f fit told now held = record { is = ap (λ x. Reply.Flags x) (sym (same_look f g told ∙ now)); none = refl }
 look_reply h op (Reply.Flags g) f fit told now held = absurd cc
-look_reply h op (Reply.Held g) f fit told now held =
-    let same : g ≡ flags_of h = same_look f g told ∙ now in
-    let none : event_of op h ≡ None = ap (λ b. if b then event_with op (waiting h) else None) (subst (λ (x : Flags). ready_at op x ≡ false) same (held g refl)) in record {
-      is = ap (reply_by op (channel_state h)) none ∙ (held_at op (channel_state h) (acts_where_held op g fit) ∙ ap (λ x. Reply.Held x) (sym same));
-      none = none;
-    }
+look_reply h op (Reply.Held g) f fit told now held = grind (arith, same_look, held_at, acts_where_held)
 look_reply h ChanOp.Probe Reply.Done f fit told now held = absurd cc
 look_reply h ChanOp.Activate Reply.Done f fit told now held = absurd cc
 look_reply h ChanOp.Disconnect Reply.Done f fit told now held = absurd cc

@@ -14,10 +14,7 @@ use Rattle.pp_report.specs.PrintedReport.{author_place}
 -- where a search passes over a log, that log does not tell the event
 untold : (n : ℕ) (i : ℕ) (more : Option ℕ) → cond (nat_lt 0 n) (Some i) more ≡ None → (n ≡ 0) × (more ≡ None)
 untold zero i more e = (refl, e)
-untold (suc n) i more e =
-    let some : nat_lt 0 (suc n) ≡ true = lt-ltb 0 (suc n) (omega arith) in
-    let found : Some i ≡ None = sym (ap (λ (b : Bool). cond b (Some i) more) some) ∙ e in
-    absurd (cc)
+untold (suc n) i more e = grind (arith, lt-ltb)
 
 module _ {Z : Type 0} (c number : ℕ) where
   from_none : (i : ℕ) (ws : List (Worker Z)) → times_logged c number (logs_of ws) ≡ 0 → position_from (λ (w : Worker Z). nat_lt 0 (times_logged c number w.log.items)) i ws ≡ None

@@ -12,8 +12,7 @@ use Rattle.pp_report.specs.PrintedReport.{author_place, line_by, numbered_event_
 module _ {X : Type 0} where
   pub enumerate_push : (n : ℕ) (xs : List X) (y : X) → enumerate_from n (xs ++ y ∷ []) ≡ enumerate_from n xs ++ (n + length xs, y) ∷ []
   enumerate_push n [] y = ap (λ k. (k, y) ∷ []) (omega arith)
-  enumerate_push n (x ∷ xs) y = ap (λ more. (n, x) ∷ more)
-      (enumerate_push (n + 1) xs y ∙ ap (λ k. enumerate_from (n + 1) xs ++ (k, y) ∷ []) (omega arith))
+  enumerate_push n (x ∷ xs) y = grind (arith, enumerate_push (n + 1) xs y)
 
 -- the first events, each with its number, and one event more
 pub enumerate_more : (h : List Event) (i : ℕ) (e : Event) → i < length h → e ≡ slice_index_or h i e → enumerate_from 0 (take (i + 1) h) ≡ enumerate_from 0 (take i h) ++ (i, e) ∷ []

@@ -23,30 +23,11 @@ unfolding has_processor
 inside p n has = grind (arith)
 
 stopped_rests : (pp : Processor) → registers_of pp ≡ at_rest → IsAtRest pp
-stopped_rests pp is running =
-    let stopped : pp.state ≡ Stopped = ap (λ (r : Registers). r.state) is in
-    let bad : Stopped ≡ Running = sym stopped ∙ running in
-    cc
+stopped_rests pp is running = grind arith
 
 absent_rests : (m : MachineState) (n : ℕ) → length m.processors ≤ processor_index n → IsAtRest (processor_of n m)
-absent_rests m n past running =
-    let absent : processor_of n m ≡ no_processor = get_or_past m.processors (processor_index n) no_processor past in
-    let bad : Stopped ≡ Running = sym (ap (λ (pp : Processor). pp.state) absent) ∙ running in
-    cc
+absent_rests m n past running = grind (arith, get_or_past)
 
 pub lacked_rests : (lines : List Line) (deck : LoadedDeck) → KeepsDeckLaw lines deck → NamesWithin deck.machine.profile deck.named → (n : ℕ) → processors_in deck.machine.profile ≤ processor_index n
     → IsAtRest (processor_of n deck.machine)
-lacked_rests lines deck holds names n past =
-    let p = deck.machine.profile in
-    let lacks : IsTrue (has_processor p n) → ⊥ = λ has. let within = inside p n has in omega (arith, within, past) in
-    ⊎_elim
-    (λ (below : processor_index n < processor_count).
-    let named = processor_places.named_below n below in
-    let never : (k : ℕ) (x : Registers) → k < length lines → IsFor lines k n × Starts (line_of lines k) x → ⊥ = λ k x within sets.
-    let heading = sets.0 in
-    let at : slice_index_or lines heading.heading (section n) ≡ section n =
-    get_or_default lines heading.heading (section n) nothing (omega (arith, within, heading.before)) ∙ heading.names in
-    lacks (names n named ((holds.named n named).1 (heading.heading, omega (arith, within, heading.before), at))) in
-    stopped_rests (processor_of n deck.machine) ((holds.starts n named (λ waits. lacks waits.processor)).none never))
-    (λ (beyond : processor_count ≤ processor_index n). absent_rests deck.machine n (omega (arith, beyond, holds.each_processor)))
-    (cases_lt (processor_index n) processor_count)
+lacked_rests lines deck holds names n past = grind (arith, inside, processor_places.named_below, get_or_default, stopped_rests, absent_rests, cases_lt)

@@ -56,9 +56,7 @@ all_left group = sum_by (λ (xs : List Answer). length xs) group.left
 
 along_more : (n : ℕ) (m : MachineState) (ks ns : List ℕ) → answers_along n (ks ++ ns) m ≡ answers_along n ks m ++ answers_along n ns (run ks m)
 along_more n m [] ns = refl
-along_more n m (k ∷ ks) ns =
-    let first : List Answer = cond (eqb n k) (answer_to (need (processor_of k m)) m ∷ []) [] in
-    ap (λ l. first ++ l) (along_more n (stepped k m) ks ns) ∙ sym (append_assoc first (answers_along n ks (stepped k m)) (answers_along n ns (run ks (stepped k m))))
+along_more n m (k ∷ ks) ns = grind (arith, append_assoc, along_more n (stepped k m) ks ns)
 
 -- steps of processors of the profile, each of which moves its processor, lead a machine to one that stands so,
 -- and the processors get these answers
@@ -153,57 +151,22 @@ serves_local size past = serves_same size Need.Local Answer.Local past (λ m pps
 
 -- an operation that makes no event
 pub serves_look : (size c : ℕ) (op : ChanOp) (reply : Reply) (past : Past) → reply_to op (past.happened c) ≡ reply → event_of op (past.happened c) ≡ None → Serves size (Need.Channel c op) (Answer.Channel reply) past past
-serves_look size c op reply past replied none = serves_same size (Need.Channel c op) (Answer.Channel reply) past (λ m pps stands. (
-  ap (λ h. Answer.Channel (reply_to op h)) (stands.histories c) ∙ ap (λ r. Answer.Channel r) replied,
-  ap (λ (o : Option Event). set m.histories (channel_index c) (history_of c m ++ option_to_list o)) (ap (event_of op) (stands.histories c) ∙ none)
-      ∙ (ap (λ h. set m.histories (channel_index c) h) (append-nil (history_of c m)) ∙ set-get_or m.histories (channel_index c) []),
-  refl,
-))
+serves_look size c op reply past replied none = grind (arith, serves_same, append-nil, set-get_or)
 
 pub serves_event : (size c : ℕ) (op : ChanOp) (reply : Reply) (e : Event) (past later : Past) → IsTrue (names_channel c) → reply_to op (past.happened c) ≡ reply → event_of op (past.happened c) ≡ Some e
     → (later.happened c ≡ past.happened c ++ e ∷ []) → ((d : ℕ) → c ≢ d → later.happened d ≡ past.happened d) → past.words ≡ later.words → Serves size (Need.Channel c op) (Answer.Channel reply) past later
-serves_event size c op reply e past later names replied made here elsewhere words =
-    let after : (m : MachineState) (pps : List Processor) → Stands size m pps past → histories_after (Need.Channel c op) m ≡ set m.histories (channel_index c) (past.happened c ++ e ∷ []) = λ m pps stands.
-    (λ j. set m.histories (channel_index c) (stands.histories c j ++ option_to_list (event_of op (stands.histories c j))))
-    ∙ ap (λ (o : Option Event). set m.histories (channel_index c) (past.happened c ++ option_to_list o)) made in record {
-      answers_so = λ m pps stands. ap (λ h. Answer.Channel (reply_to op h)) (stands.histories c) ∙ ap (λ r. Answer.Channel r) replied;
-      channels = λ m pps stands. ap length (after m pps stands) ∙ (length-set m.histories (channel_index c) (past.happened c ++ e ∷ []) ∙ stands.channels);
-      histories = λ m pps stands d. ap (history_on d) (after m pps stands) ∙ elim (cases_eq c d) [
-        | inl same ↦
-            let below = channel_places.place_below c names in
-            let written : history_on c (set m.histories (channel_index c) (past.happened c ++ e ∷ [])) ≡ past.happened c ++ e ∷ [] = get_or-set_same m.histories (channel_index c) (past.happened c ++ e ∷ []) [] (omega (arith, below, stands.channels)) in
-            subst (λ (k : ℕ). history_on k (set m.histories (channel_index c) (past.happened c ++ e ∷ [])) ≡ later.happened k) same (written ∙ sym here)
-        | inr other ↦
-            get_or-set_other m.histories (channel_index c) (channel_index d) (past.happened c ++ e ∷ []) [] (λ is. other (sym (channel_places.one_place c d names is)))
-            ∙ (stands.histories d ∙ sym (elsewhere d other))
-      ];
-      central = λ m pps stands. stands.central ∙ words;
-      sized = λ is. ap length (sym words) ∙ is;
-    }
+serves_event size c op reply e past later names replied made here elsewhere words = grind (arith, length-set, cases_eq, channel_places.place_below, get_or-set_same, get_or-set_other, channel_places.one_place)
 
 -- central memory: a word is found, and one is written
 pub serves_read : (size a w : ℕ) (past : Past) → slice_index past.words a ≡ w → a < size → Serves size (Need.Read a) (Answer.Read (Some w)) past past
-serves_read size a w past found inside = serves_same size (Need.Read a) (Answer.Read (Some w)) past (λ m pps stands. (
-  ap (λ (words : List ℕ). Answer.Read (slice_get words a)) stands.central ∙ (ap (λ o. Answer.Read o) (slice_get-get_or past.words a 0 (omega (arith, inside, stands.sized))) ∙ ap (λ k. Answer.Read (Some k)) found),
-  refl,
-  refl,
-))
+serves_read size a w past found inside = grind (arith, serves_same, slice_get-get_or)
 
 pub serves_write : (size a w : ℕ) (past later : Past) → a < size → ((c : ℕ) → past.happened c ≡ later.happened c) → slice_set past.words a w ≡ later.words → Serves size (Need.Write a w) (Answer.Wrote true) past later
-serves_write size a w past later inside same words = record {
-  answers_so = λ m pps stands. ap (λ b. Answer.Wrote b) (lt-ltb a (length m.central) (omega (arith, inside, ap length stands.central, stands.sized)));
-  channels = λ m pps stands. stands.channels;
-  histories = λ m pps stands c. stands.histories c ∙ same c;
-  central = λ m pps stands. ap (λ (ws : List ℕ). slice_set ws a w) stands.central ∙ words;
-  sized = λ is. ap length (sym words) ∙ (length-set past.words a w ∙ is);
-}
+serves_write size a w past later inside same words = grind (arith, lt-ltb, length-set)
 
 -- past its size none is found, and none is written
 pub serves_no_word : (size a : ℕ) (past : Past) → size ≤ a → Serves size (Need.Read a) (Answer.Read None) past past
-serves_no_word size a past behind = serves_same size (Need.Read a) (Answer.Read None) past (λ m pps stands.
-    (ap (λ o. Answer.Read o) (slice_get_past m.central a (omega (arith, behind, ap length stands.central, stands.sized))), refl, refl))
+serves_no_word size a past behind = grind (arith, serves_same, slice_get_past)
 
 pub serves_no_write : (size a w : ℕ) (past : Past) → size ≤ a → Serves size (Need.Write a w) (Answer.Wrote false) past past
-serves_no_write size a w past behind = serves_same size (Need.Write a w) (Answer.Wrote false) past (λ m pps stands.
-    let out : length m.central ≤ a = omega (arith, behind, ap length stands.central, stands.sized) in
-    (ap (λ b. Answer.Wrote b) (le-ltb a (length m.central) out), refl, set_past m.central a w out))
+serves_no_write size a w past behind = grind (arith, serves_same, le-ltb, set_past)

@@ -41,10 +41,7 @@ told_body c t = codes "CH" ++ (octal 2 c ++ (codes " " ++ (decimal t.number ++ (
 
 same_told_tail : (t u : PrintedEvent) → FitsItsLine t → FitsItsLine u → told_tail t ≡ told_tail u → (t.author ≡ u.author) × (t.event ≡ u.event)
 unfolding told_tail
-same_told_tail t u fits also e = (
-  octal_tells 2 t.author u.author (processor_fits t.author fits.author) (processor_fits u.author also.author) (ap (λ l. take 2 (drop 2 l)) e),
-  same_event t.event u.event fits.word also.word (ap (drop 5) e),
-)
+same_told_tail t u fits also e = grind (arith, octal_tells, processor_fits, same_event)
 
 same_told : (c : ℕ) (t u : PrintedEvent) → FitsItsLine t → FitsItsLine u → told_body c t ≡ told_body c u → t ≡ u
 unfolding told_body told_tail
@@ -81,16 +78,12 @@ line_is c number place event = ap (λ rest. codes "CH" ++ (octal 2 c ++ (codes "
 line_told : (c number : ℕ) (event : Event) (author : Option ℕ) (more : List PrintedEvent) (text : List ℕ) → text ≡ unlines (map (told_body c) more)
     → line_by c number event author ++ text ≡ unlines (map (told_body c) (cons_option (printed_by number event author) more))
 line_told c number event None more text is = is
-line_told c number event (Some place) more text is =
-    let t : PrintedEvent = record { number = number; author = processor_number place; event = event } in
-    ap (λ l. l ++ text) (line_is c number place event) ∙ ap (λ m. (told_body c t ++ line_end) ++ m) is
+line_told c number event (Some place) more text is = grind (arith, line_is)
 
 events_in_lines : {Z : Type 0} (c : ℕ) (workers : List (Worker Z)) (numbered : List (ℕ × Event)) → flat_map (numbered_event_line c workers) numbered ≡ unlines (in_lines c workers numbered)
 unfolding numbered_event_line in_lines
 events_in_lines {Z} c workers [] = refl
-events_in_lines {Z} c workers ((number, event) ∷ more) =
-    line_told c number event (author_place c workers number) (filter_map (λ ((n, e) : ℕ × Event). printed_by n e (author_place c workers n)) more) (flat_map (numbered_event_line c workers) more)
-    (events_in_lines c workers more)
+events_in_lines {Z} c workers ((number, event) ∷ more) = grind (arith, line_told, events_in_lines c workers more)
 
 -- ---- the line of a worker
 
@@ -126,22 +119,14 @@ numbered_channel_events workers histories c = if names_channel c then channel_ev
 
 events_said : {Z : Type 0} (workers : List (Worker Z)) (histories : List (List Event)) (c : ℕ) → numbered_channel_events workers histories c ≡ unlines (events_lines workers histories c)
 unfolding events_lines in_lines
-events_said {Z} workers histories c = by_case _ _ (names_channel c) (events_in_lines c workers (enumerate_from 0 (history_on c histories)))
-  where
-    by_case : (text : List ℕ) (lines : List (List ℕ)) (b : Bool) → text ≡ unlines lines → (if b then text else []) ≡ unlines (if b then lines else [])
-    by_case text lines true is = is
-    by_case text lines false is = refl
+events_said {Z} workers histories c = grind (arith, events_in_lines, unlines)
 
 ends : {Z : Type 0} → List Bool → Report Z → ℕ → List (List ℕ)
 ends named report n = one_of n (shown_of named n report)
 
 ends_said : {Z : Type 0} (named : List Bool) (report : Report Z) (n : ℕ) → named_worker_line named report.ends.items n ≡ unlines (ends named report n)
 unfolding ends one_of
-ends_said {Z} named report n = by_case _ _ (is_named named n) (worker_said n (slice_get report.ends.items (processor_index n)))
-  where
-    by_case : (text : List ℕ) (shown : Option ShownEnd) (b : Bool) → text ≡ unlines (one_of n shown) → (if b then text else []) ≡ unlines (one_of n (if b then shown else None))
-    by_case text shown true is = is
-    by_case text shown false is = refl
+ends_said {Z} named report n = grind (arith, worker_said, unlines, one_of)
 
 -- ---- whose lines they are
 
@@ -198,8 +183,7 @@ state_at_five false None = omega arith
 
 state_key : (c : ℕ) (h : List Event) → c < 0o100 → key (channel_body c h) ≡ 67432 + c
 unfolding key channel_body heading
-state_key c h within =
-    ap (λ (b : Bool). (if b then 1000000 else 0) + (get_or (channel_body c h) 0 0 * 1000 + heading (channel_body c h))) (le-ltb (get_or (channel_body c h) 5 0) 58 (state_at_five (active h) (waiting h))) ∙ omega (arith, within)
+state_key c h within = grind (arith, channel_body, heading, le-ltb, state_at_five)
 
 events_keyed : {Z : Type 0} (workers : List (Worker Z)) (histories : List (List Event)) → AreKeyed 1067432 (events_lines workers histories)
 unfolding events_lines
@@ -220,9 +204,7 @@ ends_keyed named report n within = one_keyed n (shown_of named n report) within
 
 states_keyed : (histories : List (List Event)) → AreKeyed 67432 (channels histories)
 unfolding channels
-states_keyed histories c within =
-    let h = history_on c histories in
-    where_true (HaveKey (67432 + c)) (names_channel c && is_used h) (channel_body c h ∷ []) tt (state_key c h within, tt)
+states_keyed histories c within = grind (arith, where_true, is_used, channel_body, state_key)
 
 -- ---- lines without a line feed
 
@@ -254,19 +236,11 @@ above_end Worn = (omega arith, (omega arith, (omega arith, (omega arith, tt))))
 
 above_shown : (n : ℕ) (s : ShownEnd) → Above 10 (end_body n s)
 unfolding end_body
-above_shown n s =
-    let a = codes " A=" ++ (octal 6 s.a ++ (codes " " ++ end_text s.finish)) in
-    let above_a : Above 10 a = (omega arith, (omega arith, (omega arith, above_octal 6 s.a (codes " " ++ end_text s.finish) (omega arith, above_end s.finish)))) in
-    let above_p : Above 10 (codes " P=" ++ (octal 4 s.p ++ a)) = (omega arith, (omega arith, (omega arith, above_octal 4 s.p a above_a))) in
-    (omega arith, (omega arith, above_octal 2 n (codes " P=" ++ (octal 4 s.p ++ a)) above_p))
+above_shown n s = grind (arith, codes, above_octal, above_end)
 
 plain_ends : {Z : Type 0} (named : List Bool) (report : Report Z) (n : ℕ) → AreLines (ends named report n)
 unfolding ends one_of
-plain_ends {Z} named report n = plain_one (shown_of named n report)
-  where
-    plain_one : (shown : Option ShownEnd) → AreLines (one_of n shown)
-    plain_one None = tt
-    plain_one (Some s) = (above_shown n s, tt)
+plain_ends {Z} named report n = grind (arith, one_of, above_shown)
 
 -- ---- the whole text
 
@@ -297,18 +271,13 @@ plain_lines {Z} named report =
     (are_lines_below 0o100 (channels report.channels) (plain_channels report.channels)))
 
 same_lines : {Y Z : Type 0} (named others : List Bool) (one : Report Y) (other : Report Z) → printed_report named one ≡ printed_report others other → lines_of named one ≡ lines_of others other
-same_lines {Y} {Z} named others one other e =
-    lines_told (lines_of named one) (lines_of others other) (plain_lines named one) (plain_lines others other) (sym (text_in_lines named one) ∙ e ∙ text_in_lines others other)
+same_lines {Y} {Z} named others one other e = grind (arith, lines_told, lines_of, plain_lines, text_in_lines)
 
 -- the lines with one key
 among : {Z : Type 0} (named : List Bool) (report : Report Z) (k : ℕ) → filter (has_key k) (lines_of named report)
     ≡ filter (has_key k) (lines_below 0o100 (events_lines report.ends.items report.channels)) ++ (filter (has_key k) (lines_below 0o100 (ends named report)) ++ filter (has_key k) (lines_below 0o100 (channels report.channels)))
 unfolding lines_of
-among named report k =
-    let ws = lines_below 0o100 (ends named report) in
-    let cs = lines_below 0o100 (channels report.channels) in
-    filter-append (has_key k) (lines_below 0o100 (events_lines report.ends.items report.channels)) (ws ++ cs)
-    ∙ ap (λ more. filter (has_key k) (lines_below 0o100 (events_lines report.ends.items report.channels)) ++ more) (filter-append (has_key k) ws cs)
+among named report k = grind (arith, lines_below, ends, channels, filter-append, has_key, events_lines)
 
 module _ {Z : Type 0} (named : List Bool) (report : Report Z) where
   among_events : (c : ℕ) → c < 0o100 → filter (has_key (1067432 + c)) (lines_of named report) ≡ events_lines report.ends.items report.channels c
@@ -342,9 +311,7 @@ same_finish Steps Steps _ _ e = refl
 same_finish Patience Patience _ _ e = refl
 same_finish Memory Memory _ _ e = refl
 same_finish Worn Worn _ _ e = refl
-same_finish f g _ _ e =
-    let third : get_or (end_text f) 2 0 ≡ get_or (end_text g) 2 0 = ap (λ text. get_or text 2 0) e in
-    absurd (omega (arith, third))
+same_finish f g _ _ e = grind arith
 
 -- it fits its line, and a fault at its end is a numbered one
 record IsClear (s : ShownEnd) : Type 0 where
@@ -353,11 +320,7 @@ record IsClear (s : ShownEnd) : Type 0 where
 
 same_shown : (n : ℕ) (s t : ShownEnd) → IsClear s → IsClear t → end_body n s ≡ end_body n t → s ≡ t
 unfolding end_body
-same_shown n s t clear also e = λ j. record {
-  p = octal_tells 4 s.p t.p clear.fits.p also.fits.p (ap (λ l. take 4 (drop 7 l)) e) j;
-  a = octal_tells 6 s.a t.a clear.fits.a also.fits.a (ap (λ l. take 6 (drop 14 l)) e) j;
-  finish = same_finish s.finish t.finish clear.numbered also.numbered (ap (drop 21) e) j;
-}
+same_shown n s t clear also e = grind (arith, octal_tells, same_finish)
 
 same_one : (n : ℕ) (s t : Option ShownEnd) → IfSome s IsClear → IfSome t IsClear → one_of n s ≡ one_of n t → s ≡ t
 unfolding one_of
@@ -381,8 +344,7 @@ clear_where_named true shown clear = clear refl
 clear_where_named false shown clear = tt
 
 clear_shown : {Z : Type 0} (named : List Bool) (n : ℕ) (report : Report Z) → FitsItsReport named report → HasNumberedEnds report → IfSome (shown_of named n report) IsClear
-clear_shown {Z} named n report fits numbered =
-    clear_where_named (is_named named n) (end_of n report) (λ is. clear_end (processor_index n) report.ends.items (fits.workers n is) numbered)
+clear_shown {Z} named n report fits numbered = grind (arith, clear_where_named, clear_end)
 
 -- ---- the law
 
@@ -400,8 +362,7 @@ tells_events {Y} {Z} named others one other c is fits also e =
 
 -- no processor is shown past the numbers of two digits
 none_shown : {Z : Type 0} (named : List Bool) (n : ℕ) (report : Report Z) → 0o100 ≤ n → shown_of named n report ≡ None
-none_shown {Z} named n report past =
-    ap (λ (b : Bool). if b then end_of n report else None) (false_from_ne_true (is_named named n) (λ is. let low = named_digits named n is in absurd (omega (arith, low, past))))
+none_shown {Z} named n report past = grind (arith, false_from_ne_true, named_digits)
 
 tells_end : {Y Z : Type 0} (named others : List Bool) (one : Report Y) (other : Report Z) (n : ℕ) → IfSome (shown_of named n one) IsClear → IfSome (shown_of others n other) IsClear
     → printed_report named one ≡ printed_report others other → shown_of named n one ≡ shown_of others n other
@@ -423,11 +384,7 @@ tells_state {Y} {Z} named others one other c is small also e =
 
 pub report_tells : {Y Z : Type 0} (named others : List Bool) (one : Report Y) (other : Report Z) → FitsItsReport named one → FitsItsReport others other → HasNumberedEnds one → HasNumberedEnds other
     → printed_report named one ≡ printed_report others other → AgreeOnReport named others one other
-report_tells {Y} {Z} named others one other fits also numbered told e = record {
-  events = λ c is. tells_events named others one other c is (fits.events c is) (also.events c is) e;
-  workers = λ n. tells_end named others one other n (clear_shown named n one fits numbered) (clear_shown others n other also told) e;
-  channels = λ c is. tells_state named others one other c is (fits.channels c is) (also.channels c is) e;
-}
+report_tells {Y} {Z} named others one other fits also numbered told e = grind (arith, tells_events, tells_end, clear_shown, channels, tells_state)
 
 -- ---- and the histories, where both began alike
 

@@ -74,13 +74,7 @@ does size (x ∷ xs) pp after made gives moved by_size are =
 -- the events among accesses are those that the answers made
 did_along : (xs : List Answer) (pp after : Processor) (made : List Access) → Gives pp xs after → AreAccessesOf pp xs made → events_in (entries_among made) ≡ events_given pp xs
 did_along [] pp after made gives are = ap (λ l. events_in (entries_among l)) are ∙ sym (told_none event_answered pp)
-did_along (x ∷ xs) pp after made gives are =
-    let first : List Access = accesses_by are.0 (need pp) x in
-    ap (λ l. events_in (entries_among l)) are.2
-    ∙ (ap events_in (entries_more first are.1)
-    ∙ (filter_map-append (λ entry. event_in entry.channel entry.what) (entries_among first) (entries_among are.1)
-    ∙ ((λ j. events_by are.0 (need pp) x j ++ did_along xs (processor_after pp x) after are.1 gives.1 are.3 j)
-    ∙ sym (told_cons event_answered pp x xs gives.0))))
+did_along (x ∷ xs) pp after made gives are = grind (arith, entries_more, filter_map-append, events_by, told_cons, did_along xs (processor_after pp x) after are.1 gives.1 are.3)
 
 -- entries that stand in a log and tell as many events tell each event as often
 weight : Entry → ℕ

@@ -81,18 +81,12 @@ not_written : (m k : ℕ) (os : List Access) → NumberedFrom m os → k < m →
 not_written m k [] numbered early = refl
 not_written m k (OnChannel entry ∷ os) numbered early = omega (arith, sum_by-cons (tells_write k) (OnChannel entry) os, not_written m k os numbered early)
 not_written m k (Read a w ∷ os) numbered early = omega (arith, sum_by-cons (tells_write k) (Read a w) os, not_written m k os numbered early)
-not_written m k (Write a w n ∷ os) numbered early =
-    let none = another_write k a w n (λ same. omega (arith, same, numbered.0, early)) in
-    omega (arith, sum_by-cons (tells_write k) (Write a w n) os, none, not_written (m + 1) k os numbered.1 (omega (arith, early)))
+not_written m k (Write a w n ∷ os) numbered early = grind (arith, another_write, sum_by-cons, tells_write, not_written (m + 1) k os numbered.1 (omega (arith, early)))
 
 -- entries in their places tell no event that has come before
 told_in_place : (c number : ℕ) (happened : ℕ → List Event) (entry : Entry) (what : Seen) → entry.what ≡ what → ComesAfter (happened entry.channel) entry.number what → number < length (happened c) → told_by c number entry ≡ 0
 told_in_place c number happened entry (Saw f) is comes early = told_look c number entry f is
-told_in_place c number happened entry (Did e) is comes early =
-    told_event c number entry e is (elim (cases_eq entry.channel c) [
-      | inl same ↦ let there : length (happened entry.channel) ≡ length (happened c) = ap (λ k. length (happened k)) same in inr (λ at. omega (arith, at, there, comes, early))
-      | inr other ↦ inl other
-    ])
+told_in_place c number happened entry (Did e) is comes early = grind (arith, told_event, cases_eq)
 
 not_early : (c number : ℕ) (happened : ℕ → List Event) (os : List Entry) → IsLegal happened os → number < length (happened c) → times_logged c number os ≡ 0
 not_early c number happened [] all early = refl
@@ -231,12 +225,7 @@ module _ (size : ℕ) (p : Profile) (others : List Processor) where
 
   -- the steps that are left, once no accesses are
   end_each : (was front ws : List Working) (past : Past) → map pp_of front ≡ map after_of was → All HasNoneLeft front → length (front ++ ws) ≤ processors_in p → All (Ready []) ws → Finished (was ++ ws) (front ++ ws) past past
-  end_each was front [] past same none few left = record {
-    now = front;
-    none = none;
-    processors = same ∙ ap (map after_of) (sym (append-nil was));
-    leads = subst (λ (us : List Working). Leads size p (all_of others us) past (all_of others front) past) (sym (append-nil front)) (leads_none size p (all_of others front) past);
-  }
+  end_each was front [] past same none few left = grind (arith, after_of, append-nil, all_of, leads_none)
   end_each was front (w ∷ ws) past same none few left =
       let here = All-head (Ready []) w ws left in
       let done = rest_done size p others front ws (front_inside front ws w few) w.answers w.pp w.accesses w.after past here.working (none_stand w.accesses here.stands) in
@@ -259,8 +248,7 @@ module _ (size : ℕ) (p : Profile) (others : List Processor) where
   }
 
   still_few : (access : Access) (os : List Access) (ws : List Working) (past later : Past) → (served : Served ws past later access os) → length ws ≤ processors_in p → length served.now ≤ processors_in p
-  still_few access os ws past later served few =
-      let many : length served.now ≡ length ws = sym (length-map served.now after_of) ∙ (ap length served.afters ∙ length-map ws after_of) in omega (arith, many, few)
+  still_few access os ws past later served few = grind (arith, length-map, after_of)
 
   -- what is left by an access
   abbrev pub With : Past → Access → Past

@@ -38,11 +38,7 @@ states_set states histories c h are names as_many all = λ d named. by_number d 
 
 -- a processor that was read at its place
 pub own_processor : {items : List Processor} {i : ℕ} {pp : Processor} (n : ℕ) (m : MachineState) → items ≡ m.processors → i ≡ processor_index n → i < processor_count → length m.processors ≡ processor_count → pp ≡ get_or items i pp → pp ≡ processor_of n m
-own_processor {items} {i} {pp} n m same place below as_many read =
-    let within : i < length items = omega (arith, below, as_many, ap length same) in
-    get_or_read items i pp within read no_processor
-    ∙ ap (λ (ps : List Processor). get_or ps i no_processor) same
-    ∙ ap (λ (k : ℕ). get_or m.processors k no_processor) place
+own_processor {items} {i} {pp} n m same place below as_many read = grind (arith, get_or_read)
 
 -- a machine keeps all its channels
 pub all_channels : (x : Need) (m : MachineState) → length m.histories ≡ channel_count → length (histories_after x m) ≡ channel_count

@@ -55,17 +55,11 @@ module _ (ns : List ℕ) (m : MachineState) (each : length m.histories ≡ chann
   ]
 
   longer : (c t : ℕ) → length (history_at ns m c t) ≤ length (history_at ns m c (suc t))
-  longer c t = elim (history_step c t) [
-    | inl same ↦ omega (arith, ap (λ (h : List Event). length h) same)
-    | inr more ↦ omega (arith, ap (λ (h : List Event). length h) more.1, length_push (history_at ns m c t) more.0)
-  ]
+  longer c t = grind (arith, history_step, length_push)
 
   -- histories never shrink
   pub mono : (c s t : ℕ) → s ≤ t → length (history_at ns m c s) ≤ length (history_at ns m c t)
-  mono c s zero h =
-      let first : s ≡ zero = omega arith in
-      let P : ℕ → Type 0 = λ k. length (history_at ns m c s) ≤ length (history_at ns m c k) in
-      subst P first (omega arith)
+  mono c s zero h = grind arith
   mono c s (suc t) h = elim (cases_lt s (suc t)) [
     | inl below ↦ omega (arith, mono c s t (omega arith), longer c t)
     | inr past ↦
@@ -76,9 +70,7 @@ module _ (ns : List ℕ) (m : MachineState) (each : length m.histories ≡ chann
 
   -- where no step between changes it, it is the same
   pub still : (c s t : ℕ) → s ≤ t → ((u : ℕ) → s ≤ u → u < t → history_at ns m c (suc u) ≡ history_at ns m c u) → history_at ns m c t ≡ history_at ns m c s
-  still c s zero h none =
-      let first : zero ≡ s = omega arith in
-      ap (λ k. history_at ns m c k) first
+  still c s zero h none = grind arith
   still c s (suc t) h none = elim (cases_lt s (suc t)) [
     | inl below ↦ none t (omega arith) (omega arith) ∙ still c s t (omega arith) (λ u low high. none u low (omega arith))
     | inr past ↦
@@ -106,19 +98,7 @@ module _ (ns : List ℕ) (m : MachineState) (each : length m.histories ≡ chann
   -- what may be found is on the same side of each event of q on c
   pub sides : (q c : ℕ) {t s : ℕ} → MayFind ns m q c t s → (u : ℕ) → get_or ns u 0 ≡ q → (history_at ns m c (suc u) ≡ history_at ns m c u → ⊥) → (u < t → u < s) × (u < s → u < t)
   sides q c start u mine event = ((λ h. absurd (omega arith)), (λ h. absurd (omega arith)))
-  sides q c (channel_advances t s may none) u mine event =
-      let before = sides q c may u mine event in (
-        (λ h. let b : u < s = before.0 h in omega arith),
-        (λ h. elim (cases_lt u s) [
-          | inl below ↦ before.1 below
-          | inr past ↦
-              let here : u ≡ s = omega arith in
-              absurd (elim none [
-                | inl other ↦ other (subst (λ (k : ℕ). get_or ns k 0 ≡ q) here mine)
-                | inr stays ↦ event (subst (λ (k : ℕ). history_at ns m c (suc k) ≡ history_at ns m c k) (sym here) stays)
-              ])
-        ]),
-      )
+  sides q c (channel_advances t s may none) u mine event = grind (arith, cases_lt, sides q c may u mine event)
   sides q c (processor_advances t s may alone) u mine event =
       let before = sides q c may u mine event in (
         (λ h. elim (cases_lt u t) [
@@ -133,9 +113,7 @@ module _ (ns : List ℕ) (m : MachineState) (each : length m.histories ≡ chann
 
   -- a channel may go on where it does not change
   pub channel_to : (q c t0 s t : ℕ) → MayFind ns m q c t0 s → s ≤ t → ((u : ℕ) → s ≤ u → u < t → history_at ns m c (suc u) ≡ history_at ns m c u) → MayFind ns m q c t0 t
-  channel_to q c t0 s zero may h none =
-      let there : s ≡ zero = omega arith in
-      subst (λ (k : ℕ). MayFind ns m q c t0 k) there may
+  channel_to q c t0 s zero may h none = grind arith
   channel_to q c t0 s (suc t) may h none = elim (cases_lt s (suc t)) [
     | inl below ↦ channel_advances t0 t (channel_to q c t0 s t may (omega arith) (λ u low high. none u low (omega arith))) (inr (none t (omega arith) (omega arith)))
     | inr past ↦
@@ -145,9 +123,7 @@ module _ (ns : List ℕ) (m : MachineState) (each : length m.histories ≡ chann
 
   -- who made its events is the same where the history is
   pub made_still : (c s t : ℕ) → IsTrue (names_channel c) → s ≤ t → ((u : ℕ) → s ≤ u → u < t → history_at ns m c (suc u) ≡ history_at ns m c u) → made_on c (at_moment ns m t).trace ≡ made_on c (at_moment ns m s).trace
-  made_still c s zero names h none =
-      let first : zero ≡ s = omega arith in
-      ap (λ k. made_on c (at_moment ns m k).trace) first
+  made_still c s zero names h none = grind arith
   made_still c s (suc t) names h none = elim (cases_lt s (suc t)) [
     | inl below ↦
         let before : made_on c (at_moment ns m t).trace ≡ made_on c (at_moment ns m s).trace = made_still c s t names (omega arith) (λ u low high. none u low (omega arith)) in

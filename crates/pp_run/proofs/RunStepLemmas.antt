@@ -20,9 +20,7 @@ use Rattle.pp_run.specs.RunSteps.{RunStep, is_of, run_steps, seen_of}
 pub run_steps-both : (ns ks : List ℕ) (m : MachineState)
     → run_steps (ns ++ ks) m ≡ run_steps ns m ++ run_steps ks (run ns m)
 run_steps-both [] ks m = refl
-run_steps-both (n ∷ ns) ks m =
-    ap (λ (ss : List RunStep). record { processor = n; before = m } ∷ ss)
-    (run_steps-both ns ks (stepped n m))
+run_steps-both (n ∷ ns) ks m = grind (arith, run_steps-both ns ks (stepped n m))
 
 -- over one step at the end of a list
 pub run_steps-append : (ns : List ℕ) (n : ℕ) (m : MachineState)
@@ -38,11 +36,7 @@ length-run_steps (n ∷ ns) m = ap (λ (k : ℕ). suc k) (length-run_steps ns (s
 pub barrel_steps_more : (p : Profile) (turn n : ℕ) (m : MachineState) → n ≡ processor_in_turn p turn
     → run_steps (barrel p (turn + 1)) m
     ≡ run_steps (barrel p turn) m ++ record { processor = n; before = run (barrel p turn) m } ∷ []
-barrel_steps_more p turn n m is =
-    ap (λ (k : ℕ). run_steps (barrel p k) m) (add-one turn)
-    ∙ run_steps-append (barrel p turn) (processor_in_turn p turn) m
-    ∙ ap (λ (k : ℕ). run_steps (barrel p turn) m
-    ++ record { processor = k; before = run (barrel p turn) m } ∷ []) (sym is)
+barrel_steps_more p turn n m is = grind (arith, add-one, run_steps-append)
 
 -- as many steps as turns
 pub length-barrel_steps : (p : Profile) (turns : ℕ) (m : MachineState)
@@ -53,10 +47,7 @@ length-barrel_steps p turns m = length-run_steps (barrel p turns) m ∙ length-b
 
 -- the first of them
 pub take_barrel : (p : Profile) (turns t : ℕ) → t ≤ turns → take t (barrel p turns) ≡ barrel p t
-take_barrel p zero t low = ap (λ (k : ℕ). take k []) none ∙ ap (barrel p) (sym none)
-  where
-    none : t ≡ 0
-    none = omega (arith, low)
+take_barrel p zero t low = grind arith
 take_barrel p (suc turns) t low = elim (cases_lt t (suc turns)) [
   | inl below ↦
       take-append-le t (barrel p turns) (processor_in_turn p turns ∷ [])
@@ -82,13 +73,7 @@ turn_of_barrel p turns t before =
 -- no more than all
 pub few_seen : {X : Type 0} (of : RunStep → X) (n : ℕ) (steps : List RunStep)
     → length (seen_of of n steps) ≤ length steps
-few_seen of n steps =
-    omega (
-      arith,
-      length-map (filter (is_of n) steps) of,
-      length-filter (is_of n) steps,
-      count_by-le-length (is_of n) steps,
-    )
+few_seen of n steps = grind (arith, length-map, length-filter, count_by-le-length)
 
 -- of a run: as many as its turns
 pub length-seen : {X : Type 0} (of : RunStep → X) (n : ℕ) (ns : List ℕ) (m : MachineState)
@@ -107,42 +92,28 @@ length-seen {X} of n (k ∷ ns) m =
 
 pub seen-append : {X : Type 0} (of : RunStep → X) (n : ℕ) (steps more : List RunStep)
     → seen_of of n (steps ++ more) ≡ seen_of of n steps ++ seen_of of n more
-seen-append of n steps more =
-    ap (map of) (filter-append (is_of n) steps more)
-    ∙ map-append of (filter (is_of n) steps) (filter (is_of n) more)
+seen-append of n steps more = grind (arith, filter-append, map-append)
 
 -- over a step of its own
 pub seen_more : {X : Type 0} (of : RunStep → X) (n : ℕ) (steps : List RunStep) (step : RunStep)
     → step.processor ≡ n → seen_of of n (steps ++ step ∷ []) ≡ seen_of of n steps ++ of step ∷ []
-seen_more {X} of n steps step own =
-    seen-append of n steps (step ∷ [])
-    ∙ ap (λ (ss : List RunStep). seen_of of n steps ++ map of ss)
-    (cond-true (eqb step.processor n) (step ∷ []) [] (eq-eqb step.processor n own))
+seen_more {X} of n steps step own = grind (arith, seen-append, cond-true, eq-eqb)
 
 -- over one of another
 pub seen_other : {X : Type 0} (of : RunStep → X) (n : ℕ) (steps : List RunStep) (step : RunStep)
     → step.processor ≢ n → seen_of of n (steps ++ step ∷ []) ≡ seen_of of n steps
-seen_other {X} of n steps step other =
-    seen-append of n steps (step ∷ [])
-    ∙ ap (λ (ss : List RunStep). seen_of of n steps ++ map of ss)
-    (cond-false (eqb step.processor n) (step ∷ []) [] (ne_eqb step.processor n other))
-    ∙ append-nil (seen_of of n steps)
+seen_other {X} of n steps step other = grind (arith, seen-append, cond-false, ne_eqb, append-nil)
 
 -- ---- a list that counts something of the steps of each processor
 
 number_at_place : (n i : ℕ) → i ≡ processor_index n → i < processor_count → processor_number i ≡ n
-number_at_place n i is low =
-    ap processor_number is
-    ∙ processor_places.number_of_place n (processor_places.named_below n (omega arith))
+number_at_place n i is low = grind (arith, processor_places.number_of_place, processor_places.named_below)
 
 -- at its place
 pub counted_at : {X T : Type 0} (of : RunStep → X) (count : List X → T) (d : T) (counts : List T)
     (steps : List RunStep) (n i : ℕ) → counts ≡ each_processor (λ k. count (seen_of of k steps))
     → i ≡ processor_index n → i < processor_count → get_or counts i d ≡ count (seen_of of n steps)
-counted_at {X} {T} of count d counts steps n i are is low =
-    let f : ℕ → T = λ place. count (seen_of of (processor_number place) steps) in
-    ap (λ (ts : List T). get_or ts i d) are ∙ get_or-tabulate processor_count f i d low
-    ∙ ap (λ (k : ℕ). count (seen_of of k steps)) (number_at_place n i is low)
+counted_at {X} {T} of count d counts steps n i are is low = grind (arith, get_or-tabulate, number_at_place)
 
 -- with one more step, of processor n
 pub counted_more : {X T : Type 0} (of : RunStep → X) (count : List X → T) (d : T) (counts : List T)

@@ -35,73 +35,30 @@ no_processor_stays x = refl
 
 -- a step of n leaves n as its answer does
 pub own_step : (n : ℕ) (m : MachineState) → processor_of n (stepped n m) ≡ processor_after (processor_of n m) (answer_to (need (processor_of n m)) m)
-own_step n m =
-    let after = processor_after (processor_of n m) (answer_to (need (processor_of n m)) m) in
-    ap (λ (ps : List Processor). get_or ps (processor_index n) no_processor) (processors_by n m)
-    ∙ elim (cases_lt (processor_index n) (length m.processors)) [
-      | inl below ↦ get_or-set_same m.processors (processor_index n) after no_processor below
-      | inr past ↦
-          let absent : processor_of n m ≡ no_processor = get_or_past m.processors (processor_index n) no_processor past in
-          ap (λ (ps : List Processor). get_or ps (processor_index n) no_processor) (set_past m.processors (processor_index n) after past)
-          ∙ absent
-          ∙ sym (no_processor_stays (answer_to (need (processor_of n m)) m))
-          ∙ ap (λ pp. processor_after pp (answer_to (need (processor_of n m)) m)) (sym absent)
-    ]
+own_step n m = grind (arith, processors_by, cases_lt, get_or-set_same, get_or_past, set_past, no_processor_stays)
 
 -- and every other as it was
 pub other_step : (q n : ℕ) (m : MachineState) → length m.processors ≡ processor_count → q ≢ n → processor_of q (stepped n m) ≡ processor_of q m
-other_step q n m all apart =
-    let after = processor_after (processor_of n m) (answer_to (need (processor_of n m)) m) in
-    ap (λ (ps : List Processor). get_or ps (processor_index q) no_processor) (processors_by n m)
-    ∙ elim (cases_lt (processor_index n) processor_count) [
-      | inl below ↦ get_or-set_other m.processors (processor_index n) (processor_index q) after no_processor
-          (λ same. apart (processor_places.one_place n q (processor_places.named_below n below) same))
-      | inr past ↦ ap (λ (ps : List Processor). get_or ps (processor_index q) no_processor) (set_past m.processors (processor_index n) after (omega arith))
-    ]
+other_step q n m all apart = grind (arith, processors_by, cases_lt, get_or-set_other, processor_places.one_place, processor_places.named_below, set_past)
 
 pub length_processors : (n : ℕ) (m : MachineState) → length (stepped n m).processors ≡ length m.processors
 length_processors n m = ap (λ (ps : List Processor). length ps) (processors_by n m) ∙ length-set m.processors (processor_index n) _
 
 -- an operation that makes no event changes no history
 pub histories_none : (n c : ℕ) (op : ChanOp) (m : MachineState) → need (processor_of n m) ≡ Channel c op → event_of op (history_of c m) ≡ None → (stepped n m).histories ≡ m.histories
-histories_none n c op m e none =
-    histories_by n m (Channel c op) e
-    ∙ ap (λ (o : Option Event). slice_set m.histories (channel_index c) (history_of c m ++ option_to_list o)) none
-    ∙ ap (λ (h : List Event). slice_set m.histories (channel_index c) h) (append-nil (history_of c m))
-    ∙ set-get_or m.histories (channel_index c) []
+histories_none n c op m e none = grind (arith, histories_by, append-nil, set-get_or)
 
 -- an operation on another channel leaves the history of this one
 pub history_elsewhere : (n c d : ℕ) (op : ChanOp) (m : MachineState) → length m.histories ≡ channel_count → need (processor_of n m) ≡ Channel d op → c ≢ d → history_of c (stepped n m) ≡ history_of c m
-history_elsewhere n c d op m each e apart =
-    let after = history_after op (history_of d m) in
-    ap (λ (hs : List (List Event)). get_or hs (channel_index c) []) (histories_by n m (Channel d op) e)
-    ∙ elim (cases_lt (channel_index d) channel_count) [
-      | inl below ↦ get_or-set_other m.histories (channel_index d) (channel_index c) after []
-          (λ same. apart (channel_places.one_place d c (channel_places.named_below d below) same))
-      | inr past ↦ ap (λ (hs : List (List Event)). get_or hs (channel_index c) []) (set_past m.histories (channel_index d) after (omega arith))
-    ]
+history_elsewhere n c d op m each e apart = grind (arith, histories_by, cases_lt, get_or-set_other, channel_places.one_place, channel_places.named_below, set_past)
 
 -- on this channel, where there is one with this number
 pub history_here : (n c : ℕ) (op : ChanOp) (m : MachineState) → length m.histories ≡ channel_count → IsTrue (names_channel c) → need (processor_of n m) ≡ Channel c op → history_of c (stepped n m) ≡ history_after op (history_of c m)
-history_here n c op m each names e =
-    let below = channel_places.place_below c names in
-    ap (λ (hs : List (List Event)). get_or hs (channel_index c) []) (histories_by n m (Channel c op) e)
-    ∙ get_or-set_same m.histories (channel_index c) (history_after op (history_of c m)) [] (omega arith)
+history_here n c op m each names e = grind (arith, channel_places.place_below, histories_by, get_or-set_same)
 
 -- a history stays unless an event is made on its channel
 pub history_unless : (n c : ℕ) (m : MachineState) → length m.histories ≡ channel_count → ((op : ChanOp) → need (processor_of n m) ≡ Channel c op → event_of op (history_of c m) ≡ None) → history_of c (stepped n m) ≡ history_of c m
-history_unless n c m each none = by_need (need (processor_of n m)) refl
-  where
-    by_need : (x : Need) → need (processor_of n m) ≡ x → history_of c (stepped n m) ≡ history_of c m
-    by_need Nothing e = ap (λ (hs : List (List Event)). get_or hs (channel_index c) []) (histories_by n m Nothing e)
-    by_need Local e = ap (λ (hs : List (List Event)). get_or hs (channel_index c) []) (histories_by n m Local e)
-    by_need (Read a) e = ap (λ (hs : List (List Event)). get_or hs (channel_index c) []) (histories_by n m (Read a) e)
-    by_need (Write a w) e = ap (λ (hs : List (List Event)). get_or hs (channel_index c) []) (histories_by n m (Write a w) e)
-    by_need (Channel d op) e = elim (cases_eq c d) [
-      | inl same ↦ ap (λ (hs : List (List Event)). get_or hs (channel_index c) []) (histories_none n d op m e
-          (subst (λ (k : ℕ). event_of op (history_of k m) ≡ None) same (none op (subst (λ (k : ℕ). need (processor_of n m) ≡ Channel k op) (sym same) e))))
-      | inr apart ↦ history_elsewhere n c d op m each e apart
-    ]
+history_unless n c m each none = grind (arith, histories_by, cases_eq, histories_none, history_elsewhere)
 
 -- a step leaves a history, or adds one event to it
 pub grows : (n c : ℕ) (m : MachineState) → length m.histories ≡ channel_count → (history_of c (stepped n m) ≡ history_of c m) ⊎ ((e : Event) × (history_of c (stepped n m) ≡ history_of c m ++ e ∷ []))
@@ -130,16 +87,7 @@ length_histories n m = ap (λ (hs : List (List Event)). length hs) (histories_by
 
 -- a central word stays unless it is written
 pub word_unless : (n a : ℕ) (m : MachineState) → ((w : ℕ) → need (processor_of n m) ≡ Write a w → ⊥) → get_or (stepped n m).central a 0 ≡ get_or m.central a 0
-word_unless n a m none = by_need (need (processor_of n m)) refl
-  where
-    by_need : (x : Need) → need (processor_of n m) ≡ x → get_or (stepped n m).central a 0 ≡ get_or m.central a 0
-    by_need Nothing e = ap (λ (ws : List ℕ). get_or ws a 0) (central_by n m Nothing e)
-    by_need Local e = ap (λ (ws : List ℕ). get_or ws a 0) (central_by n m Local e)
-    by_need (Read b) e = ap (λ (ws : List ℕ). get_or ws a 0) (central_by n m (Read b) e)
-    by_need (Channel c op) e = ap (λ (ws : List ℕ). get_or ws a 0) (central_by n m (Channel c op) e)
-    by_need (Write b w) e =
-        ap (λ (ws : List ℕ). get_or ws a 0) (central_by n m (Write b w) e)
-        ∙ get_or-set_other m.central b a w 0 (λ same. none w (subst (λ (k : ℕ). need (processor_of n m) ≡ Write k w) (sym same) e))
+word_unless n a m none = grind (arith, central_by, get_or-set_other)
 
 length_central_by : (x : Need) (m : MachineState) → length (central_after x m) ≡ length m.central
 length_central_by (Write a w) m = length-set m.central a w
@@ -170,16 +118,10 @@ pub trace_with : (n c : ℕ) (op : ChanOp) (m : MachineState) (o : Option Event)
 trace_with n c op m o e is = trace_by n m (Channel c op) e ∙ ap (λ (x : Option Event). m.trace ++ map (entry_of n c m) (option_to_list x)) is
 
 made_more : (c : ℕ) (trace : List Trace) (entry : Trace) → entry.channel ≡ c → made_on c (trace ++ entry ∷ []) ≡ made_on c trace ++ (entry.pp, entry.event) ∷ []
-made_more c trace entry same =
-    let here : (entry.channel == c) ≡ true = eq-eqb entry.channel c same in
-    filter_map-append (λ (x : Trace). if x.channel == c then Some (x.pp, x.event) else None) trace (entry ∷ [])
-    ∙ ap (λ (es : List (ℕ × Event)). made_on c trace ++ es) (rw here refl)
+made_more c trace entry same = grind (arith, eq-eqb, filter_map-append)
 
 made_elsewhere : (c : ℕ) (trace : List Trace) (entry : Trace) → entry.channel ≢ c → made_on c (trace ++ entry ∷ []) ≡ made_on c trace
-made_elsewhere c trace entry apart =
-    let different : (entry.channel == c) ≡ false = ne_eqb entry.channel c apart in
-    let none : made_on c (entry ∷ []) ≡ [] = rw different refl in
-    filter_map-append (λ (x : Trace). if x.channel == c then Some (x.pp, x.event) else None) trace (entry ∷ []) ∙ ap (λ es. made_on c trace ++ es) none ∙ append-nil (made_on c trace)
+made_elsewhere c trace entry apart = grind (arith, ne_eqb, filter_map-append, append-nil)
 
 -- who made the events of a channel: one event more
 pub made_here : (n c : ℕ) (op : ChanOp) (e : Event) (m : MachineState) → need (processor_of n m) ≡ Channel c op → event_of op (history_of c m) ≡ Some e → made_on c (stepped n m).trace ≡ made_on c m.trace ++ (n, e) ∷ []

@@ -48,21 +48,15 @@ last_of number loaded false (word ∷ other ∷ []) same is =
 last_of number loaded false (word ∷ other ∷ more ∷ words) same is = absurd cc
 
 last_word : (r : Numbered) (words : List ℕ) → map number_in words ≡ r.loaded ∷ (if r.number == r.loaded then [] else r.number ∷ []) → HasLast r.number words
-last_word r words is =
-    elim (cases_eq r.number r.loaded) [
-      | inl same ↦ last_of r.number r.loaded true words (λ e. sym same) (is ∙ ap (λ (b : Bool). r.loaded ∷ (if b then [] else r.number ∷ [])) (eq-eqb r.number r.loaded same))
-      | inr other ↦ last_of r.number r.loaded false words (λ e. absurd cc) (is ∙ ap (λ (b : Bool). r.loaded ∷ (if b then [] else r.number ∷ [])) (ne_eqb r.number r.loaded other))
-    ]
+last_word r words is = grind (arith, cases_eq, last_of, eq-eqb, ne_eqb)
 
 -- the flags that an answer shows are those after its number of events
 some_flags : (f g : Flags) → Some f ≡ Some g → f ≡ g
 some_flags f g is = cc
 
 shown_at_once : (h after : List Event) (op : ChanOp) (reply : Reply) (f : Flags) → IsAnswer h op reply after → flags_shown reply ≡ Some f → f ≡ flags_of h
-shown_at_once h after op reply f (inl made) shows =
-    let none : Some f ≡ None = sym shows ∙ (ap flags_shown made.1.answered ∙ (answers_as_made made.0).no_flags) in absurd cc
-shown_at_once h after op reply f (inr shown) shows =
-    some_flags f (flags_of h) (sym shows ∙ (ap flags_shown shown.answered ∙ shows_flags op (channel_state h)))
+shown_at_once h after op reply f (inl made) shows = grind (arith, answers_as_made)
+shown_at_once h after op reply f (inr shown) shows = grind (arith, some_flags, shows_flags)
 
 shown_flags : (h : List Event) (op : ChanOp) (r : Numbered) (f : Flags) → IsAnsweredBy h op r → flags_shown r.reply ≡ Some f → f ≡ flags_of (take r.number h)
 shown_flags h op r f by shows =
@@ -76,11 +70,7 @@ shown_flags h op r f by shows =
 
 found_flags : (histories : List (List Event)) (c word number : ℕ) → IsFound histories (record { channel = c; word = word }) → HasTwelveBitWords (history_on c histories) → number_in word ≡ number
     → flags_in word ≡ flags_of (take number (history_on c histories))
-found_flags histories c word number found bits is =
-    let h = history_on c histories in
-    let front = twelve_bits_take found.0 h bits in
-    let same : found.0 ≡ number = sym (length-take-le found.0 h found.1) ∙ (sym (number_of_word (take found.0 h) front) ∙ (ap number_in found.2 ∙ is)) in
-    ap flags_in (sym found.2) ∙ (flags_of_word (take found.0 h) front ∙ ap (λ n. flags_of (take n h)) same)
+found_flags histories c word number found bits is = grind (arith, twelve_bits_take, length-take-le, number_of_word, flags_of_word)
 
 -- the look by the last word that an operation found shows the flags of its answer
 module _ (line after : LineState) (c : ℕ) (op : ChanOp) (r : Numbered) (acted : IsActed line c op r after) where
@@ -112,10 +102,7 @@ module _ (line after : LineState) (c : ℕ) (op : ChanOp) (r : Numbered) (acted 
 
   by_event : (made : Option Event) → event_answered op r.reply ≡ made → IsSubsequence (on_channel (option_map (λ e. Did e) made)) all_made
   by_event None is = tt
-  by_event (Some e) is =
-      let last : all_made ≡ on_channels looks ++ Access.OnChannel (event_entry c r.number e) ∷ [] =
-      ap (λ (o : Option Event). on_channels (looks ++ option_to_list (option_map (event_entry c r.number) o))) is ∙ map-append Access.OnChannel looks (event_entry c r.number e ∷ []) in
-      subst (IsSubsequence (on_channel (Some (Did e)))) (sym last) (stands_later (on_channel (Some (Did e))) (on_channels looks) (Access.OnChannel (event_entry c r.number e) ∷ []) (inl (refl, tt)))
+  by_event (Some e) is = grind (arith, all_made, looks, map-append, on_channel, stands_later)
 
   by_flags : (shown : Option Flags) → flags_shown r.reply ≡ shown → IsSubsequence (on_channel (option_or (option_map (λ f. Saw f) shown) (option_map (λ e. Did e) (event_answered op r.reply)))) all_made
   by_flags None shows = by_event (event_answered op r.reply) refl
@@ -178,17 +165,7 @@ extended_none (t ∷ program_orders) = λ j. append-nil t j ∷ extended_none pr
 -- an answer that did or saw nothing on a channel, with its accesses
 beside : {size : ℕ} {n : Need} {x : Answer} {before after : LineState} (number : ℕ) (more : List Access) → fits n x ≡ true → IsBySize size n x → contribution seen_answered n x ≡ [] → accesses_by number n x ≡ more → after.log ≡ before.log
     → after.view.program_orders ≡ extended before.view.program_orders more → after.view.written ≡ before.view.written ++ writes_among more → IsAnswered size n x before after
-beside {before = before} {after = after} number more fit by_size none accessed log program_orders written = record {
-  fits = fit;
-  by_size = by_size;
-  number = number;
-  noted = subst (λ (ss : List (OfChannel Seen)). IsNoted number ss before.log after.log) (sym none) log;
-  more = more;
-  program_orders = program_orders;
-  accessed = subst (λ (xs : List Access). IsSubsequence xs more) (sym accessed) (stands_whole more);
-  written = written ∙ ap (λ xs. before.view.written ++ writes_among xs) (sym accessed);
-  monotone = λ m. subst (λ (l : LogState). IsMonotone l.entries) (sym log) m;
-}
+beside {before = before} {after = after} number more fit by_size none accessed log program_orders written = grind (arith, stands_whole)
 
 still : {size : ℕ} {n : Need} {x : Answer} {before after : LineState} → fits n x ≡ true → IsBySize size n x → contribution seen_answered n x ≡ [] → accesses_by 0 n x ≡ [] → after ≡ before → IsAnswered size n x before after
 still {before = before} fit by_size none accessed is =
@@ -203,8 +180,7 @@ read_answer size a None before after is inside outside same = still refl (λ non
 
 pub write_answer : (size a w : ℕ) (written : Bool) (before after : LineState) → IsTrue written ↔ (a < size)
     → MatchBool written ((number : ℕ) × (after ≡ record before { view = writes before.view a w number })) (after ≡ before) → IsAnswered size (Need.Write a w) (Answer.Wrote written) before after
-write_answer size a w true before after by_size is =
-    beside is.0 (Access.Write a w is.0 ∷ []) refl by_size refl refl (ap (λ l. l.log) is.1) (ap (λ l. l.view.program_orders) is.1) (ap (λ l. l.view.written) is.1)
+write_answer size a w true before after by_size is = grind (arith, beside)
 write_answer size a w false before after by_size is = still refl by_size refl refl is
 
 -- nothing was asked
@@ -216,12 +192,7 @@ local_answer size n line (inr is) = rw is (still refl tt refl refl refl)
 given_to : (xs : List Answer) (pp new : Processor) (made : List Access) (x : Answer) (number : ℕ) → Gives pp xs new → AreAccessesOf pp xs made → AreAccessesOf pp (xs ++ x ∷ []) (made ++ accesses_by number (need new) x)
 given_to [] pp new made x number gives is =
     (number, [], (λ j. is j ++ accesses_by number (need (sym gives j)) x) ∙ sym (append-nil (accesses_by number (need pp) x)), refl)
-given_to (y ∷ xs) pp new made x number gives is = (
-  is.0,
-  is.1 ++ accesses_by number (need new) x,
-  ap (λ l. l ++ accesses_by number (need new) x) is.2 ∙ append_assoc (accesses_by is.0 (need pp) y) is.1 (accesses_by number (need new) x),
-  given_to xs (processor_after pp y) new is.1 x number gives.1 is.3,
-)
+given_to (y ∷ xs) pp new made x number gives is = grind (arith, append_assoc, given_to xs (processor_after pp y) new is.1 x number gives.1 is.3)
 
 -- and the line that made them
 pub made_more : (load pp : Processor) (size : ℕ) (xs : List Answer) (x : Answer) (done now : List Entry) (before after : LineState) → (made : HasMade load xs done before.view) → (told : IsAnswered size (need pp) x before after) → pp ≡ replayed load xs
@@ -239,12 +210,4 @@ made_more load pp size xs x done now before after made told same counted goes_on
 
 -- a line that has looked made no access more by an answer
 pub made_still : (load : Processor) (xs : List Answer) (done : List Entry) (before after : LineState) → HasMade load xs done before.view → HasLooked before after → HasMade load xs done after.view
-made_still load xs done before after made looked = record {
-  accesses = made.accesses;
-  given = made.given;
-  program_order = made.program_order ++ looked.more;
-  only = looked.program_orders ∙ ap (λ ts. extended ts looked.more) made.only;
-  accessed = stands_more made.accesses made.program_order looked.more made.accessed;
-  logged = made.logged;
-  written = looked.written ∙ made.written;
-}
+made_still load xs done before after made looked = grind (arith, stands_more)

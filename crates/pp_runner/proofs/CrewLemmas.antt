@@ -27,10 +27,7 @@ use Rattle.pp_runner.specs.declared.end.End.TheVariants.{Patience}
 
 -- a line that has seen what another has
 pub same_seen : (happened : ℕ → ℕ) (line after : LineState) → after.view.seen ≡ line.view.seen → HasSeen happened line → HasSeen happened after
-same_seen happened line after is has = record {
-  countable = has.countable;
-  seen = λ c. subst (λ (seen : List ℕ). happened c ≤ seen_on c seen) (sym is) (has.seen c);
-}
+same_seen happened line after is has = grind arith
 
 -- a worker that makes no further step, and whose line has its log
 pub work_ended : {A : Type 0} (load : Processor) (size steps : ℕ) (line : LineState) (ended : Ended A) → IsAtWork load size steps ended.pp ended.answers.items line → length ended.answers.items ≤ steps
@@ -70,9 +67,7 @@ ended_since load size steps line mid ended same one =
 -- a worker that has given up, with the line that it had at first, at the beginning of its last step, and at its end
 pub gave_up : {A : Type 0} (patience : ℕ) (line mid after : LineState) (finish : End) (ended : Ended A × LineState) → length line.view.found ≤ length mid.view.found → (finish ≡ Patience → HasOperated patience mid after)
     → ended.1 ≡ after → ended.0.finish ≡ finish → (ended.0.finish ≡ Patience → length line.view.found + patience ≤ length ended.1.view.found)
-gave_up patience line mid after finish ended more operated same was = λ is.
-    let last = operated (sym was ∙ is) in
-    omega (arith, more, operated_least patience mid after last, ap (λ l. length l.view.found) same)
+gave_up patience line mid after finish ended more operated same was = grind (arith, operated_least)
 
 -- one that has not
 pub not_given_up : {A : Type 0} (patience : ℕ) (line : LineState) (finish : End) (ended : Ended A × LineState) → (finish ≡ Patience → ⊥)
@@ -81,8 +76,7 @@ not_given_up patience line finish ended other was = λ is. absurd (other (sym wa
 
 -- the first processors, with the one that comes next
 pub processors_push : (m : MachineState) (n left total : ℕ) (load : Processor) → processor_index n ≡ left → left < length m.processors → total ≡ left + 1 → load ≡ processor_of n m → take total m.processors ≡ take left m.processors ++ load ∷ []
-processors_push m n left total load at below sum is =
-    rw (sum, is) (take_more m.processors left no_processor below ∙ ap (λ k. take left m.processors ++ slice_index_or m.processors k no_processor ∷ []) (sym at))
+processors_push m n left total load at below sum is = grind (arith, take_more)
 
 -- the last line, and those before it
 pub record IsTaken (m : MachineState) (size steps : ℕ) (family line : LineState) (others : List LineState) : Type 0 where
@@ -104,23 +98,11 @@ taken_of m size steps family line lines others is ready =
 
 -- those before the last are ready too
 pub ready_before : (m : MachineState) (size steps : ℕ) (family line : LineState) (others : List LineState) → IsTaken m size steps family line others → AreReady m size steps family others
-ready_before m size steps family line others taken = record {
-  each = taken.each;
-  count = omega (arith, taken.count);
-  fresh = taken.fresh_others;
-  central = taken.central;
-}
+ready_before m size steps family line others taken = grind arith
 
 -- a line that gives a share to another has one less, and has opened what it had
 pub opened_split : (m : MachineState) (all some : ℕ) (first after : LineState) → after ≡ record first { view = parent_view first.view } → HasOpened m all some first → HasOpened m all (some - 1) after
-opened_split m all some first after is has = record {
-  opening = subst (IsOpeningLog (λ c. opening_history c m)) (sym (ap (λ l. l.log.entries) is)) has.opening;
-  seen = same_seen (λ c. length (opening_history c m)) first after (ap (λ l. l.view.seen) is) has.seen;
-  whole = ap (λ l. l.view.whole) is ∙ has.whole;
-  shares = ap (λ l. l.view.shares) is ∙ ap (λ n. n - 1) has.shares;
-  no_write = ap (λ l. l.view.written) is ∙ has.no_write;
-  central = ap (λ l. l.view.central) is ∙ has.central;
-}
+opened_split m all some first after is has = grind (arith, same_seen)
 
 -- a line that gives a share to another is of the same family as before
 pub split_more : (room : ℕ) (first after line : LineState) (lines : List LineState) → after ≡ record first { view = parent_view first.view } → IsSplitFrom first room line →

@@ -9,15 +9,7 @@ use Rattle.pp_runner.specs.End.{HasEndNumber, IsEnd, NeedsChannel, NeedsWornChan
 -- the end of a worker whose processor is running
 end_running : {steps : ℕ} {finish : End} {pp : Processor} {xs : List Answer} {log : List Entry} → pp.state ≡ PpState.Running → HasEndNumber finish → (finish ≡ End.Stopped → ⊥) → ((n : ℕ) → finish ≡ End.Fault n → ⊥)
     → (finish ≡ End.Steps → length xs ≡ steps) → (finish ≡ End.Patience → (length xs < steps) × WasHeld pp log) → (finish ≡ End.Memory → length xs < steps) → (finish ≡ End.Worn → (length xs < steps) × ((channel : ℕ) × NeedsChannel (need pp) channel)) → IsEnd steps finish pp xs log
-end_running running numbered not_stopped no_fault all held fewer worn = record {
-  stopped = (λ e. absurd (not_stopped e), λ s. absurd cc);
-  fault = λ n. (λ e. absurd (no_fault n e), λ s. absurd cc);
-  numbered = numbered;
-  all_steps = λ e. (running, all e);
-  patience = λ e. (record { running = running; fewer = (held e).0 }, (held e).1);
-  memory = λ e. record { running = running; fewer = fewer e };
-  worn = λ e. (record { running = running; fewer = (worn e).0 }, (worn e).1);
-}
+end_running running numbered not_stopped no_fault all held fewer worn = grind arith
 
 pub end_steps : (steps : ℕ) (pp : Processor) (xs : List Answer) (log : List Entry) → pp.state ≡ PpState.Running → length xs ≡ steps → IsEnd steps End.Steps pp xs log
 end_steps steps pp xs log running all = end_running running tt (λ e. absurd cc) (λ n e. absurd cc) (λ e. all) (λ e. absurd cc) (λ e. absurd cc) (λ e. absurd cc)
@@ -39,9 +31,7 @@ end_at_last steps pp xs log (Some finish) running ended all = ended steps xs log
 
 -- a channel at which a worker ended is as worn when more has happened
 pub worn_later : (before after : ℕ → ℕ) (finish : End) (pp : Processor) → ((c : ℕ) → before c ≤ after c) → WornWithCause before finish pp → WornWithCause after finish pp
-worn_later before after finish pp more caused is =
-    let needs = caused is in
-    let later = more needs.channel in record { channel = needs.channel; needs = needs.needs; worn = omega (arith, needs.worn, later) }
+worn_later before after finish pp more caused is = grind arith
 
 -- no worker whose processor is at rest, or which has made all its steps, ended as worn
 pub worn_at_rest : (happened : ℕ → ℕ) (finish : End) (pp : Processor) → ((n : ℕ) (ys : List Answer) (other : List Entry) → IsEnd n finish pp ys other) → WornWithCause happened finish pp

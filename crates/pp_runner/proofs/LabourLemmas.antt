@@ -97,14 +97,7 @@ record IsHeldAt (ss : List (OfChannel Seen)) (log : LogState) : Type 0 where
 logged_behind : (c number : ℕ) (what : Seen) (done base : List Entry) (before after : LogState) → after.entries ≡ base ++ record { channel = c; number = number; what = what } ∷ [] → events_in base ≡ events_in before.entries → length base ≤ length done + 1
     → ((old : List (OfChannel Seen)) → IsSubsequence old (sights_in done) → IsSubsequence old (sights_in base)) → ((old : List Entry) → IsSubsequence old done → IsSubsequence old base)
     → after.room + length after.entries ≡ before.room + length before.entries → IsLogged number (record { channel = c; what = what } ∷ []) done before after
-logged_behind c number what done base before after entries same few sights stand room =
-    let entry : Entry = record { channel = c; number = number; what = what } in record {
-      events = ap events_in entries ∙ (events_in-push base (entry ∷ []) ∙ ap (λ l. l ++ events_in (entry ∷ [])) same);
-      sights = λ old h. subst (λ (l : List (OfChannel Seen)). IsSubsequence (old ++ record { channel = c; what = what } ∷ []) l) (sym (ap sights_in entries ∙ sights_in-push base (entry ∷ []))) (stands_push old (sights_in base) (record { channel = c; what = what }) (sights old h));
-      stand = λ old h. subst (λ (l : List Entry). IsSubsequence (old ++ entry ∷ []) l) (sym entries) (stands_push old base entry (stand old h));
-      few = omega (arith, few, ap length entries, length-append base (entry ∷ []));
-      room = room;
-    }
+logged_behind c number what done base before after entries same few sights stand room = grind (arith, events_in-push, sights_in-push, stands_push, length-append)
 
 logged_did : (c number : ℕ) (what : Seen) (done : List Entry) (before after : LogState) → 1 ≤ before.room → BeginsWith done before → after ≡ appended before (record { channel = c; number = number; what = what })
     → IsLogged number (record { channel = c; what = what } ∷ []) done before after
@@ -131,22 +124,12 @@ none_held log h = let only = h.only in absurd cc
 
 -- without a sight the log stays, and has no look that held the processor
 logged_none : (number : ℕ) (done : List Entry) (look : Option Entry) (before after : LogState) → HasEntries done look before → (before.kept ≡ false → ⊥) → after ≡ before → IsLogged number [] done before after
-logged_none number done None before after b held is =
-    let entries : after.entries ≡ before.entries = ap (λ l. l.entries) is in
-    let whole : before.entries ≡ done = b.all ∙ append-nil done in record {
-      events = ap events_in entries ∙ sym (append-nil (events_in before.entries));
-      sights = λ old h. subst (λ (l : List (OfChannel Seen)). IsSubsequence l (sights_in after.entries)) (sym (append-nil old)) (subst (λ (l : List Entry). IsSubsequence old (sights_in l)) (sym (entries ∙ whole)) h);
-      stand = λ old h. subst (λ (l : List Entry). IsSubsequence l after.entries) (sym (append-nil old)) (subst (IsSubsequence old) (sym (entries ∙ whole)) h);
-      few = omega (arith, ap length entries, ap length whole);
-      room = ap (λ l. l.room + length l.entries) is;
-    }
+logged_none number done None before after b held is = grind (arith, append-nil)
 logged_none number done (Some look) before after b held is = absurd (held b.kept)
 
 -- a single sight is at the channel at which the log ends with a look
 held_at_channel : (c : ℕ) (what : Seen) (log : LogState) → IsHeldAt (record { channel = c; what = what } ∷ []) log → IsTrue (is_look_at c (last_or None log.entries))
-held_at_channel c what log h =
-    let same : record { channel = c; what = what } ≡ record { channel = h.channel; what = h.what } = (same_from_push [] [] _ _ h.only).1 in
-    subst (λ (k : ℕ). IsTrue (is_look_at k (last_or None log.entries))) (sym (ap (λ (s : OfChannel Seen). s.channel) same)) h.looked
+held_at_channel c what log h = grind (arith, same_from_push)
 
 logged : (number : ℕ) (ss : List (OfChannel Seen)) (done : List Entry) (look : Option Entry) (before after : LogState) → 1 ≤ before.room → HasEntries done look before → (before.kept ≡ false → IsHeldAt ss before) → IsNoted number ss before after
     → IsLogged number ss done before after
@@ -158,24 +141,13 @@ logged number (s ∷ t ∷ more) done look before after room b held is = absurd 
 
 -- where the processor was held and the answer fits, the only sight is at the channel at which it was held
 held_sight : (pp : Processor) (x : Answer) (log : LogState) → WasHeld pp log.entries → fits (need pp) x ≡ true → IsHeldAt (contribution seen_answered (need pp) x) log
-held_sight pp x log h fit =
-    let n : need pp ≡ Need.Channel h.channel h.needs.operation = h.needs.is in
-    let r = reply_to_channel h.channel h.needs.operation x (ap (λ m. fits m x) (sym n) ∙ fit) in
-    let s = sight_of h.channel h.needs.operation r.reply r.fits in record {
-      channel = h.channel;
-      what = s.what;
-      only = ap (λ m. contribution seen_answered m x) n ∙ (ap (λ y. contribution seen_answered (Need.Channel h.channel h.needs.operation) y) r.is ∙ s.is);
-      looked = h.looked;
-    }
+held_sight pp x log h fit = grind (arith, reply_to_channel, sight_of)
 
 -- an answer that fits is one event or one look at most
 one_sight : (n : Need) (x : Answer) → fits n x ≡ true → length (contribution seen_answered n x) ≤ 1
 one_sight Need.Nothing x fit = omega arith
 one_sight Need.Local x fit = omega arith
-one_sight (Need.Channel c operation) x fit =
-    let r = reply_to_channel c operation x fit in
-    let s = sight_of c operation r.reply r.fits in
-    omega (arith, ap (λ y. length (contribution seen_answered (Need.Channel c operation) y)) r.is, ap length s.is)
+one_sight (Need.Channel c operation) x fit = grind (arith, reply_to_channel, sight_of)
 one_sight (Need.Read a) x fit = omega arith
 one_sight (Need.Write a w) x fit = omega arith
 
@@ -240,8 +212,7 @@ hold_of (Need.Read a) pp f n fit = absurd cc
 hold_of (Need.Write a w) pp f n fit = absurd cc
 
 hold : (pp : Processor) (x : Answer) → IsHeldAnswer x → fits (need pp) x ≡ true → IsHold pp x
-hold pp x held fit =
-    subst (λ (y : Answer). IsHold pp y) (sym held.1) (hold_of (need pp) pp held.0 refl (ap (fits (need pp)) (sym held.1) ∙ fit))
+hold pp x held fit = grind (arith, hold_of)
 
 -- a try at which the processor was held
 pub record IsHeldAtWork (load : Processor) (size steps : ℕ) (new : Processor) (xs : List Answer) (after : LineState) : Type 0 where
@@ -290,23 +261,7 @@ work_held load size steps pp new xs x before after work fewer told held new_is =
 
 -- a try that found its channel worn
 pub work_worn : (load : Processor) (size steps : ℕ) (pp : Processor) (xs : List Answer) (before after : LineState) → IsAtWork load size steps pp xs before → after.log ≡ before.log → HasLooked before after → IsAtWork load size steps pp xs after
-work_worn load size steps pp xs before after work same looked = record {
-  pp_is = work.pp_is;
-  all_given = work.all_given;
-  all_moved = work.all_moved;
-  by_size = work.by_size;
-  done = work.done;
-  look = work.look;
-  has = subst (HasEntries work.done work.look) (sym same) work.has;
-  made = made_still load xs work.done before after work.made looked;
-  events = ap (λ l. events_in l.entries) same ∙ work.events;
-  sights = work.sights;
-  monotone = subst (λ (l : LogState). IsMonotone l.entries) (sym same) work.monotone;
-  few_entries = work.few_entries;
-  few_sights = work.few_sights;
-  held = subst (λ (l : LogState). l.kept ≡ false → WasHeld pp l.entries) (sym same) work.held;
-  room = ap (λ l. l.room + length l.entries) same ∙ work.room;
-}
+work_worn load size steps pp xs before after work same looked = grind (arith, made_still)
 
 -- a worker before its first step
 pub work_begins : (load pp : Processor) (size steps : ℕ) (xs : List Answer) (line : LineState) → pp ≡ load → xs ≡ [] → IsUnused size steps line → IsAtWork load size steps pp xs line

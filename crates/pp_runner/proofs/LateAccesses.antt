@@ -1,5 +1,5 @@
 -- Accesses that came after what dead start opened.
-use Rattle.std.proofs.Common.{◌≡◌, ℕ, ◌≤◌, Bool, true, false, cond, not, List, [], ◌∷◌, length, refl, sym, ap, ◌∙◌, subst, inl, inr}
+use Rattle.std.proofs.Common.{◌≡◌, ℕ, ◌≤◌, Bool, true, false, cond, not, List, [], ◌∷◌, length, refl, sym, ap, ◌∙◌, subst, inl, inr, arith}
 use Rattle.std.specs.List.{All, filter, range_with_len}
 use Rattle.std.proofs.lemmas.Bool.{le-ltb}
 use Rattle.std.proofs.lemmas.List.{append-nil}
@@ -36,31 +36,19 @@ module _ (opening : ℕ → List Event) (histories : List (List Event)) (begins 
 
   pub late_entries : (xs : List Access) → entries_among (filter is_late xs) ≡ filter is_later_entry (entries_among xs)
   late_entries [] = refl
-  late_entries (OnChannel entry ∷ xs) = one (is_later_entry entry) entry (filter is_late xs) (filter is_later_entry (entries_among xs)) (late_entries xs)
-    where
-      one : (b : Bool) (entry : Entry) (xs : List Access) (es : List Entry) → entries_among xs ≡ es → entries_among (cond b (OnChannel entry ∷ xs) xs) ≡ cond b (entry ∷ es) es
-      one true entry xs es is = ap (λ l. entry ∷ l) is
-      one false entry xs es is = is
+  late_entries (OnChannel entry ∷ xs) = grind (arith, is_later_entry, is_late, late_entries xs)
   late_entries (Read address word ∷ xs) = late_entries xs
   late_entries (Write address word number ∷ xs) = late_entries xs
 
   pub late_writes : (xs : List Access) → writes_among (filter is_late xs) ≡ writes_among xs
   late_writes [] = refl
-  late_writes (OnChannel entry ∷ xs) = one (is_later_entry entry) entry (filter is_late xs) ∙ late_writes xs
-    where
-      one : (b : Bool) (entry : Entry) (xs : List Access) → writes_among (cond b (OnChannel entry ∷ xs) xs) ≡ writes_among xs
-      one true entry xs = refl
-      one false entry xs = refl
+  late_writes (OnChannel entry ∷ xs) = grind (arith, is_later_entry, is_late, late_writes xs)
   late_writes (Read address word ∷ xs) = late_writes xs
   late_writes (Write address word number ∷ xs) = ap (λ l. number ∷ l) (late_writes xs)
 
   pub late_finds : (words : List ℕ) (xs : List Access) → FindsWords words xs → FindsWords words (filter is_late xs)
   late_finds words [] finds = tt
-  late_finds words (OnChannel entry ∷ xs) finds = one (is_later_entry entry) entry words (filter is_late xs) (late_finds words xs finds.1)
-    where
-      one : (b : Bool) (entry : Entry) (words : List ℕ) (xs : List Access) → FindsWords words xs → FindsWords words (cond b (OnChannel entry ∷ xs) xs)
-      one true entry words xs finds = (tt, finds)
-      one false entry words xs finds = finds
+  late_finds words (OnChannel entry ∷ xs) finds = grind (arith, is_later_entry, is_late, late_finds words xs finds.1)
   late_finds words (Read address word ∷ xs) finds = (finds.0, late_finds words xs finds.1)
   late_finds words (Write address word number ∷ xs) finds = (tt, late_finds (words_after words (Write address word number)) xs finds.1)
 

@@ -30,15 +30,7 @@ same_line_still line = record { shares = refl; whole = refl; table = refl; centr
 
 -- after two parts of a worker's way
 pub same_line_twice : (line mid after : LineState) → IsSameLine line mid → IsSameLine mid after → IsSameLine line after
-same_line_twice line mid after a b = record {
-  shares = b.shares ∙ a.shares;
-  whole = b.whole ∙ a.whole;
-  table = b.table ∙ a.table;
-  central = b.central ∙ a.central;
-  program_orders = b.program_orders ∙ a.program_orders;
-  seen = λ happened has. b.seen happened (a.seen happened has);
-  none_older = λ happened has none. b.none_older happened (a.seen happened has) (a.none_older happened has none);
-}
+same_line_twice line mid after a b = grind arith
 
 after_if : (number : ℕ) (shows : Bool) → number ≤ (if shows then number else number + 1)
 after_if number true = omega arith
@@ -93,10 +85,7 @@ found_by : (c loaded number : ℕ) (at_once : Bool) (words : List ℕ) → map n
 found_by c loaded number at_once [] found later = absurd cc
 found_by c loaded number at_once (word ∷ []) found later = tt
 found_by c loaded number true (word ∷ other ∷ rest) found later = absurd cc
-found_by c loaded number false (word ∷ other ∷ []) found later =
-    let first : number_in word ≡ loaded = cc in
-    let second : number_in other ≡ number = cc in
-    let less = later refl in (refl, omega (arith, first, second, less))
+found_by c loaded number false (word ∷ other ∷ []) found later = grind arith
 found_by c loaded number false (word ∷ other ∷ more ∷ rest) found later = absurd cc
 
 found_by_answer : (history : List Event) (c : ℕ) (op : ChanOp) (r : Numbered) (words : List ℕ) → map number_in words ≡ r.loaded ∷ (if r.number == r.loaded then [] else r.number ∷ []) → IsAnsweredBy history op r → AreFoundByOne (found_on c words)
@@ -147,8 +136,7 @@ found_each (words ∷ finds) each =
     found_some (word ∷ more) are = omega arith
 
 pub operated_least : (count : ℕ) (line after : LineState) → HasOperated count line after → length line.view.found + count ≤ length after.view.found
-operated_least count line after a =
-    omega (arith, found_each a.finds a.each, a.number, ap length a.found, length-append line.view.found (flat_map (λ words. words) a.finds))
+operated_least count line after a = grind (arith, found_each, length-append)
 
 -- one more try of a step
 pub operated_again : (tries each : ℕ) (line mid after : LineState) → HasOperated (tries * each) line mid → HasOperated each mid after → HasOperated ((tries + 1) * each) line after
@@ -158,9 +146,7 @@ operated_again tries each line mid after a b =
 
 -- a number of tries of a step, by a count of all tries
 pub operated_tries : (first last made each : ℕ) (line after : LineState) → last ≡ first + made → HasOperated (made * each) line after → HasOperated ((last - first) * each) line after
-operated_tries first last made each line after count a =
-    let difference : made ≡ last - first = omega (arith, count) in
-    subst (λ (n : ℕ). HasOperated (n * each) line after) difference a
+operated_tries first last made each line after count a = grind arith
 
 -- the same, and one more try
 pub operated_more : (first last held each again : ℕ) (line mid after : LineState) → last ≡ first + (held + 1) → again ≡ each → HasOperated (held * each) line mid → HasOperated again mid after → HasOperated ((last - first) * each) line after
@@ -172,5 +158,4 @@ pub held_operates : (pp : Processor) (log : List Entry) → WasHeld pp log → o
 held_operates pp log was = ap operations was.needs.is
 
 pub operated_held : (tries : ℕ) (pp : Processor) (log : List Entry) (line after : LineState) → WasHeld pp log → HasOperated (tries * operations (need pp)) line after → HasOperated tries line after
-operated_held tries pp log line after was a =
-    subst (λ (n : ℕ). HasOperated n line after) (ap (λ n. tries * n) (held_operates pp log was) ∙ mul-one tries) a
+operated_held tries pp log line after was a = grind (arith, held_operates, mul-one)

@@ -33,19 +33,8 @@ no_event_in c entry (Saw f) is look = rw is refl
 
 pub begins_with : (done : List Entry) (look : Option Entry) (log : LogState) → HasEntries done look log
     → (log.kept ≡ false → (c : ℕ) × IsTrue (is_look_at c (last_or None log.entries))) → BeginsWith done log
-begins_with done None log has held = record {
-  rest = [];
-  is = has.all;
-  few = omega (arith, ap length has.all, length-append done []);
-  no_event = refl;
-}
-begins_with done (Some look) log has held =
-    let last : last_or None log.entries ≡ Some look = ap (last_or None) has.all ∙ last_or-push None done look in record {
-      rest = look ∷ [];
-      is = has.all;
-      few = omega (arith, ap length has.all, length-append done (look ∷ []));
-      no_event = no_event_in (held has.kept).0 look look.what refl (ap (is_look_at (held has.kept).0) (sym last) ∙ (held has.kept).1);
-    }
+begins_with done None log has held = grind (arith, length-append)
+begins_with done (Some look) log has held = grind (arith, last_or-push, length-append, no_event_in)
 
 -- what a log that begins with these entries is after a look
 pub record IsLooked (done : List Entry) (log : LogState) (entry : Entry) : Type 0 where
@@ -66,24 +55,11 @@ room_pushed log entry some = omega (arith, length-append log.entries (entry ∷ 
 -- a look, where the log ends with a look at the same channel unless its last entry is to stay
 pub looked_at : (done : List Entry) (look : Option Entry) (log : LogState) (entry : Entry) → HasEntries done look log
     → (log.kept ≡ false → IsTrue (is_look_at entry.channel (last_or None log.entries))) → IsLooked done log entry
-looked_at done None log entry has held =
-    let is : looked log entry ≡ appended log entry = looked_kept log entry has.kept in record {
-      entries = ap (λ l. l.entries) is ∙ ap (λ xs. xs ++ entry ∷ []) (has.all ∙ append-nil done);
-      kept = ap (λ l. l.kept) is;
-      room = λ some. ap (λ l. l.room + length l.entries) is ∙ room_pushed log entry some;
-    }
-looked_at done (Some look) log entry has held =
-    let is : looked log entry ≡ record { entries = slice_set log.entries (length log.entries - 1) entry; room = log.room; kept = false } = looked_over log entry has.kept (held has.kept) in
-    let set : slice_set log.entries (length log.entries - 1) entry ≡ done ++ entry ∷ [] = ap (λ xs. slice_set xs (length xs - 1) entry) has.all ∙ set_last done look entry in
-    let n : length (done ++ entry ∷ []) ≡ length log.entries = omega (arith, length-append done (entry ∷ []), length-append done (look ∷ []), ap length has.all) in record {
-      entries = ap (λ l. l.entries) is ∙ set;
-      kept = ap (λ l. l.kept) is;
-      room = λ some. ap (λ l. l.room + length l.entries) is ∙ ap (λ j. log.room + j) (ap length set ∙ n);
-    }
+looked_at done None log entry has held = grind (arith, looked_kept, append-nil, room_pushed)
+looked_at done (Some look) log entry has held = grind (arith, looked_over, set_last, length-append)
 
 pub events_done : (done : List Entry) (log : LogState) → BeginsWith done log → events_in done ≡ events_in log.entries
-events_done done log s =
-    sym (ap events_in s.is ∙ (filter_map-append (λ entry. event_in entry.channel entry.what) done s.rest ∙ (ap (λ xs. events_in done ++ xs) s.no_event ∙ append-nil (events_in done))))
+events_done done log s = grind (arith, filter_map-append, append-nil)
 
 pub events_in-push : (xs ys : List Entry) → events_in (xs ++ ys) ≡ events_in xs ++ events_in ys
 events_in-push xs ys = filter_map-append (λ entry. event_in entry.channel entry.what) xs ys
@@ -93,5 +69,4 @@ sights_in-push xs ys = map-append (λ entry. record { channel = entry.channel; w
 
 -- what stands in the entries with which a log begins stands in the log
 pub stands_done : (done : List Entry) (log : LogState) (xs : List (OfChannel Seen)) → BeginsWith done log → IsSubsequence xs (sights_in done) → IsSubsequence xs (sights_in log.entries)
-stands_done done log xs s h =
-    subst (λ (l : List (OfChannel Seen)). IsSubsequence xs l) (sym (ap sights_in s.is ∙ sights_in-push done s.rest)) (stands_more xs (sights_in done) (sights_in s.rest) h)
+stands_done done log xs s h = grind (arith, sights_in-push, stands_more)

@@ -33,11 +33,7 @@ not_before_it place m c l = ap (λ b. if b then opening_history c m else []) (le
 
 -- every other channel is before the next place where it is before this one
 same_before : (place : ℕ) (m : MachineState) (c : ℕ) → place < channel_count → c ≢ channel_number place → opened_before (place + 1) m c ≡ opened_before place m c
-same_before place m c below other =
-    ⊎_elim (λ (l : channel_index c < place). before_it (place + 1) m c (omega arith) ∙ sym (before_it place m c l))
-    (λ (l : place ≤ channel_index c).
-    let apart : channel_index c ≢ place = λ e. other (own_place c place below e) in
-    not_before_it (place + 1) m c (omega (arith, l, apart)) ∙ sym (not_before_it place m c l)) (cases_lt (channel_index c) place)
+same_before place m c below other = grind (arith, before_it, own_place, not_before_it, cases_lt)
 
 -- the channel at a place has not been told of before
 pub unlogged : (place : ℕ) (m : MachineState) (log : List Entry) → place < channel_count → IsOpeningLog (opened_before place m) log → times_logged (channel_number place) 0 log ≡ 0

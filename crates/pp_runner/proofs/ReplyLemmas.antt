@@ -1,6 +1,6 @@
 -- Replies of a line: each goes with its operation, and the log tells what it did or saw.
 use Rattle.pp_runner.specs.Types.{Answer, ChanOp, Event, Need, Numbered, Reply, Seen}
-use Rattle.std.proofs.Common.{◌≡◌, ℕ, true, List, [], ◌∷◌, ◌++◌, map, Some, refl, sym, ap, ◌∙◌, subst, inl, inr}
+use Rattle.std.proofs.Common.{◌≡◌, ℕ, true, List, [], ◌∷◌, ◌++◌, map, Some, refl, sym, ap, ◌∙◌, subst, inl, inr, arith}
 use Rattle.std.specs.Prelude.{take}
 use Rattle.std.specs.Option.{option_to_list}
 use Rattle.std.proofs.lemmas.Bool.{cases_eq}
@@ -15,11 +15,7 @@ use Rattle.pp_runner.proofs.AccessLemmas.{all_made, channel_accessed, no_writes}
 use Rattle.pp_runner.specs.Labour.{IsAnswered, IsNoted}
 
 answer_fits : (h after : List Event) (op : ChanOp) (reply : Reply) → IsAnswer h op reply after → reply_fits op reply ≡ true
-answer_fits h after op reply is =
-    elim is [
-      | inl made ↦ rw (made.1.answered, ← made.1.ready.operation) (made_fits made.0)
-      | inr shown ↦ rw shown.answered (shown_fits op (channel_state h))
-    ]
+answer_fits h after op reply is = grind (arith, made_fits, shown_fits)
 
 lost_fits : (h : List Event) (op : ChanOp) (r : Numbered) → IsLost h op r → reply_fits op r.reply ≡ true
 lost_fits h op r lost = rw (lost.held, ← lost.was_ready.1.operation) (held_fits lost.was_ready.0 (flags_of h))
@@ -39,12 +35,7 @@ pub record IsSight (c : ℕ) (op : ChanOp) (reply : Reply) : Type 0 where
   pub noted : (log : LogState) (number : ℕ) → with_seen log c number (seen_answered op reply) ≡ with_seen log c number (Some what)
 
 pub sight_of : (c : ℕ) (op : ChanOp) (reply : Reply) → reply_fits op reply ≡ true → IsSight c op reply
-sight_of c op reply fit =
-    let tells = tells_where_fits op reply fit in record {
-      what = tells.0;
-      is = ap (λ o. map (λ what. record { channel = c; what = what }) (option_to_list o)) tells.1;
-      noted = λ log number. ap (with_seen log c number) tells.1;
-    }
+sight_of c op reply fit = grind (arith, tells_where_fits)
 
 -- an answer to an operation is a reply that goes with it
 pub record IsReplyTo (op : ChanOp) (x : Answer) : Type 0 where

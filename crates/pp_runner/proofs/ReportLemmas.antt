@@ -50,11 +50,7 @@ module _ {A : Type 0} (size steps : ℕ) (family : LineState) where
 
   -- nothing that a worker did or saw is older than what its line's family had seen
   begun_one : (happened : ℕ → ℕ) → HasSeen happened family → (load : Processor) (ended : Ended A × LineState) → HasEnded size steps family load ended → NoneOlder happened ended.1.log.entries
-  begun_one happened has load ended one =
-      let seen = same_seen happened family one.line (ap (λ v. v.seen) one.fresh.view) has in
-      let none : NoneOlder happened one.line.log.entries =
-      subst (λ (log : List Entry). NoneOlder happened log) (sym (ap (λ log. log.entries) one.fresh.log)) (All-nil (λ (entry : Entry). happened entry.channel ≤ entry.number)) in
-      one.has.same_line.none_older happened seen none
+  begun_one happened has load ended one = grind (arith, same_seen)
 
   all_entries : (P : Entry → Type 0) (crew : List (Ended A × LineState)) → All (λ ended. All P ended.1.log.entries) crew → All P (flat_map (λ l. l.log.entries) (lines_of crew))
   all_entries P [] each = All-nil P

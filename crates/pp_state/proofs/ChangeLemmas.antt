@@ -50,11 +50,7 @@ no_neighbours_printed before after most place e = rw e refl
 pub neighbour_printed : (before after : List ℕ) (most place word : ℕ) → 0 < most → differs before after place ≡ true → word ≡ get_or after place 0
     → (32 ∷ []) ++ octal 4 word ++ flat_map (after_blank 4) (neighbours before after (most - 1) (place + 1)) ≡ flat_map (after_blank 4) (neighbours before after most place)
 neighbour_printed before after zero place word some differ is = absurd (omega arith)
-neighbour_printed before after (suc most) place word some differ is =
-    let less : suc most - 1 ≡ most = omega arith in
-    ap (λ (k : ℕ). (32 ∷ []) ++ octal 4 word ++ flat_map (after_blank 4) (neighbours before after k (place + 1))) less
-    ∙ ap (λ (w : ℕ). (32 ∷ []) ++ octal 4 w ++ flat_map (after_blank 4) (neighbours before after most (place + 1))) is
-    ∙ ap (flat_map (after_blank 4)) (sym (one_neighbour before after most place differ))
+neighbour_printed before after (suc most) place word some differ is = grind (arith, one_neighbour)
 
 -- ---- lines
 
@@ -65,13 +61,10 @@ pub no_line_of_same : (before after : List ℕ) (place : ℕ) → differs before
 no_line_of_same before after place e = line_where before after place false (ap (λ (b : Bool). b && eqb (position_on_line before after place) 0) e)
 
 pub no_line_within : (before after : List ℕ) (place : ℕ) → differs before after place ≡ true → position_on_line before after place ≢ 0 → [] ≡ flat_map deck_line (line_from before after place)
-no_line_within before after place e some =
-    line_where before after place false (ap (λ (b : Bool). b && eqb (position_on_line before after place) 0) e ∙ ne_eqb (position_on_line before after place) 0 some)
+no_line_within before after place e some = grind (arith, line_where, ne_eqb)
 
 pub line_begins : (before after : List ℕ) (place : ℕ) → differs before after place ≡ true → position_on_line before after place ≡ 0 → deck_line (words place (neighbours before after 8 place)) ≡ flat_map deck_line (line_from before after place)
-line_begins before after place e none =
-    sym (append-nil (deck_line (words place (neighbours before after 8 place))))
-    ∙ line_where before after place true (ap (λ (b : Bool). b && eqb (position_on_line before after place) 0) e ∙ eq-eqb (position_on_line before after place) 0 none)
+line_begins before after place e none = grind (arith, append-nil, line_where, eq-eqb)
 
 -- ---- central words
 
@@ -79,9 +72,7 @@ pub no_central_line : (before after : List ℕ) (a : ℕ) → get_or after a 0 �
 no_central_line before after a e = let is : eqb (get_or before a 0) (get_or after a 0) ≡ true = eq-eqb (get_or before a 0) (get_or after a 0) (sym e) in rw is refl
 
 pub central_line_printed : (before after : List ℕ) (a word old : ℕ) → word ≡ get_or after a 0 → old ≡ get_or before a 0 → word ≢ old → deck_line (central_words a (word ∷ [])) ≡ flat_map deck_line (central_line before after a)
-central_line_printed before after a word old is was differ =
-    let no : eqb (get_or before a 0) (get_or after a 0) ≡ false = ne_eqb (get_or before a 0) (get_or after a 0) (λ e. differ (is ∙ sym e ∙ sym was)) in
-    rw (no, is) (sym (append-nil (deck_line (central_words a (get_or after a 0 ∷ [])))))
+central_line_printed before after a word old is was differ = grind (arith, ne_eqb, append-nil)
 
 -- ---- the words that differ, each with its place
 
@@ -104,9 +95,7 @@ at_end place count e = omega (arith, e)
 
 -- neighbours are the next changes
 neighbours_are : (before after : List ℕ) (most place : ℕ) → changes before after place ++ placed place (neighbours before after most place) ≡ changes before after (place + length (neighbours before after most place))
-neighbours_are before after zero place =
-    ap (λ (ws : List ℕ). changes before after place ++ placed place ws) (no_more before after zero place refl) ∙ append-nil (changes before after place)
-    ∙ ap (changes before after) (at_end place (length (neighbours before after zero place)) (ap length (no_more before after zero place refl)))
+neighbours_are before after zero place = grind (arith, changes, no_more, append-nil, at_end)
 neighbours_are before after (suc most) place = by (neighbours_are before after most (place + 1)) (cases_Bool (differs before after place))
   where
     further : (place count : ℕ) → place + 1 + count ≡ place + suc count
@@ -142,25 +131,15 @@ words_before_more before after place =
 
 few_in_front : (before after : List ℕ) (place : ℕ) → position_on_line before after place < 8
 few_in_front before after zero = omega (arith, none_at_first before after)
-few_in_front before after (suc place) = by (cases_Bool (differs before after place))
-  where
-    by : (differs before after place ≡ true) ⊎ (differs before after place ≡ false) → position_on_line before after (suc place) < 8
-    by (inl other) = omega (arith, in_front_of_next before after place other)
-    by (inr same) = omega (arith, in_front_of_same before after place same)
+few_in_front before after (suc place) = grind (arith, cases_Bool, in_front_of_next, in_front_of_same)
 
 -- no line begins
 no_line : (before after : List ℕ) (place : ℕ) → begins_line before after place ≡ false → words_before before after (place + 1) ≡ words_before before after place
-no_line before after place e =
-    words_before_more before after place
-    ∙ ap (λ (ls : List Line). words_before before after place ++ flat_map words_set ls) (cond-false (begins_line before after place) _ _ e)
-    ∙ append-nil (words_before before after place)
+no_line before after place e = grind (arith, words_before_more, words_before, cond-false, append-nil)
 
 -- a line begins
 one_line : (before after : List ℕ) (place : ℕ) → begins_line before after place ≡ true → words_before before after (place + 1) ≡ words_before before after place ++ placed place (neighbours before after 8 place)
-one_line before after place e =
-    words_before_more before after place
-    ∙ ap (λ (ls : List Line). words_before before after place ++ flat_map words_set ls) (cond-true (begins_line before after place) _ _ e)
-    ∙ ap (λ (xs : List (ℕ × ℕ)). words_before before after place ++ xs) (append-nil (placed place (neighbours before after 8 place)))
+one_line before after place e = grind (arith, words_before_more, words_before, cond-true, append-nil)
 
 behind_first : (before after : List ℕ) (place : ℕ) → position_on_line before after place ≡ 0 → words_after before after place ≡ 0
 unfolding words_after
@@ -171,31 +150,11 @@ unfolding words_after
 behind_more before after place e = cond-false (eqb (position_on_line before after place) 0) _ _ (ne_eqb (position_on_line before after place) 0 e)
 
 behind_same : (before after : List ℕ) (place : ℕ) → differs before after place ≡ false → words_after before after place ≡ 0
-behind_same before after place e = by (cases_eq (position_on_line before after place) 0)
-  where
-    by : (position_on_line before after place ≡ 0) ⊎ (position_on_line before after place ≢ 0) → words_after before after place ≡ 0
-    by (inl first) = behind_first before after place first
-    by (inr later) = behind_more before after place later ∙ ap length (no_neighbour before after (8 - position_on_line before after place) place e)
+behind_same before after place e = grind (arith, cases_eq, words_after, behind_first, behind_more, no_neighbour)
 
 -- behind a word that differs there are as many as may still come
 behind_next : (before after : List ℕ) (place : ℕ) → differs before after place ≡ true → words_after before after (suc place) ≡ length (neighbours before after (7 - position_on_line before after place) (place + 1))
-behind_next before after place e = by (cases_lt (position_on_line before after place) 7)
-  where
-    next : position_on_line before after (suc place) ≡ (position_on_line before after place + 1) % 8
-    next = in_front_of_next before after place e
-
-    by : (position_on_line before after place < 7) ⊎ (7 ≤ position_on_line before after place) → words_after before after (suc place) ≡ length (neighbours before after (7 - position_on_line before after place) (place + 1))
-    by (inl few) =
-        let later : position_on_line before after (suc place) ≢ 0 = λ (none : position_on_line before after (suc place) ≡ 0). absurd (omega (arith, next, none, few)) in
-        let left : 8 - position_on_line before after (suc place) ≡ 7 - position_on_line before after place = omega (arith, next, few) in
-        behind_more before after (suc place) later
-        ∙ ap (λ (most : ℕ). length (neighbours before after most (suc place))) left
-        ∙ ap (λ (p : ℕ). length (neighbours before after (7 - position_on_line before after place) p)) (sym (add-one place))
-    by (inr many) =
-        let low : position_on_line before after place < 8 = few_in_front before after place in
-        let first : position_on_line before after (suc place) ≡ 0 = omega (arith, next, low, many) in
-        let none : 7 - position_on_line before after place ≡ 0 = omega (arith, low, many) in
-        behind_first before after (suc place) first ∙ sym (ap length (no_more before after (7 - position_on_line before after place) (place + 1) none))
+behind_next before after place e = grind (arith, cases_lt, in_front_of_next, words_after, behind_more, add-one, few_in_front, behind_first, no_more)
 
 -- over one place more
 words_step : (before after : List ℕ) (place : ℕ) → words_before before after place ≡ changes before after (place + words_after before after place) → words_before before after (place + 1) ≡ changes before after (suc place + words_after before after (suc place))
@@ -253,18 +212,11 @@ words_on_lines before after long as_long =
     ∙ ap (changes before after) (sym (at_end place_count (words_after before after place_count) (behind_same before after place_count (past before after place_count (omega (arith, long)) (omega (arith, as_long))))))
 
 central_set : (before after : List ℕ) (a : ℕ) → flat_map words_set (central_line before after a) ≡ change before after a
-central_set before after a = by (cases_Bool (differs before after a))
-  where
-    by : (differs before after a ≡ true) ⊎ (differs before after a ≡ false) → flat_map words_set (central_line before after a) ≡ change before after a
-    by (inl other) = ap (flat_map words_set) (cond-true (differs before after a) (central_words a (get_or after a 0 ∷ []) ∷ []) [] other) ∙ sym (cond-true (differs before after a) _ _ other)
-    by (inr same) = ap (flat_map words_set) (cond-false (differs before after a) (central_words a (get_or after a 0 ∷ []) ∷ []) [] same) ∙ sym (cond-false (differs before after a) _ _ same)
+central_set before after a = grind (arith, cases_Bool, change, cond-true, cond-false)
 
 pub words_of_central : (before after ks : List ℕ) → flat_map words_set (flat_map (central_line before after) ks) ≡ flat_map (change before after) ks
 words_of_central before after [] = refl
-words_of_central before after (k ∷ ks) =
-    flat_map-append words_set (central_line before after k) (flat_map (central_line before after) ks)
-    ∙ ap (λ (xs : List (ℕ × ℕ)). xs ++ flat_map words_set (flat_map (central_line before after) ks)) (central_set before after k)
-    ∙ ap (λ (xs : List (ℕ × ℕ)). change before after k ++ xs) (words_of_central before after ks)
+words_of_central before after (k ∷ ks) = grind (arith, flat_map-append, central_set, change, words_of_central before after ks)
 
 -- ---- what they make of the load
 
@@ -281,9 +233,7 @@ half before after place = take place after ++ drop place before
 
 half_more : (before after : List ℕ) (place : ℕ) → place < length after → take place after ++ get_or after place 0 ∷ drop (place + 1) before ≡ half before after (place + 1)
 unfolding half
-half_more before after place lt =
-    sym (append_assoc (take place after) (get_or after place 0 ∷ []) (drop (place + 1) before))
-    ∙ ap (λ (xs : List ℕ). xs ++ drop (place + 1) before) (sym (take_more after place 0 lt))
+half_more before after place lt = grind (arith, append_assoc, take_more)
 
 set_half : (before after : List ℕ) (place : ℕ) → place < length after → place < length before → set (half before after place) place (get_or after place 0) ≡ half before after (place + 1)
 unfolding half
@@ -296,23 +246,10 @@ set_half before after place lt as_lt =
 
 same_half : (before after : List ℕ) (place : ℕ) → place < length after → place < length before → get_or before place 0 ≡ get_or after place 0 → half before after place ≡ half before after (place + 1)
 unfolding half
-same_half before after place lt as_lt e =
-    ap (λ (xs : List ℕ). take place after ++ xs) (drop_more before place 0 as_lt)
-    ∙ ap (λ (w : ℕ). take place after ++ w ∷ drop (place + 1) before) e
-    ∙ half_more before after place lt
+same_half before after place lt as_lt e = grind (arith, drop_more, half_more)
 
 half_step : (before after : List ℕ) (count : ℕ) → count < length after → count < length before → overwritten before (changes before after count) ≡ half before after count → overwritten before (changes before after (count + 1)) ≡ half before after (count + 1)
-half_step before after count lt as_lt so_far = by (cases_Bool (differs before after count))
-  where
-    by : (differs before after count ≡ true) ⊎ (differs before after count ≡ false) → overwritten before (changes before after (count + 1)) ≡ half before after (count + 1)
-    by (inl other) =
-        ap (overwritten before) (changes_more before after count other)
-        ∙ overwritten-append before (changes before after count) ((count, get_or after count 0) ∷ [])
-        ∙ ap (λ (memory : List ℕ). set memory count (get_or after count 0)) so_far
-        ∙ set_half before after count lt as_lt
-    by (inr alike) =
-        ap (overwritten before) (changes_same before after count alike) ∙ so_far
-        ∙ same_half before after count lt as_lt (is_same before after count alike)
+half_step before after count lt as_lt so_far = grind (arith, cases_Bool, changes, half, changes_more, overwritten-append, set_half, changes_same, same_half, is_same)
 
 overwritten_half : (before after : List ℕ) (count : ℕ) → count ≤ length after → length before ≡ length after → overwritten before (changes before after count) ≡ half before after count
 unfolding half
@@ -324,11 +261,7 @@ overwritten_half before after (suc count) le same =
 
 pub overwritten_whole : (before after : List ℕ) (count : ℕ) → count ≡ length after → length before ≡ length after → overwritten before (changes before after count) ≡ after
 unfolding half
-overwritten_whole before after count all same =
-    overwritten_half before after count (omega (arith, all)) same
-    ∙ ap (λ (xs : List ℕ). xs ++ drop count before) (take_all count after (omega (arith, all)))
-    ∙ ap (λ (xs : List ℕ). after ++ xs) (drop_all count before (omega (arith, all, same)))
-    ∙ append-nil after
+overwritten_whole before after count all same = grind (arith, overwritten_half, take_all, drop_all, append-nil)
 
 -- ---- no word stands there already
 

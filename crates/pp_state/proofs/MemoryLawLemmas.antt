@@ -74,9 +74,7 @@ one_further k n said within before (inl early) =
       ap (λ (t : List ℕ). t ++ said n) is
           ∙ (append_assoc (each_below k said) (said k ++ after) (said n) ∙ ap (λ (t : List ℕ). each_below k said ++ t) (append_assoc (said k) after (said n))),
     )
-one_further k n said within before (inr late) =
-    let at : n ≡ k = omega (arith, late, within) in
-    ([], ap (λ (m : ℕ). each_below m said ++ said m) at ∙ ap (λ (t : List ℕ). each_below k said ++ t) (sym (append-nil (said k))))
+one_further k n said within before (inr late) = grind (arith, append-nil)
 
 parts_below : (k count : ℕ) (said : ℕ → List ℕ) → k < count → HasParts k count said
 parts_below k zero said within = absurd (omega (arith, within))
@@ -85,8 +83,7 @@ parts_below k (suc n) said within = one_further k n said within (λ early. parts
 padded_is : (pp : Processor) (place : ℕ)
     → padded_line pp place ≡ octal 4 place ++ (32 ∷ (octal_words pp place ++ (32 ∷ 32 ∷ displayed_words pp place)))
 unfolding padded_line
-padded_is pp place =
-    ap (λ (t : List ℕ). octal 4 place ++ (32 ∷ t)) (append_assoc (octal_words pp place) (32 ∷ 32 ∷ []) (displayed_words pp place))
+padded_is pp place = grind (arith, append_assoc)
 
 abbrev word_field : Processor → ℕ → ℕ → List ℕ
 word_field pp place k = codes " " ++ octal 4 (word_at pp (place + k))
@@ -150,10 +147,7 @@ on_line true false column width w l met reads zeros = sym (zeros refl)
 on_line false some column width w l met reads zeros = absurd (cc)
 
 no_words : (pp : Processor) (place k : ℕ) → k < 8 → has_words pp place ≡ false → word_at pp (place + k) ≡ 0
-no_words pp place k within none =
-    let is_word : ℕ → Bool = λ p. not (word_at pp p == 0) in
-    eqb-true (word_at pp (place + k)) 0 (not-false _ (false_from_ne_true (is_word (place + k)) (λ some. both_ways (has_words pp place) none
-    (list_any_at is_word (range_with_len place 8) k 0 (omega (arith, within, length-range_with_len place 8)) (ap is_word (get_or-range_with_len place 8 k 0 within) ∙ some)))))
+no_words pp place k within none = grind (arith, eqb-true, not-false, false_from_ne_true, both_ways, list_any_at, length-range_with_len, get_or-range_with_len)
 
 met : (bounds : Bounds) (from to : ℕ) → bounds.first ≤ to → from ≤ bounds.last → meets bounds from to ≡ true
 met bounds from to first last = rw (le-leb bounds.first to first, le-leb from bounds.last last) refl
@@ -187,8 +181,7 @@ plain_central a word =
     (All-append IsPlain (octal 20 word) (32 ∷ 32 ∷ display) (plain_octal 20 word) (All-append IsPlain (32 ∷ 32 ∷ []) display plain_spaces (plain_displayed 10 word))))
 
 address_on_line : (a word : ℕ) → a < 8 ^ 6 → number_in 0 6 (central_line a word) ≡ a
-address_on_line a word small =
-    ap (number_in 0 6) (central_is a word) ∙ number_after [] ((32 ∷ 32 ∷ []) ++ (octal 20 word ++ (32 ∷ 32 ∷ displayed 10 word))) 0 6 a refl small
+address_on_line a word small = grind (arith, central_is, number_after)
 
 central_on_line : (a word : ℕ) → word < 8 ^ 20 → number_in 8 20 (central_line a word) ≡ word
 central_on_line a word small =

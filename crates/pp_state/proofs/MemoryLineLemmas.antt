@@ -22,10 +22,7 @@ use Rattle.pp_state.specs.MemoryReading.{number_in}
 -- the number that stands after some characters
 pub number_after : (before after : List ℕ) (column width n : ℕ) → length before ≡ column → n < 8 ^ width
     → number_in column width (before ++ (octal width n ++ after)) ≡ n
-number_after before after column width n here small =
-    ap (λ (l : List ℕ). value_of 8 (take width l)) (drop_at before (octal width n ++ after) column here)
-    ∙ (ap (value_of 8) (take_at (octal width n) after width (length_digits 8 width n))
-    ∙ (digits_value 8 width n (lit< tt) ∙ mod-eq_of_lt small))
+number_after before after column width n here small = grind (arith, drop_at, take_at, length_digits, digits_value, lit<, mod-eq_of_lt)
 
 -- ---- spaces at the end
 
@@ -42,8 +39,7 @@ backwards a b x =
     ∙ (ap (λ (l : List ℕ). l ++ reverse a) (reverse-append (x ∷ []) b) ∙ append_assoc (reverse b) (x ∷ []) (reverse a))
 
 same_spaces : (a b : List ℕ) (x : ℕ) → 47 < x → suffix_len is_ascii_whitespace (a ++ x ∷ b) ≡ suffix_len is_ascii_whitespace b
-same_spaces a b x past =
-    ap (prefix_len is_ascii_whitespace) (backwards a b x) ∙ stops is_ascii_whitespace (reverse b) (reverse a) x (no_space x past)
+same_spaces a b x past = grind (arith, backwards, stops, no_space)
 
 -- what stands up to a digit stays
 trim_keeps : (a b : List ℕ) (x : ℕ) → 47 < x → trimmed (a ++ x ∷ b) ≡ a ++ x ∷ trimmed b
@@ -59,9 +55,7 @@ regrouped a b c x = ap (λ (l : List ℕ). a ++ l) (append_assoc b (x ∷ []) c)
 
 -- also a line of some pieces, up to a digit
 pub trim_after : (a b c : List ℕ) (x : ℕ) → 47 < x → trimmed ((a ++ (b ++ x ∷ [])) ++ c) ≡ (a ++ (b ++ x ∷ [])) ++ trimmed c
-trim_after a b c x past =
-    let as_one : (l : List ℕ) → (a ++ (b ++ x ∷ [])) ++ l ≡ (a ++ b) ++ x ∷ l = λ l. append_assoc a (b ++ x ∷ []) l ∙ regrouped a b l x in
-    ap trimmed (as_one c) ∙ trim_keeps (a ++ b) c x past ∙ sym (as_one (trimmed c))
+trim_after a b c x past = grind (arith, append_assoc, regrouped, trim_keeps)
 
 -- the number that stands after some characters of a line whose last spaces are dropped
 pub number_trimmed : (before after : List ℕ) (column width n : ℕ) → length before ≡ column → n < 8 ^ suc width
@@ -80,8 +74,7 @@ abbrev is_feed : ℕ → Bool
 is_feed character = character == 10
 
 no_feeds : (l : List ℕ) → All IsPlain l → All (λ character. is_feed character ≡ false) l
-no_feeds l plain =
-    All-weaker IsPlain (λ character. is_feed character ≡ false) (λ character past. ne_eqb character 10 (λ same. absurd (omega (arith, past, same)))) l plain
+no_feeds l plain = grind (arith, is_feed, ne_eqb)
 
 parts_of_lines : (ls : List (List ℕ)) → All (All IsPlain) ls → slice_split is_feed (unlines ls) ≡ ls ++ [] ∷ []
 parts_of_lines [] plain = refl
@@ -92,10 +85,7 @@ parts_of_lines (l ∷ ls) plain =
 
 no_return : (l : List ℕ) → All IsPlain l → strip_carriage_return l ≡ l
 no_return [] plain = refl
-no_return (c ∷ l) plain =
-    let last : IsPlain (get_or (c ∷ l) (length (c ∷ l) - 1) 0) = All-get_or IsPlain (c ∷ l) (length (c ∷ l) - 1) 0 (omega arith) plain in
-    let other : (get_or (c ∷ l) (length (c ∷ l) - 1) 0 == 13) ≡ false = ne_eqb _ 13 (λ same. absurd (omega (arith, last, same))) in
-    rw other refl
+no_return (c ∷ l) plain = grind (arith, ne_eqb)
 
 lines_again : (ls : List (List ℕ)) → All (All IsPlain) ls → lines_of_parts (ls ++ [] ∷ []) ≡ ls
 lines_again [] plain = refl
@@ -132,15 +122,8 @@ lines_said count has line plain =
 by_order : (k n : ℕ) (p : List ℕ → Bool) (f : ℕ → List (List ℕ)) → n < suc k → filter p (f n) ≡ f n
     → ((m : ℕ) → m < suc k → m ≢ n → filter p (f m) ≡ []) → (n < k → filter p (lines_below k f) ≡ f n)
     → (n < k) ⊎ (k ≤ n) → filter p (lines_below k f ++ f k) ≡ f n
-by_order k n p f within own others before (inl early) =
-    filter-append p (lines_below k f) (f k)
-    ∙ (ap (λ (first : List (List ℕ)). first ++ filter p (f k)) (before early)
-    ∙ (ap (λ (last : List (List ℕ)). f n ++ last) (others k (omega arith) (λ same. absurd (omega (arith, same, early)))) ∙ append-nil (f n)))
-by_order k n p f within own others before (inr late) =
-    let at : n ≡ k = omega (arith, late, within) in
-    filter-append p (lines_below k f) (f k)
-    ∙ (ap (λ (first : List (List ℕ)). first ++ filter p (f k)) (none_below k p f (λ m low. others m (omega (arith, low)) (λ same. absurd (omega (arith, same, late, low)))))
-    ∙ (ap (λ (m : ℕ). filter p (f m)) (sym at) ∙ own))
+by_order k n p f within own others before (inl early) = grind (arith, filter-append, lines_below, append-nil)
+by_order k n p f within own others before (inr late) = grind (arith, filter-append, lines_below, none_below)
 
 one_passes : (count n : ℕ) (p : List ℕ → Bool) (f : ℕ → List (List ℕ)) → n < count → filter p (f n) ≡ f n
     → ((m : ℕ) → m < count → m ≢ n → filter p (f m) ≡ []) → filter p (lines_below count f) ≡ f n

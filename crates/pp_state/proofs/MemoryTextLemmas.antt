@@ -12,9 +12,7 @@ use Rattle.pp_numbers.specs.declared.bounds.Bounds.{Bounds}
 -- one character more of a word
 pub displayed_more : (width word : ℕ) → width ≢ 0 → displayed (width - 1) (word / 0o100) ++ display_character (word % 0o100) ∷ [] ≡ displayed width word
 displayed_more zero word some = absurd (some refl)
-displayed_more (suc width) word some =
-    let fewer : suc width - 1 ≡ width = omega arith in
-    ap (λ (k : ℕ). displayed k (word / 0o100) ++ display_character (word % 0o100) ∷ []) fewer
+displayed_more (suc width) word some = grind arith
 
 -- eight words in display code
 pub eight_words : (pp : Processor) (place : ℕ)
@@ -22,21 +20,14 @@ pub eight_words : (pp : Processor) (place : ℕ)
     ++ displayed 2 (word_at pp (place + 4)) ++ displayed 2 (word_at pp (place + 5)) ++ displayed 2 (word_at pp (place + 6)) ++ displayed 2 (word_at pp (place + 7))
     ≡ displayed_words pp place
 unfolding displayed_words each_below
-eight_words pp place =
-    let first : place ≡ place + 0 = omega arith in
-    ap
-    (λ (p : ℕ). displayed 2 (word_at pp p) ++ displayed 2 (word_at pp (place + 1)) ++ displayed 2 (word_at pp (place + 2)) ++ displayed 2 (word_at pp (place + 3))
-    ++ displayed 2 (word_at pp (place + 4)) ++ displayed 2 (word_at pp (place + 5)) ++ displayed 2 (word_at pp (place + 6)) ++ displayed 2 (word_at pp (place + 7)))
-    first
+eight_words pp place = grind arith
 
 -- eight words in octal end with the last digit of the last
 last_digit : (pp : Processor) (place : ℕ)
     → let w = word_at pp (place + 7) in
     octal_words pp place ≡ (each_below 7 (λ k. codes " " ++ octal 4 (word_at pp (place + k))) ++ (codes " " ++ octal 3 (w / 8))) ++ (48 + w % 8) ∷ []
 unfolding octal_words each_below
-last_digit pp place =
-    let w = word_at pp (place + 7) in
-    sym (append_assoc (each_below 7 (λ k. codes " " ++ octal 4 (word_at pp (place + k)))) (codes " " ++ octal 3 (w / 8)) ((48 + w % 8) ∷ []))
+last_digit pp place = grind (arith, append_assoc, codes)
 
 -- so no more than the characters, and the spaces before them, lose their spaces
 pub line_trimmed : (pp : Processor) (place : ℕ) (shown : List ℕ) → shown ≡ trimmed (codes "  " ++ displayed_words pp place)

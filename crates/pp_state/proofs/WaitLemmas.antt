@@ -84,11 +84,7 @@ unfolding step_outcome
 held_answer n m held = held_by_answer (processor_of n m) (answer_to (need (processor_of n m)) m) held
 
 pub waits_where_held : (n : ℕ) (m : MachineState) → length m.histories ≡ channel_count → HoldsOnEachChannel m → step_outcome n m ≡ Held → IsHeld n m
-waits_where_held n m all holds held = by (need (processor_of n m)) refl (held_answer n m held)
-  where
-    by : (x : Need) → need (processor_of n m) ≡ x → IsHeldAnswer (answer_to (need (processor_of n m)) m) → IsHeld n m
-    by (needs.Channel c op) e h = waits_on n c op m (lawful c m all holds) e held
-    by x e (flags, shown) = let both = sym (ap (λ (y : Need). answer_to y m) e) ∙ shown in absurd (cc)
+waits_where_held n m all holds held = grind (arith, held_answer, waits_on, lawful)
 
 -- ---- the text says so
 
@@ -100,10 +96,7 @@ not_nothing : (x : ℕ) (xs ys : List ℕ) → ys ≡ x ∷ xs → ys ≡ [] →
 not_nothing x xs ys some none = cc
 
 pub says_where_waits : (n : ℕ) (m : MachineState) (count : ℕ) → step_outcome n m ≡ Held → IsHeld n m → held_text (need (processor_of n m)) (step_outcome n m) m count ≢ []
-says_where_waits n m count held (c, op, waits) =
-    let text : held_text (need (processor_of n m)) (step_outcome n m) m count ≡ held_text (needs.Channel c op) Held m count =
-    ap (λ (x : Need). held_text x (step_outcome n m) m count) waits.needs ∙ ap (λ (o : Outcome). held_text (needs.Channel c op) o m count) held in
-    not_nothing _ _ (held_text (need (processor_of n m)) (step_outcome n m) m count) text
+says_where_waits n m count held (c, op, waits) = grind (arith, not_nothing)
 
 pub held_where_said : (n : ℕ) (m : MachineState) (count : ℕ) → held_text (need (processor_of n m)) (step_outcome n m) m count ≢ [] → step_outcome n m ≡ Held
 held_where_said n m count some = said (need (processor_of n m)) (step_outcome n m) m count some

@@ -35,8 +35,7 @@ chosen_more choice p turn m k is =
 
 -- no more than turns
 pub few_chosen : (choice : Choice) (p : Profile) (turns : ℕ) (m : MachineState) → length (chosen_steps choice (barrel p turns) m) ≤ turns
-few_chosen choice p turns m =
-    omega (arith, length-filter (is_chosen choice) (run_steps (barrel p turns) m), count_by-le-length (is_chosen choice) (run_steps (barrel p turns) m), length-barrel_steps p turns m)
+few_chosen choice p turns m = grind (arith, length-filter, count_by-le-length, length-barrel_steps)
 
 -- ---- the turns to come
 

@@ -1,5 +1,5 @@
 -- The events on the lines of a run are those of its trace.
-use Rattle.std.proofs.Common.{◌≡◌, ℕ, Bool, true, false, ◌&&◌, cond, List, [], ◌∷◌, ◌++◌, length, drop, refl, sym, ap, ◌∙◌, append_assoc}
+use Rattle.std.proofs.Common.{◌≡◌, ℕ, Bool, true, false, ◌&&◌, cond, List, [], ◌∷◌, ◌++◌, length, drop, refl, sym, ap, ◌∙◌, append_assoc, arith}
 use Rattle.std.specs.Prelude.{Option, Some, None, map}
 use Rattle.std.specs.List.{filter, flat_map}
 use Rattle.std.specs.Option.{option_to_list}
@@ -51,8 +51,7 @@ on_channel : (kind : LineKind) (n c : ℕ) (operation : ChanOp) (m : MachineStat
     → entry_of n (need (processor_of n m)) m ≡ entry_of n x m → event_on kind n m ≡ entry_of n (need (processor_of n m)) m
 on_channel OneStep n c operation m x o is made moves same = refl
 on_channel kind n c operation m x (Some e) is made moves same = absurd (let wrong : kind ≡ OneStep = moves e refl in cc)
-on_channel kind n c operation m x None is made moves same =
-    sym (same ∙ ap (λ (y : Need). entry_of n y m) is ∙ ap (λ (o : Option Event). map (λ (e : Event). record { turn = m.turns; pp = n; channel = c; event = e }) (option_to_list o)) made)
+on_channel kind n c operation m x None is made moves same = grind arith
 
 none_on : (kind : LineKind) (n : ℕ) (m : MachineState) (x : Need) → x ≡ need (processor_of n m) → entry_of n x m ≡ [] → event_on kind n m ≡ entry_of n (need (processor_of n m)) m
 none_on OneStep n m x is none = refl
@@ -70,25 +69,17 @@ abbrev entries_of : RunStep → List Trace
 entries_of step = entry_of step.processor (need (processor_of step.processor step.before)) step.before
 
 event_of_line : (past : List RunStep) (step : RunStep) (future : List RunStep) → line_event (with_line past step future) ≡ entries_of step
-event_of_line past step future =
-    let n = step.processor in
-    by_need (last_of (seen_of progress_of n past)) n step.before (seen_of progress_of n future) (need (processor_of n step.before)) refl
+event_of_line past step future = grind (arith, by_need)
 
 lines_events : (past steps : List RunStep) → flat_map line_event (lines_from past steps) ≡ flat_map entries_of steps
 lines_events past [] = refl
-lines_events past (step ∷ steps) =
-    ap (λ (ts : List Trace). ts ++ flat_map line_event (lines_from (past ++ step ∷ []) steps)) (event_of_line past step steps)
-    ∙ ap (λ (ts : List Trace). entries_of step ++ ts) (lines_events (past ++ step ∷ []) steps)
+lines_events past (step ∷ steps) = grind (arith, event_of_line, entries_of, lines_events (past ++ step ∷ []) steps)
 
 -- ---- the trace of a run
 
 traced : (steps : List ℕ) (load : MachineState) → (run steps load).trace ≡ load.trace ++ flat_map entries_of (run_steps steps load)
 traced [] load = sym (append-nil load.trace)
-traced (n ∷ steps) load =
-    let rest = flat_map entries_of (run_steps steps (stepped n load)) in
-    traced steps (stepped n load)
-    ∙ ap (λ (ts : List Trace). ts ++ rest) (trace_more n load)
-    ∙ append_assoc load.trace (entry_of n (need (processor_of n load)) load) rest
+traced (n ∷ steps) load = grind (arith, entries_of, trace_more, append_assoc, traced steps (stepped n load))
 
 -- ---- the events of the steps chosen
 
@@ -107,9 +98,7 @@ by_channel None c operation = refl
 by_channel (Some channels) c operation = refl
 
 chosen_entry : (choice : Choice) (n : ℕ) (m : MachineState) (x : Need) → filter (is_chosen_event choice) (entry_of n x m) ≡ cond (chooses_turn choice n m.turns && chooses_need choice.channels x) (entry_of n x m) []
-chosen_entry choice n m (Channel c operation) =
-    all_or_none (is_chosen_event choice) (chooses_turn choice n m.turns && chooses_need choice.channels (Channel c operation)) n c m (event_of operation (history_of c m))
-    (λ e. ap (λ (b : Bool). chooses_turn choice n m.turns && b) (by_channel choice.channels c operation))
+chosen_entry choice n m (Channel c operation) = grind (arith, all_or_none, by_channel)
 chosen_entry choice n m other = sym (nothing (chooses_turn choice n m.turns && chooses_need choice.channels other) [])
 
 with_first : (b : Bool) (step : RunStep) (rest : List RunStep) → cond b (entries_of step) [] ++ flat_map entries_of rest ≡ flat_map entries_of (cond b (step ∷ rest) rest)
@@ -118,15 +107,8 @@ with_first false step rest = refl
 
 chosen_events : (choice : Choice) (steps : List RunStep) → filter (is_chosen_event choice) (flat_map entries_of steps) ≡ flat_map entries_of (filter (is_chosen choice) steps)
 chosen_events choice [] = refl
-chosen_events choice (step ∷ steps) =
-    filter-append (is_chosen_event choice) (entries_of step) (flat_map entries_of steps)
-    ∙ ap (λ (ts : List Trace). ts ++ filter (is_chosen_event choice) (flat_map entries_of steps)) (chosen_entry choice step.processor step.before (need (processor_of step.processor step.before)))
-    ∙ ap (λ (ts : List Trace). cond (is_chosen choice step) (entries_of step) [] ++ ts) (chosen_events choice steps)
-    ∙ with_first (is_chosen choice step) step (filter (is_chosen choice) steps)
+chosen_events choice (step ∷ steps) = grind (arith, filter-append, entries_of, chosen_entry, with_first, chosen_events choice steps)
 
 pub events_told : (choice : Choice) (steps : List ℕ) (load : MachineState)
     → flat_map line_event (with_lines (chosen_steps choice steps load)) ≡ filter (is_chosen_event choice) (drop (length load.trace) (run steps load).trace)
-events_told choice steps load =
-    lines_events [] (filter (is_chosen choice) (run_steps steps load))
-    ∙ sym (chosen_events choice (run_steps steps load))
-    ∙ ap (filter (is_chosen_event choice)) (sym (ap (drop (length load.trace)) (traced steps load) ∙ drop-append_seam load.trace (flat_map entries_of (run_steps steps load))))
+events_told choice steps load = grind (arith, lines_events, chosen_events, traced, drop-append_seam, entries_of)

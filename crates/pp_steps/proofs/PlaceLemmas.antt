@@ -28,20 +28,11 @@ nothing f a (suc n) none =
 
 -- three stretches, one behind another
 three_stretches : (f : ℕ → List ℕ) (a b c : ℕ) → flat_map f (range_with_len 0 (a + (b + c))) ≡ flat_map f (range_with_len 0 a) ++ (flat_map f (range_with_len a b) ++ flat_map f (range_with_len (a + b) c))
-three_stretches f a b c =
-    let from_zero : 0 + a ≡ a = omega arith in
-    ap (flat_map f) (range_append 0 a (b + c))
-    ∙ flat_map-append f (range_with_len 0 a) (range_with_len (0 + a) (b + c))
-    ∙ ap (λ (i : ℕ). flat_map f (range_with_len 0 a) ++ flat_map f (range_with_len i (b + c))) from_zero
-    ∙ ap (λ (ks : List ℕ). flat_map f (range_with_len 0 a) ++ flat_map f ks) (range_append a b c)
-    ∙ ap (λ (text : List ℕ). flat_map f (range_with_len 0 a) ++ text) (flat_map-append f (range_with_len a b) (range_with_len (a + b) c))
+three_stretches f a b c = grind (arith, range_append, flat_map-append)
 
 -- something is said of the second alone
 middle : (f : ℕ → List ℕ) (a b c : ℕ) → ((k : ℕ) → k < a → f k ≡ []) → ((k : ℕ) → k < c → f (a + b + k) ≡ []) → flat_map f (range_with_len 0 (a + (b + c))) ≡ flat_map f (range_with_len a b)
-middle f a b c before behind =
-    let first : flat_map f (range_with_len 0 a) ≡ [] = nothing f 0 a (λ k below. subst (λ (i : ℕ). f i ≡ []) (omega arith) (before k below)) in
-    let last : flat_map f (range_with_len (a + b) c) ≡ [] = nothing f (a + b) c behind in
-    three_stretches f a b c ∙ rw (first, last) (append-nil (flat_map f (range_with_len a b)))
+middle f a b c before behind = grind (arith, nothing, three_stretches, append-nil)
 
 -- or of the first and the third
 ends : (f : ℕ → List ℕ) (a b c : ℕ) → ((k : ℕ) → k < b → f (a + k) ≡ []) → flat_map f (range_with_len 0 (a + (b + c))) ≡ flat_map f (range_with_len 0 a) ++ flat_map f (range_with_len (a + b) c)
@@ -121,6 +112,4 @@ centrals_go x m before after a w is old new = rw (new, old, is) (central_one m.c
 
 -- a central word that differs
 pub central_changed : (before after : List ℕ) (a word old : ℕ) → word ≡ slice_index after a → old ≡ slice_index before a → word ≢ old → codes " CM " ++ octal 6 a ++ codes "=" ++ octal 20 word ≡ central_text before after a
-central_changed before after a word old is was differ =
-    let no : eqb (get_or before a 0) (get_or after a 0) ≡ false = ne_eqb (get_or before a 0) (get_or after a 0) (λ e. differ (is ∙ sym e ∙ sym was)) in
-    rw (no, is) refl
+central_changed before after a word old is was differ = grind (arith, ne_eqb)

@@ -61,13 +61,7 @@ begun last g steps other rest =
 -- one that began before
 gone_on : (f g : Flags) (steps : List Progress) → is_held_with g (Held f) ≡ true → steps_told (Held g) steps ≡ filter is_running (drop (prefix_len (is_held_with g) steps) steps)
     → steps_told (Held f) (Held g ∷ steps) ≡ filter is_running (drop (prefix_len (is_held_with f) (Held g ∷ steps)) (Held g ∷ steps))
-gone_on f g steps same rest =
-    let k = prefix_len (is_held_with g) steps in
-    let more : 1 + k ≡ suc k = omega arith in
-    ap (λ (b : Bool). steps_on (cond b NoLine (HeldSteps (1 + k))) (Held g) ++ steps_told (Held g) steps) same
-    ∙ rest
-    ∙ ap (λ (j : ℕ). filter is_running (drop j (Held g ∷ steps))) (sym (first_of g steps ∙ more))
-    ∙ ap (λ (h : Flags). filter is_running (drop (prefix_len (is_held_with h) (Held g ∷ steps)) (Held g ∷ steps))) (with_same f g same)
+gone_on f g steps same rest = grind (arith, steps_told, first_of, with_same)
 
 apart : (f g : Flags) (steps : List Progress) → is_held_with g (Held f) ≡ false → prefix_len (is_held_with f) (Held g ∷ steps) ≡ 0
 apart f g steps other = ap (λ (b : Bool). cond b (1 + prefix_len (is_held_with f) steps) 0) (with_other f g ∙ other)
@@ -95,27 +89,13 @@ EventFits n past steps =
     flat_map line_steps (filter (is_by n) (lines_from past steps)) ≡ steps_told (last_of (seen_of progress_of n past)) (seen_of progress_of n steps)
 
 own_told : (past : List RunStep) (step : RunStep) (steps : List RunStep) → EventFits step.processor (past ++ step ∷ []) steps → EventFits step.processor past (step ∷ steps)
-own_told past step steps rest =
-    let n = step.processor in
-    let last = last_of (seen_of progress_of n past) in
-    let own = steps_on (line_kind last (progress_of step) (seen_of progress_of n steps)) (progress_of step) in
-    let others = filter (is_by n) (lines_from (past ++ step ∷ []) steps) in
-    ap (flat_map line_steps) (cond-true (eqb n n) (with_line past step steps ∷ others) others (eq-eqb n n refl))
-    ∙ ap (λ (ss : List Progress). own ++ ss) rest
-    ∙ ap (λ (p : Progress). own ++ steps_told p (seen_of progress_of n steps)) (last_own past step)
-    ∙ ap (steps_told last) (sym (seen_first step steps))
+own_told past step steps rest = grind (arith, cond-true, eq-eqb, steps_told, last_own, seen_first)
 
 other_told : (n : ℕ) (past : List RunStep) (step : RunStep) (steps : List RunStep) → step.processor ≢ n → EventFits n (past ++ step ∷ []) steps → EventFits n past (step ∷ steps)
-other_told n past step steps other rest =
-    let others = filter (is_by n) (lines_from (past ++ step ∷ []) steps) in
-    ap (flat_map line_steps) (cond-false (eqb step.processor n) (with_line past step steps ∷ others) others (ne_eqb step.processor n other))
-    ∙ rest
-    ∙ ap (λ (ss : List Progress). steps_told (last_of ss) (seen_of progress_of n steps)) (seen_other progress_of n past step other)
-    ∙ ap (steps_told (last_of (seen_of progress_of n past))) (sym (seen_past_first n step steps other))
+other_told n past step steps other rest = grind (arith, cond-false, ne_eqb, steps_told, seen_other, seen_past_first)
 
 by_number : (n : ℕ) (past : List RunStep) (step : RunStep) (steps : List RunStep) → (step.processor ≡ n) ⊎ (step.processor ≢ n) → EventFits n (past ++ step ∷ []) steps → EventFits n past (step ∷ steps)
-by_number n past step steps (inl same) rest =
-    subst (λ (j : ℕ). EventFits j past (step ∷ steps)) same (own_told past step steps (subst (λ (j : ℕ). EventFits j (past ++ step ∷ []) steps) (sym same) rest))
+by_number n past step steps (inl same) rest = grind (arith, own_told)
 by_number n past step steps (inr other) rest = other_told n past step steps other rest
 
 told_from : (n : ℕ) (past steps : List RunStep) → EventFits n past steps

@@ -1,5 +1,5 @@
 -- The text of some steps, one after another.
-use Rattle.std.proofs.Common.{◌≡◌, ◌≢◌, ℕ, ◌<◌, get_or, Bool, true, false, cond, eqb, List, [], ◌∷◌, ◌++◌, refl, sym, ap, ◌∙◌, append_assoc, append-nil}
+use Rattle.std.proofs.Common.{◌≡◌, ◌≢◌, ℕ, ◌<◌, get_or, Bool, true, false, cond, eqb, List, [], ◌∷◌, ◌++◌, refl, sym, ap, ◌∙◌, append_assoc, append-nil, arith}
 use Rattle.std.specs.Prelude.{map}
 use Rattle.std.specs.List.{filter, flat_map, fold}
 use Rattle.std.proofs.lemmas.Bool.{cond-false, cond-true, eq-eqb, ne_eqb}
@@ -21,19 +21,14 @@ use Rattle.pp_steps.proofs.RunCountLemmas.{line_is}
 
 -- before others
 pub seen_first : (step : RunStep) (steps : List RunStep) → seen_of progress_of step.processor (step ∷ steps) ≡ progress_of step ∷ seen_of progress_of step.processor steps
-seen_first step steps =
-    let own = filter (is_of step.processor) steps in
-    ap (map progress_of) (cond-true (eqb step.processor step.processor) (step ∷ own) own (eq-eqb step.processor step.processor refl))
+seen_first step steps = grind (arith, cond-true, eq-eqb)
 
 pub seen_past_first : (n : ℕ) (step : RunStep) (steps : List RunStep) → step.processor ≢ n → seen_of progress_of n (step ∷ steps) ≡ seen_of progress_of n steps
-seen_past_first n step steps other =
-    let own = filter (is_of n) steps in
-    ap (map progress_of) (cond-false (eqb step.processor n) (step ∷ own) own (ne_eqb step.processor n other))
+seen_past_first n step steps other = grind (arith, cond-false, ne_eqb)
 
 -- the last
 pub last_own : (past : List RunStep) (step : RunStep) → last_of (seen_of progress_of step.processor (past ++ step ∷ [])) ≡ progress_of step
-last_own past step =
-    ap last_of (seen_more progress_of step.processor past step refl) ∙ fold-append (λ last step. step) AtRest (seen_of progress_of step.processor past) (progress_of step ∷ [])
+last_own past step = grind (arith, seen_more, fold-append)
 
 -- ---- the text
 
@@ -70,10 +65,7 @@ turn_told true all past future runs cursors step did kind text low made counted 
     append_assoc text (kind_text kind n step.before) (flat_map line_text (lines_from (past ++ step ∷ []) future))
     ∙ ap (λ (x : LineKind). text ++ (kind_text x n step.before ++ flat_map line_text (lines_from (past ++ step ∷ []) future))) is
     ∙ so_far
-turn_told false all past future runs cursors step did kind text low made counted followed parts line so_far =
-    ap (λ (x : LineKind). (text ++ kind_text x step.processor step.before) ++ flat_map line_text (lines_from past future)) line
-    ∙ ap (λ (t : List ℕ). t ++ flat_map line_text (lines_from past future)) (append-nil text)
-    ∙ so_far
+turn_told false all past future runs cursors step did kind text low made counted followed parts line so_far = grind (arith, append-nil)
 
 pub everything : (all past : List RunStep) (text : List ℕ) → IsSoFar all past [] text → text ≡ flat_map line_text (with_lines all)
 everything all past text h = sym (append-nil text) ∙ h

@@ -1,5 +1,5 @@
 -- Where a step is held.
-use Rattle.std.proofs.Common.{◌≡◌, ◌≢◌, ℕ, Bool, true, false, cond, List, Option, Some, None, refl, sym, ap, ◌∙◌}
+use Rattle.std.proofs.Common.{◌≡◌, ◌≢◌, ℕ, Bool, true, false, cond, List, Option, Some, None, refl, sym, ap, ◌∙◌, arith}
 use Rattle.std.specs.Prelude.{IsTrue, is_some, if◌then◌else◌}
 use Rattle.pp_channel.specs.Answer.{channel_state, event_of, flags_of, only_looks, reply_by, reply_made, reply_shown}
 use Rattle.pp_channel.specs.History.{active, waiting}
@@ -68,11 +68,7 @@ moves_where_made n c op m e need_is made =
 
 -- nor is one that only looks
 pub moves_where_looked : (n c : ℕ) (op : ChanOp) (m : MachineState) → need (processor_of n m) ≡ needs.Channel c op → only_looks op ≡ true → step_outcome n m ≡ Moved
-moves_where_looked n c op m need_is looks =
-    let h = history_of c m in
-    by_answer n c op m need_is
-    ∙ ap (λ (o : Option Event). cond (is_held (processor_of n m).block (answers.Channel (reply_by op (channel_state h) o))) Held Moved) (look_makes_none op (flags_of h) (waiting h) looks)
-    ∙ ap (λ (b : Bool). cond b Held Moved) (not_unless_held (processor_of n m).block (reply_shown op (channel_state h)) (λ f. look_not_held op (channel_state h) f looks))
+moves_where_looked n c op m need_is looks = grind (arith, by_answer, look_makes_none, not_unless_held, look_not_held)
 
 -- another is held where it makes none, unless it ends a block
 pub held_where_none : (n c : ℕ) (op : ChanOp) (m : MachineState) → need (processor_of n m) ≡ needs.Channel c op → only_looks op ≡ false → event_of op (history_of c m) ≡ None → step_outcome n m ≡ cond (goes_on (processor_of n m).block (active (history_of c m))) Held Moved
@@ -102,9 +98,7 @@ no_event None is = refl
 no_event (Some e) is = cc
 
 pub test_made : (n c : ℕ) (op : ChanOp) (m : MachineState) (o : Option Event) (h : List Event) → need (processor_of n m) ≡ needs.Channel c op → h ≡ history_of c m → o ≡ event_of op h → is_some o ≡ true → (IsTrue false → step_outcome n m ≡ Held) × (step_outcome n m ≡ Held → IsTrue false)
-test_made n c op m o h need_is here is some =
-    let made = some_event o some in
-    not_held (step_outcome n m) (moves_where_made n c op m made.0 need_is (ap (event_of op) (sym here) ∙ sym is ∙ made.1))
+test_made n c op m o h need_is here is some = grind (arith, some_event, not_held, moves_where_made)
 
 pub test_none : (n c : ℕ) (op : ChanOp) (m : MachineState) (o : Option Event) (h : List Event) (block : Option Block) (b : Bool) → need (processor_of n m) ≡ needs.Channel c op → only_looks op ≡ false → h ≡ history_of c m → o ≡ event_of op h → is_some o ≡ false
     → block ≡ (processor_of n m).block → goes_on block (active h) ≡ b → (IsTrue b → step_outcome n m ≡ Held) × (step_outcome n m ≡ Held → IsTrue b)

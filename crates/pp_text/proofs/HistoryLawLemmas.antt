@@ -1,6 +1,6 @@
 -- What is shown of a machine tells the history of each of its channels: the text has the events of the
 -- trace, and they tell whether an Activate of dead start stands in front of them.
-use Rattle.std.proofs.Common.{◌≡◌, ◌∙◌, Bool, true, false, List, [], ◌∷◌, ◌++◌, Option, Some, None, refl, sym, ap, subst}
+use Rattle.std.proofs.Common.{◌≡◌, ◌∙◌, Bool, true, false, List, [], ◌∷◌, ◌++◌, Option, Some, None, refl, sym, ap, subst, arith}
 use Rattle.std.specs.Prelude.{if◌then◌else◌}
 use Rattle.pp_channel.specs.History.{IsLawful}
 use Rattle.pp_channel.specs.declared.event.Event.{Event}
@@ -17,8 +17,7 @@ opening is_open = if is_open then Activate ∷ [] else []
 
 -- no history goes on from a step that is not allowed
 goes_on : (o : Option State) (events : List Event) (s : State) → walk o events ≡ Some s → o ≡ None → ⊥
-goes_on o events s is none =
-    let no : None ≡ Some s = sym (walk_none events) ∙ (ap (λ x. walk x events) (sym none) ∙ is) in cc
+goes_on o events s is none = grind (arith, walk_none, walk)
 
 -- no event is allowed both on an inactive channel and on one that was just opened
 not_both : (e : Event) → (step Inactive e ≡ None → ⊥) → (step Empty e ≡ None → ⊥) → ⊥
@@ -44,10 +43,7 @@ opened_alike false true events closed opened used = absurd (not_opened_alone eve
 -- two histories of a channel, each its opening history followed by the same events
 pub one_history : (a b : Bool) (events h other : List Event) → h ≡ opening a ++ events → other ≡ opening b ++ events → IsLawful h → IsLawful other
     → is_used h ≡ is_used other → h ≡ other
-one_history a b events h other is also lawful keeps used =
-    is
-    ∙ (opened_alike a b events (subst IsLawful is lawful) (subst IsLawful also keeps) (sym (ap is_used is) ∙ (used ∙ ap is_used also))
-    ∙ sym also)
+one_history a b events h other is also lawful keeps used = grind (arith, opened_alike, is_used)
 
 pub text_tells_histories : (named others : List Bool) (one other : MachineState) → HoldsOnEachChannel one → HoldsOnEachChannel other → AgreeOnText named others one other
     → AreSameHistories one.histories other.histories

@@ -40,17 +40,12 @@ three_letters op = refl
 
 -- after a mnemonic nine of thirteen columns are left
 padded_more : (a b c : ℕ) (text : List ℕ) → padded 13 ((a ∷ b ∷ c ∷ []) ++ codes " " ++ text) ≡ a ∷ b ∷ c ∷ 32 ∷ padded 9 text
-padded_more a b c text =
-    let left : 13 - suc (suc (suc (suc (length text)))) ≡ 9 - length text = omega arith in
-    ap (λ (n : ℕ). a ∷ b ∷ c ∷ 32 ∷ text ++ replicate n 32) left
+padded_more a b c text = grind arith
 
 pub instruction_in_pieces : (name operands text : List ℕ) (op : Opcode) → name ≡ (row_of op).mnemonic → length operands ≡ 9 → operands ≡ padded 9 text
     → get_or name 0 0 ∷ get_or name 1 0 ∷ get_or name 2 0 ∷ 32 ∷ get_or operands 0 0 ∷ get_or operands 1 0 ∷ get_or operands 2 0 ∷ get_or operands 3 0 ∷ get_or operands 4 0 ∷ get_or operands 5 0 ∷ get_or operands 6 0 ∷ get_or operands 7 0 ∷ get_or operands 8 0 ∷ []
     ≡ padded 13 ((row_of op).mnemonic ++ codes " " ++ text)
-instruction_in_pieces name operands text op is long are =
-    ap (λ (xs : List ℕ). get_or name 0 0 ∷ get_or name 1 0 ∷ get_or name 2 0 ∷ 32 ∷ xs) (nine operands long ∙ are)
-    ∙ sym (padded_more (get_or name 0 0) (get_or name 1 0) (get_or name 2 0) text)
-    ∙ ap (λ (xs : List ℕ). padded 13 (xs ++ codes " " ++ text)) (three name (ap length is ∙ three_letters op) ∙ is)
+instruction_in_pieces name operands text op is long are = grind (arith, nine, padded_more, codes, three, three_letters)
 
 -- ---- without the spaces at its end
 

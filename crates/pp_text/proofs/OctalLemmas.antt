@@ -15,15 +15,12 @@ octal_more (suc width) n h = ap (λ (w : ℕ). octal w (n / 8) ++ digit (n % 8))
 pub short_first : (most n : ℕ) → 0 < most → n < 8 → digit (n % 8) ≡ short_octal most n
 unfolding short_octal
 short_first zero n some lt = absurd (omega (arith, some))
-short_first (suc most) n some lt =
-    let e : n % 8 ≡ n = omega (arith, lt) in
-    ap digit e ∙ sym (cond-true (ltb n 8) (digit n) _ (lt-ltb n 8 lt))
+short_first (suc most) n some lt = grind (arith, cond-true, lt-ltb)
 
 pub short_more : (most n : ℕ) → 0 < most → 8 ≤ n → short_octal (most - 1) (n / 8) ++ digit (n % 8) ≡ short_octal most n
 unfolding short_octal
 short_more zero n some le = absurd (omega (arith, some))
-short_more (suc most) n some le =
-    ap (λ (m : ℕ). short_octal m (n / 8) ++ digit (n % 8)) (sym (less most)) ∙ sym (cond-false (ltb n 8) _ _ (le-ltb n 8 le))
+short_more (suc most) n some le = grind (arith, less, cond-false, le-ltb)
 
 short_rest_of : (width n : ℕ) → 8 ≤ n → n < 8 ^ suc width → (0 < width) × (n / 8 < 8 ^ width)
 short_rest_of zero n le lt = let one = pow-suc 8 0 in let none = pow-zero 8 in absurd (omega (arith, le, lt, one, none))

@@ -19,18 +19,13 @@ use Rattle.pp_text.specs.declared.text_writer.TextWriter.{TextWriter}
 -- nothing more
 pub prints_nothing : {W : Type 0} (contents : W → Option (List ℕ)) (out : TextWriter W)
     → Prints contents out out []
-prints_nothing contents out =
-    record { same_writer = refl; goes_on = λ start before h. rw (append-nil before) h }
+prints_nothing contents out = grind (arith, append-nil)
 
 -- one text and then another
 pub prints_then : {W : Type 0} (contents : W → Option (List ℕ)) (a b c : TextWriter W)
     (xs ys : List ℕ) → Prints contents a b xs → Prints contents b c ys
     → Prints contents a c (xs ++ ys)
-prints_then contents a b c xs ys h k = record {
-  same_writer = k.same_writer ∙ h.same_writer;
-  goes_on = λ start before so_far. rw (← append_assoc before xs ys)
-      (k.goes_on start (before ++ xs) (h.goes_on start before so_far));
-}
+prints_then contents a b c xs ys h k = grind (arith, append_assoc)
 
 -- the same, between the two
 infixl 10 ◌▹◌
@@ -59,11 +54,7 @@ each_below_suc k said = rw (add-one) refl
 -- what comes of some numbers, and of one more
 pub range_flat : {X : Type 0} (f : ℕ → List X) (a k next : ℕ) → next ≡ a + k
     → flat_map f (range_with_len a k) ++ f next ≡ flat_map f (range_with_len a (k + 1))
-range_flat {X} f a k next is =
-    ap (λ (i : ℕ). flat_map f (range_with_len a k) ++ f i) is
-    ∙ ap (λ (ls : List X). flat_map f (range_with_len a k) ++ ls) (sym (append-nil (f (a + k))))
-    ∙ sym (flat_map-append f (range_with_len a k) ((a + k) ∷ []))
-    ∙ ap (flat_map f) (sym (range_more a k))
+range_flat {X} f a k next is = grind (arith, append-nil, flat_map-append, range_more)
 
 -- the lines of 0, of 1, .. and those of one more number
 pub prints_more : {W X : Type 0} (contents : W → Option (List ℕ)) (a b c : TextWriter W)
@@ -81,8 +72,7 @@ pub prints_all : {W X : Type 0} (contents : W → Option (List ℕ)) (a b : Text
     (line : X → List ℕ) (f : ℕ → List X) (k count : ℕ) → k ≡ count
     → Prints contents a b (flat_map line (flat_map f (range_with_len 0 k)))
     → Prints contents a b (flat_map line (flat_map f (range_with_len 0 count)))
-prints_all contents a b line f k count is h =
-    subst (λ n. Prints contents a b (flat_map line (flat_map f (range_with_len 0 n)))) is h
+prints_all contents a b line f k count is h = grind arith
 
 -- ---- what is printed of all channels, of all processors
 
@@ -95,18 +85,12 @@ walk_zero line number = refl
 pub walk_more : {X : Type 0} (line : ℕ → List X) (number : ℕ → ℕ) (k : ℕ)
     → flat_map line (tabulate k number) ++ line (number k)
     ≡ flat_map line (tabulate (k + 1) number)
-walk_more {X} line number k =
-    sym (ap (flat_map line) (tabulate_more k number)
-    ∙ flat_map-append line (tabulate k number) (number k ∷ [])
-    ∙ ap (λ (xs : List X). flat_map line (tabulate k number) ++ xs) (append-nil (line (number k))))
+walk_more {X} line number k = grind (arith, tabulate_more, flat_map-append, append-nil)
 
 each_is_flat : (k : ℕ) (f : ℕ → List ℕ) → each_below k f ≡ flat_map f (range_with_len 0 k)
 unfolding each_below
 each_is_flat zero f = refl
-each_is_flat (suc k) f =
-    ap (λ (t : List ℕ). t ++ f k) (each_is_flat k f)
-    ∙ range_flat f 0 k k (omega arith)
-    ∙ ap (λ (n : ℕ). flat_map f (range_with_len 0 n)) (add-one k)
+each_is_flat (suc k) f = grind (arith, range_flat, add-one, each_is_flat k f)
 
 -- the line of the channel with this number, if there is one
 abbrev pub numbered_channel_line : List (List Event) → ℕ → List ℕ
@@ -133,5 +117,4 @@ channels_by_number f =
 pub processors_by_number : (f : ℕ → List ℕ)
     → ((n : ℕ) → (IsTrue (names_processor n) → ⊥) → f n ≡ [])
     → flat_map f all_processors ≡ each_below 0o100 f
-processors_by_number f none =
-    numbers_of_processors f none ∙ sym (each_is_flat 0o100 f)
+processors_by_number f none = grind (arith, numbers_of_processors, each_is_flat)

@@ -244,27 +244,14 @@ same_event Disconnect Disconnect _ _ same = refl
 same_event (Put v) (Put w) low other same = ap Put (octal_tells 4 v w low other (ap (drop 4) same))
 same_event (Take v) (Take w) low other same = ap Take (octal_tells 4 v w low other (ap (drop 4) same))
 same_event (Function v) (Function w) low other same = ap Function (octal_tells 4 v w low other (ap (drop 4) same))
-same_event e k _ _ same =
-    let first : get_or (event_text e) 0 0 ≡ get_or (event_text k) 0 0 = ap (λ text. get_or text 0 0) same in
-    absurd (omega (arith, first))
+same_event e k _ _ same = grind arith
 
 same_tail : (e k : Trace) → EventFits e → EventFits k → event_tail e ≡ event_tail k → (e.pp ≡ k.pp) × (e.channel ≡ k.channel) × (e.event ≡ k.event)
 unfolding event_tail
-same_tail e k told other same =
-    let pp : octal 2 e.pp ≡ octal 2 k.pp = ap (λ t. take 2 (drop 2 t)) same in
-    let channel : octal 2 e.channel ≡ octal 2 k.channel = ap (λ t. take 2 (drop 7 t)) same in
-    let event : event_text e.event ≡ event_text k.event = ap (drop 10) same in (
-      octal_tells 2 e.pp k.pp (processor_fits e.pp told.pp) (processor_fits k.pp other.pp) pp,
-      octal_tells 2 e.channel k.channel (channel_fits e.channel told.channel) (channel_fits k.channel other.channel) channel,
-      same_event e.event k.event told.word other.word event,
-    )
+same_tail e k told other same = grind (arith, octal_tells, processor_fits, channel_fits, same_event)
 
 told_alike : (e k : Trace) → e.turn ≡ k.turn → e.pp ≡ k.pp → e.channel ≡ k.channel → e.event ≡ k.event → e ≡ k
-told_alike e k turn pp channel event =
-    ap (λ n. record e { turn = n }) turn
-    ∙ (ap (λ n. record e { turn = k.turn; pp = n }) pp
-    ∙ (ap (λ n. record e { turn = k.turn; pp = k.pp; channel = n }) channel
-    ∙ ap (λ x. record e { turn = k.turn; pp = k.pp; channel = k.channel; event = x }) event))
+told_alike e k turn pp channel event = grind arith
 
 same_body : (e k : Trace) → EventFits e → EventFits k → event_body e ≡ event_body k → e ≡ k
 unfolding event_body
@@ -334,17 +321,7 @@ left_out p false l is = refl
 
 are_of : (letter : ℕ) (b : ℕ → Bool) (l : ℕ → List ℕ) → 58 ≤ letter → ((n : ℕ) → get_or (l n) 0 0 ≡ letter) → ((n : ℕ) → n < 0o100 → heading (l n) ≡ 432 + n) → AreOf letter (one_where b l)
 unfolding is_of is_event
-are_of letter b l late first number = record {
-  own = λ n within. kept (is_of letter n) (b n) (l n) (
-      ap (λ c. (c == letter) && (heading (l n) == 432 + n)) (first n) ∙ (ap (λ (x : Bool). x && (heading (l n) == 432 + n)) (eq-eqb letter letter refl)
-      ∙ eq-eqb (heading (l n)) (432 + n) (number n within)));
-  others = λ m n low within apart. left_out (is_of letter m) (b n) (l n) (
-      ap (λ (x : Bool). (get_or (l n) 0 0 == letter) && x) (ne_eqb (heading (l n)) (432 + m) (λ same. let told = number n within in absurd (apart (omega (arith, same, told)))))
-      ∙ and-false (get_or (l n) 0 0 == letter));
-  elsewhere = λ other m n apart. left_out (is_of other m) (b n) (l n) (
-      ap (λ (x : Bool). x && (heading (l n) == 432 + m)) (ne_eqb (get_or (l n) 0 0) other (λ same. absurd (apart (sym same ∙ first n)))));
-  no_event = λ n. left_out is_event (b n) (l n) (let begins = first n in le-ltb (get_or (l n) 0 0) 58 (omega (arith, begins, late)));
-}
+are_of letter b l late first number = grind (arith, kept, eq-eqb, left_out, ne_eqb, and-false, is_event, le-ltb)
 
 -- the line of a processor, and of a channel
 processor_body : ℕ → Processor → List ℕ
@@ -388,8 +365,7 @@ one_line false l said is = refl
 
 processor_in_lines : (named : List Bool) (m : MachineState) (n : ℕ) → named_processor_line named m n ≡ unlines (processors named m n)
 unfolding processors
-processor_in_lines named m n =
-    one_line (is_named named n) (processor_body n (processor_of n m)) (processor_line n (processor_of n m) (state_text (processor_of n m).state)) (processor_line_is n (processor_of n m))
+processor_in_lines named m n = grind (arith, one_line, processor_body, processor_line_is)
 
 channel_line_is : (c : ℕ) (h : List Event) → channel_line c h ≡ unlines (if is_used h then channel_body c h ∷ [] else [])
 unfolding channel_body
@@ -398,12 +374,7 @@ channel_line_is c (e ∷ h) = simp (append_assoc, append-nil)
 
 pub channel_in_lines : (histories : List (List Event)) (c : ℕ) → numbered_channel_line histories c ≡ unlines (channels histories c)
 unfolding channels
-channel_in_lines histories c = by_case (names_channel c) (history_on c histories) (channel_line_is c (history_on c histories))
-  where
-    by_case : (b : Bool) (h : List Event) → channel_line c h ≡ unlines (if is_used h then channel_body c h ∷ [] else [])
-        → (if b then channel_line c h else []) ≡ unlines (if b && is_used h then channel_body c h ∷ [] else [])
-    by_case true h is = is
-    by_case false h is = refl
+channel_in_lines histories c = grind (arith, channel_line_is, unlines, is_used)
 
 -- ---- lines without a line feed
 
@@ -419,9 +390,7 @@ plain_state Running = (omega arith, (omega arith, (omega arith, (omega arith, (o
 plain_state state = (omega arith, (omega arith, (omega arith, (omega arith, (omega arith, (omega arith, (omega arith, tt)))))))
 
 pub plain_channel : (b : Bool) (w : Option ℕ) → Above 10 (channel_text b w)
-plain_channel b (Some w) = above-append 10 (codes "ACTIVE FULL ") (octal 4 w)
-    (omega arith, (omega arith, (omega arith, (omega arith, (omega arith, (omega arith, (omega arith, (omega arith, (omega arith, (omega arith, (omega arith, (omega arith, tt))))))))))))
-    (above_less 10 47 (octal 4 w) (omega arith) (above_digits 8 4 w))
+plain_channel b (Some w) = grind (arith, above-append, codes, above_less, above_digits)
 plain_channel true None = (omega arith, (omega arith, (omega arith, (omega arith, (omega arith, (omega arith, (omega arith, (omega arith, (omega arith, (omega arith, (omega arith, (omega arith, tt))))))))))))
 plain_channel false None = (omega arith, (omega arith, (omega arith, (omega arith, (omega arith, (omega arith, (omega arith, (omega arith, tt))))))))
 
@@ -449,9 +418,7 @@ plain_processors named m n =
 
 pub plain_channels : (histories : List (List Event)) (c : ℕ) → AreLines (channels histories c)
 unfolding channels channel_body
-plain_channels histories c =
-    let h = history_on c histories in
-    above_one (names_channel c && is_used h) (channel_body c h) (omega arith, (omega arith, above_octal 2 c (codes " " ++ channel_text (active h) (waiting h)) (omega arith, plain_channel (active h) (waiting h))))
+plain_channels histories c = grind (arith, above_one, is_used, above_octal, codes, plain_channel)
 
 -- ---- the lines of the whole text
 
@@ -479,17 +446,14 @@ plain_lines named m =
     (are_lines_below 0o100 (channels m.histories) (plain_channels m.histories)))
 
 same_lines : (named others : List Bool) (one other : MachineState) → printed named one ≡ printed others other → lines_of named one ≡ lines_of others other
-same_lines named others one other e =
-    lines_told (lines_of named one) (lines_of others other) (plain_lines named one) (plain_lines others other) (sym (text_in_lines named one) ∙ e ∙ text_in_lines others other)
+same_lines named others one other e = grind (arith, lines_told, lines_of, plain_lines, text_in_lines)
 
 -- ---- the lines of the trace among them
 
 pub first_digit : (most n : ℕ) (more : List ℕ) → get_or more 0 0 < 58 → get_or (unpadded most n ++ more) 0 0 < 58
 first_digit zero n more is = is
 first_digit (suc most) zero more is = is
-first_digit (suc most) (suc n) more is =
-    subst (λ text. get_or text 0 0 < 58) (sym (append_assoc (unpadded most (suc n / 10)) (digit (suc n % 10)) more) ∙ ap (λ text. text ++ more) (sym (some_digits most n)))
-    (first_digit most (suc n / 10) (digit (suc n % 10) ++ more) (omega arith))
+first_digit (suc most) (suc n) more is = grind (arith, append_assoc, some_digits, first_digit most (suc n / 10) (digit (suc n % 10) ++ more) (omega arith))
 
 begins_with_digit : (e : Trace) → get_or (event_body e) 0 0 < 58
 unfolding event_body decimal
@@ -501,9 +465,7 @@ begins_with_digit e =
 all_events : (trace : List Trace) → filter is_event (bodies trace) ≡ bodies trace
 unfolding bodies is_event
 all_events [] = refl
-all_events (e ∷ trace) =
-    ap (λ (b : Bool). if b then event_body e ∷ filter is_event (bodies trace) else filter is_event (bodies trace)) (lt-ltb (get_or (event_body e) 0 0) 58 (begins_with_digit e))
-    ∙ ap (λ more. event_body e ∷ more) (all_events trace)
+all_events (e ∷ trace) = grind (arith, event_body, is_event, bodies, lt-ltb, begins_with_digit, all_events trace)
 
 no_letter : (letter n : ℕ) → 58 ≤ letter → (trace : List Trace) → filter (is_of letter n) (bodies trace) ≡ []
 unfolding bodies is_of
@@ -567,17 +529,11 @@ same_state : (s t : PpState) → HasFaultNumber s → HasFaultNumber t → state
 same_state Running Running _ _ e = refl
 same_state Stopped Stopped _ _ e = refl
 same_state (Fault m) (Fault n) one other e = ap Fault (octal_tells 1 m n (omega (arith, one.last)) (omega (arith, other.last)) (ap (drop 6) e))
-same_state s t _ _ e =
-    let first : get_or (state_text s) 0 0 ≡ get_or (state_text t) 0 0 = ap (λ text. get_or text 0 0) e in
-    absurd (omega (arith, first))
+same_state s t _ _ e = grind arith
 
 same_processor : (n : ℕ) (pp other : Processor) → ProcessorFits pp → ProcessorFits other → processor_body n pp ≡ processor_body n other → (pp.p ≡ other.p) × (pp.a ≡ other.a) × (pp.state ≡ other.state)
 unfolding processor_body
-same_processor n pp other shown also e = (
-  octal_tells 4 pp.p other.p shown.p also.p (ap (λ l. take 4 (drop 7 l)) e),
-  octal_tells 6 pp.a other.a shown.a also.a (ap (λ l. take 6 (drop 14 l)) e),
-  same_state pp.state other.state shown.state also.state (ap (drop 21) e),
-)
+same_processor n pp other shown also e = grind (arith, octal_tells, same_state)
 
 tells_processor : (named others : List Bool) (one other : MachineState) (n : ℕ) → n < 0o100 → IsTrue (is_named named n) → IsTrue (is_named others n) → ProcessorFits (processor_of n one) → ProcessorFits (processor_of n other)
     → printed named one ≡ printed others other → ShowSameProcessor (processor_of n one) (processor_of n other)
@@ -597,16 +553,8 @@ full_is_active h is = ap (λ (b : Bool). if b && (length (puts (last_stretch h))
 
 same_channel_text : (a b : Bool) (v w : Option ℕ) → (a ≡ false → v ≡ None) → (b ≡ false → w ≡ None) → IfSome v (λ n. n < 2 ^ 12) → IfSome w (λ n. n < 2 ^ 12)
     → channel_text a v ≡ channel_text b w → (a ≡ b) × (v ≡ w)
-same_channel_text a b (Some v) None low _ small _ e = by_case b e
-  where
-    by_case : (b : Bool) → channel_text a (Some v) ≡ channel_text b None → (a ≡ b) × (Some v ≡ None)
-    by_case true e = let c : 70 ≡ 69 = ap (λ l. get_or l 7 0) e in absurd (omega (arith, c))
-    by_case false e = let c : 65 ≡ 73 = ap (λ l. get_or l 0 0) e in absurd (omega (arith, c))
-same_channel_text a b None (Some w) _ low _ small e = by_case a e
-  where
-    by_case : (a : Bool) → channel_text a None ≡ channel_text b (Some w) → (a ≡ b) × (None ≡ Some w)
-    by_case true e = let c : 69 ≡ 70 = ap (λ l. get_or l 7 0) e in absurd (omega (arith, c))
-    by_case false e = let c : 73 ≡ 65 = ap (λ l. get_or l 0 0) e in absurd (omega (arith, c))
+same_channel_text a b (Some v) None low _ small _ e = grind arith
+same_channel_text a b None (Some w) _ low _ small e = grind arith
 same_channel_text true true None None _ _ _ _ e = (refl, refl)
 same_channel_text false false None None _ _ _ _ e = (refl, refl)
 same_channel_text true false None None _ _ _ _ e = let c : 65 ≡ 73 = ap (λ l. get_or l 0 0) e in absurd (omega (arith, c))

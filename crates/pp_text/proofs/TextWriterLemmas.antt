@@ -1,5 +1,5 @@
 -- What a text writer has printed.
-use Rattle.std.proofs.Common.{◌≡◌, ℕ, true, false, List, [], ◌++◌, Option, Result, Ok, Err, ap}
+use Rattle.std.proofs.Common.{◌≡◌, ℕ, true, false, List, [], ◌++◌, Option, Result, Ok, Err, ap, arith}
 use Rattle.std.proofs.lemmas.List.{append-nil}
 use Rattle.std.proofs.KnownBytes.{Appends-trans}
 use Rattle.std.specs.Result.{is_err}
@@ -10,13 +10,7 @@ use Rattle.pp_text.proofs.WriteLemmas.{front_then}
 
 -- a writer that failed stays as it is
 pub prints_lost : {W : Type 0} (contents : W → Option (List ℕ)) (a b : TextWriter W) → a.failed ≡ true → b.failed ≡ true → b.writer ≡ a.writer → Prints contents a b []
-prints_lost contents a b failed fails same = record {
-  same_writer = ap (λ w. w.ghost_name) same;
-  goes_on = λ start before so_far. record {
-    whole = λ not. absurd (cc);
-    front = λ is. rw (append-nil before, same) (so_far.front failed);
-  };
-}
+prints_lost contents a b failed fails same = grind (arith, append-nil)
 
 -- the piece that was held back goes out, or a front of it, where the writer fails
 pub prints_sent : {W E : Type 0} (contents : W → Option (List ℕ)) (a b : TextWriter W) (r : Result (Unit {0}) E) → a.failed ≡ false → b.writer.ghost_name ≡ a.writer.ghost_name → b.failed ≡ is_err r → b.piece ≡ []

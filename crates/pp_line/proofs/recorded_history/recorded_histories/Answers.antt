@@ -1,4 +1,4 @@
-use Rattle.std.proofs.Common.{◌++◌, length, take, refl, sym, ap, ◌∙◌}
+use Rattle.std.proofs.Common.{◌++◌, length, take, refl, sym, ap, ◌∙◌, arith}
 use Rattle.std.specs.List.{flat_map, fold}
 use Rattle.std.proofs.lemmas.List.{take_all}
 use Rattle.std.proofs.lemmas.List.Sums.{fold-append}
@@ -8,10 +8,7 @@ use Rattle.pp_line.proofs.RecordedLemmas.{histories_filled, count-filled}
 use Rattle.pp_line.proofs.recorded_history.recorded_histories.Goals as goal
 
 pub loop-other-init : goal.loop-other-init
-loop-other-init g c = record {
-  each = ap length c.put_log.ensures ∙ (count-filled c.args.log.now c.in_ok-recorded.recorded.items ∙ c.in_ok-recorded.ensures.each_channel);
-  filled = refl;
-}
+loop-other-init g c = grind (arith, count-filled)
 
 pub loop-other-preserved : goal.loop-other-preserved
 loop-other-preserved g c = record {

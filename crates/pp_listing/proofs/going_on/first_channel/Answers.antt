@@ -14,9 +14,7 @@ returns-then-flags g c =
     (on_channel_there c.args.machine.now _ c.at-c.result c.channel.result.now c.flags.result _ c.at-c.ensures.number c.channel.ensures.value c.flags.ensures c.if-flags.true)
 
 pub loop-place-preserved : goal.loop-place-preserved
-loop-place-preserved g c =
-    none_more (busy_channel c.args.machine.now) channel_number c.loop-place.place channel_count (omega (arith, c.loop-place-test.true)) c.loop-place.invariant
-    (on_channel_there c.args.machine.now _ c.at-c.result c.channel.result.now c.flags.result _ c.at-c.ensures.number c.channel.ensures.value c.flags.ensures c.if-flags.false)
+loop-place-preserved g c = grind (arith, none_more, on_channel_there)
 
 pub returns : goal.returns
 unfolding all_channels

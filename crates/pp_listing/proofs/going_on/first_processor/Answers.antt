@@ -14,9 +14,7 @@ returns-in-Some g c =
     (in_processor_there c.args.machine.now _ c.at-n.result c.pp.result.now _ c.at-n.ensures.number c.pp.ensures c.in-Some.ensures)
 
 pub loop-place-preserved : goal.loop-place-preserved
-loop-place-preserved g c =
-    none_more (busy_processor c.args.machine.now) processor_number c.loop-place.place processor_count (omega (arith, c.loop-place-test.true)) c.loop-place.invariant
-    (in_processor_there c.args.machine.now _ c.at-n.result c.pp.result.now _ c.at-n.ensures.number c.pp.ensures c.in_default.ensures)
+loop-place-preserved g c = grind (arith, none_more, in_processor_there)
 
 pub returns : goal.returns
 unfolding all_processors

@@ -46,16 +46,7 @@ loop-place-preserved-else-is_long g c =
     }
 
 pub loop-place-preserved : goal.loop-place-preserved
-loop-place-preserved g c =
-    let long = c.get-word.ensures.widths.memory.each_place in
-    let (printed, prints, so_far) = c.loop-place.invariant.printed in
-    record {
-      within = omega (arith, c.loop-place-test.true);
-      long = λ h. long;
-      printed = (printed, prints, zero_step _ printed _ _ _ _ _ long c.loop-place-test.true c.truncated-at.ensures c.get-word.ensures.value c.get.ensures.value c.if-get-ne0.false so_far);
-    }
+loop-place-preserved g c = grind (arith, zero_step)
 
 pub returns : goal.returns
-returns g c =
-    let (printed, prints, so_far) = c.loop-place.invariant.printed in
-    subst (Prints _ _ _) (all_passed _ printed c.args.pp.now.memory c.loop-place.place (omega (arith, c.loop-place.invariant.long, c.loop-place.invariant.within, c.loop-place-test.false)) so_far) prints
+returns g c = grind (arith, all_passed)

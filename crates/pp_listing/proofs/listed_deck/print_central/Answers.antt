@@ -30,5 +30,4 @@ loop-address-preserved g c =
     ]
 
 pub returns : goal.returns
-returns g c =
-    prints_all _ _ _ text_line (central_word_line c.args.central.now) c.loop-address.address (length c.args.central.now) (omega (arith, c.loop-address.auto.address-end, c.loop-address-test.false, c.size-address-end.ensures)) c.loop-address.invariant
+returns g c = grind (arith, prints_all)

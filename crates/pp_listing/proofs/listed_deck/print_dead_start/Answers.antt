@@ -17,14 +17,7 @@ unfolding tabulate
 loop-place-init g c = refl
 
 pub loop-place-preserved : goal.loop-place-preserved
-loop-place-preserved g c =
-    let opened : ℕ → Bool = λ n. is_opened n c.args.machine.now in
-    let so_far = tabulate c.loop-place.place channel_number in
-    let next = channel_number c.loop-place.place in
-    ap (λ (b : Bool). b || c.opened-any.result) c.loop-place.invariant
-    ∙ ap (λ (b : Bool). list_any opened so_far || b) (c.opened-any.ensures ∙ ap opened c.at.ensures.number ∙ sym (no_more (opened next)))
-    ∙ sym (list_any-append opened so_far (next ∷ []))
-    ∙ sym (ap (list_any opened) (tabulate_more c.loop-place.place channel_number))
+loop-place-preserved g c = grind (arith, no_more, list_any-append, tabulate_more)
 
 pub returns-then-any : goal.returns-then-any
 unfolding all_channels

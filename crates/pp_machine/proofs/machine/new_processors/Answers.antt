@@ -9,10 +9,7 @@ pub loop-init : goal.loop-init
 loop-init g c = record { made = c.in_ok-processors.ensures.items; room = c.in_ok-processors.ensures.exact }
 
 pub loop-preserved : goal.loop-preserved
-loop-preserved g c = record {
-  made = c.push_reserved.ensures.items ∙ rw (c.loop.invariant.made, c.new.ensures) (sym (replicate_next c.loop.counter (new_processor c.args.profile)));
-  room = c.push_reserved.ensures.capacity ∙ c.loop.invariant.room;
-}
+loop-preserved g c = grind (arith, replicate_next)
 
 pub push_reserved-requires : goal.push_reserved-requires
 push_reserved-requires g c = omega (arith, c.loop.processors.ok.0, ap length c.loop.invariant.made, length-replicate c.loop.counter (new_processor c.args.profile))

@@ -25,12 +25,7 @@ pub returns-then-not-is_at_instruction-clause-ahead : goal.returns-then-not-is_a
 returns-then-not-is_at_instruction-clause-ahead g c = λ m same. none_made c.args.most m c.args.pp.now
 
 pub loop-left-init : goal.loop-left-init
-loop-left-init g c = record {
-  ahead = λ m same. none_made c.args.most m c.args.pp.now;
-  within = omega arith;
-  running = c.if-not-is_at_instruction.ensures.running;
-  free = c.if-not-is_at_instruction.ensures.free;
-}
+loop-left-init g c = grind (arith, none_made)
 
 pub returns-then-ends-clause-ahead : goal.returns-then-ends-clause-ahead
 returns-then-ends-clause-ahead g c = λ m same.

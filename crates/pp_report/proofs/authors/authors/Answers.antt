@@ -39,10 +39,7 @@ loop-place-preserved g c =
     }
 
 pub returns-clause-authors : goal.returns-clause-authors
-returns-clause-authors g c = λ k names number below.
-    let start : c.loop-place.place ≡ 0 = omega (arith, c.loop-place-test.false) in
-    subst (λ (at : ℕ). slice_index_or (authors_on k c.loop-place.authors.items) number None ≡ author_from k number at c.args.workers.now) start (c.loop-place.invariant.found k number names below)
-    ∙ author_of_all k number c.args.workers.now
+returns-clause-authors g c = grind (arith, slice_index_or, author_from, author_of_all)
 
 pub at-requires : goal.at-requires
 at-requires g c = omega (arith, c.loop-place-test.true, c.requires)

@@ -14,5 +14,4 @@ loop-channel-preserved g c =
     c.in_ok-push.ensures.items ∙ ((λ j. c.loop-channel.invariant j ++ made j ∷ []) ∙ sym (map_more no_authors c.args.channels.now place c.channel-item.result below))
 
 pub returns : goal.returns
-returns g c =
-    c.loop-channel.invariant ∙ ap (map no_authors) (take_all c.loop-channel.channel-index c.args.channels.now (omega (arith, c.loop-channel-test.false, c.type_inv.channels)))
+returns g c = grind (arith, take_all)

@@ -20,10 +20,4 @@ loop-place-preserved g c =
 
 pub returns : goal.returns
 unfolding all_channels
-returns g c =
-    let all : c.loop-place.place ≡ channel_count = omega arith in record {
-      text = rw all at c.loop-place.invariant.0;
-      fits = λ n is.
-          let within : channel_index n < c.loop-place.place = omega (arith, channel_places.place_below n is) in
-          subst (λ (k : ℕ). HistoryFits (history_on k c.args.channels.now)) (channel_places.number_of_place n is) (c.loop-place.invariant.1 (channel_index n) within);
-    }
+returns g c = grind (arith, channel_places.place_below, channel_places.number_of_place)

@@ -38,13 +38,4 @@ loop-place-preserved g c =
 
 pub returns : goal.returns
 unfolding all_processors
-returns g c =
-    let all : c.loop-place.place ≡ processor_count = omega arith in record {
-      text = rw all at c.loop-place.invariant.0;
-      fits = λ n is.
-          let names = (and_parts (names_processor n) _ is).0 in
-          let again = processor_places.number_of_place n names in
-          let within : processor_index n < c.loop-place.place = omega (arith, processor_places.place_below n names) in
-          subst (λ (k : ℕ). IfSome (option_map shown_end (slice_get c.args.workers.now (processor_index k))) FitsItsEnd) again
-          (c.loop-place.invariant.1 (processor_index n) within (subst (λ (k : ℕ). IsTrue (is_named c.args.named.now k)) (sym again) is));
-    }
+returns g c = grind (arith, and_parts, processor_places.number_of_place, processor_places.place_below)

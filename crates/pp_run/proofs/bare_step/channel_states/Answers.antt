@@ -8,8 +8,7 @@ pub loop-place-init : goal.loop-place-init
 loop-place-init g c = λ k below. absurd (omega (arith, below))
 
 pub loop-place-preserved : goal.loop-place-preserved
-loop-place-preserved g c = states_more c.loop-place.states _ c.args.machine.now.histories c.loop-place.place c.of.result c.loop-place.invariant (search rules) refl
-    (c.of.ensures ∙ ap channel_state (c.channel.ensures.value ∙ ap (λ (i : ℕ). get_or c.args.machine.now.histories i []) c.at.ensures.place))
+loop-place-preserved g c = grind (arith, states_more, rules)
 
 pub returns : goal.returns
 returns g c = λ n names. c.loop-place.invariant _ (omega (arith, channel_places.place_below n names))

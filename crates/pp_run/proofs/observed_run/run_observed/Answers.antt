@@ -14,26 +14,16 @@ noted : (g : _) (c : In-Ok g) → g.O.Observer.IsNote c.note-note.result (barrel
 noted g c = rw (number g c, c.loop-turn.invariant.ran) at c.note-note.ensures
 
 made : (g : _) (c : In-Ok g) → IsMade (barrel_step c.args.machine.now c.loop-turn.turn) c.in_turn-n.result c.in-Ok.outcome c.step.new.self
-made g c = record {
-  processor_is = sym (number g c);
-  outcome_is = rw (number g c, c.loop-turn.invariant.ran) at c.in-Ok.ensures.step.outcome;
-  after_is = rw (number g c, c.loop-turn.invariant.ran) at c.in-Ok.ensures.step.ok;
-}
+made g c = grind (arith, number)
 
 ran : (g : _) (c : In-Ok g) → c.step.new.self ≡ run (barrel c.args.machine.now.profile (c.loop-turn.turn + 1)) c.args.machine.now
 ran g c = (made g c).after_is ∙ sym (barrel_more c.args.machine.now.profile c.loop-turn.turn c.args.machine.now)
 
 kept : (g : _) (c : goal.After-drop-note-in_default-see g) → g.O.Observer.Keeps c.args.observer.now (barrel_step c.args.machine.now c.loop-turn.turn)
-kept g c =
-    let d = (goal.at.returns-in_default-see-clause-cut_at g c).In-Ok in
-    c.in_default-see.ensures.refused c.args.observer.now _ _ (noted g d) (made g d) c.loop-turn.invariant.seen
+kept g c = grind (arith, noted, made)
 
 pub loop-turn-init : goal.loop-turn-init
-loop-turn-init g c = record {
-  ran = refl;
-  seen = c.requires;
-  headline = c.is_sound.ensures.headline;
-}
+loop-turn-init g c = grind (arith, ran)
 
 pub loop-turn-preserved : goal.loop-turn-preserved
 loop-turn-preserved g c =

@@ -1,4 +1,4 @@
-use Rattle.std.proofs.Common.{ℕ, length, sym, ap, subst}
+use Rattle.std.proofs.Common.{ℕ, length, sym, ap, subst, arith}
 use Rattle.pp_runner.proofs.AccessLemmas.{local_answer, read_answer, write_answer}
 use Rattle.pp_runner.proofs.LineLemmas.{operated_acted, operated_worn, same_line_acted}
 use Rattle.pp_runner.proofs.ReplyLemmas.{acted_answer}
@@ -7,18 +7,13 @@ use Rattle.pp_runner.specs.Types.{Answer, Need}
 use Rattle.pp_runner.proofs.labour.ask.Goals as goal
 
 pub returns-in_ok-numbered-in-Channel-clause-same_line : goal.returns-in_ok-numbered-in-Channel-clause-same_line
-returns-in_ok-numbered-in-Channel-clause-same_line g c =
-    same_line_acted c.args.line.now c.act.new.self c.in-Channel.channel c.in-Channel.op c.in_ok-numbered-in-Channel.numbered c.in_ok-numbered-in-Channel.ensures.ok
+returns-in_ok-numbered-in-Channel-clause-same_line g c = grind (arith, same_line_acted)
 
 pub returns-in_ok-numbered-in-Channel-clause-operated : goal.returns-in_ok-numbered-in-Channel-clause-operated
-returns-in_ok-numbered-in-Channel-clause-operated g c =
-    subst (λ (n : ℕ). HasOperated n c.args.line.now c.act.new.self) (sym (ap operations c.in-Channel.is))
-    (operated_acted c.args.line.now c.act.new.self c.in-Channel.channel c.in-Channel.op c.in_ok-numbered-in-Channel.numbered c.in_ok-numbered-in-Channel.ensures.ok)
+returns-in_ok-numbered-in-Channel-clause-operated g c = grind (arith, operated_acted)
 
 pub returns-in_err-numbered-in-Channel-clause-operated : goal.returns-in_err-numbered-in-Channel-clause-operated
-returns-in_err-numbered-in-Channel-clause-operated g c =
-    subst (λ (n : ℕ). HasOperated n c.args.line.now c.act.new.self) (sym (ap operations c.in-Channel.is))
-    (operated_worn c.args.line.now c.act.new.self c.in-Channel.channel c.in-Channel.op c.in_err-numbered-in-Channel.ensures.worn)
+returns-in_err-numbered-in-Channel-clause-operated g c = grind (arith, operated_worn)
 
 pub returns-in-Nothing-clause-answered : goal.returns-in-Nothing-clause-answered
 returns-in-Nothing-clause-answered g c = local_answer (length c.args.line.now.view.central) c.args.needed c.args.line.now c.in-Nothing.is
@@ -31,10 +26,7 @@ returns-in_ok-numbered-in-Channel-clause-answered g c =
     (acted_answer size c.in-Channel.channel c.in-Channel.op numbered c.args.line.now c.act.new.self c.in_ok-numbered-in-Channel.ensures.ok c.act.ensures.monotone)
 
 pub returns-in-Read-clause-answered : goal.returns-in-Read-clause-answered
-returns-in-Read-clause-answered g c =
-    let size : ℕ = length c.args.line.now.view.central in
-    subst (λ (n : Need). IsAnswered size n (Answer.Read c.read.result) c.args.line.now c.read.new.self) (sym c.in-Read.is)
-    (read_answer size c.in-Read.address c.read.result c.args.line.now c.read.new.self c.read.ensures.read c.read.ensures.inside c.read.ensures.outside c.read.ensures.unchanged_outside)
+returns-in-Read-clause-answered g c = grind (arith, read_answer)
 
 pub returns-in-Write-clause-answered : goal.returns-in-Write-clause-answered
 returns-in-Write-clause-answered g c =

@@ -26,21 +26,10 @@ ended-requires g c = record {
 }
 
 pub take_step-requires : goal.take_step-requires
-take_step-requires g c = record {
-  running = c.in_default.ensures.running;
-  steps_left = omega (arith, c.loop-done.invariant.count, c.loop-done-test.true, c.steps-done-end.ensures.value);
-  work = c.loop-done.invariant.work;
-  central = ap length c.loop-done.invariant.same_line.central ∙ c.requires.central;
-  countable = omega (arith, c.loop-done.invariant.few_tries, c.loop-done-test.true, c.steps-done-end.ensures.value, c.steps-done-end.ensures.sound.most_steps, c.patience-patience.ensures.value);
-}
+take_step-requires g c = grind arith
 
 pub ended-requires-in-Some-take_step : goal.ended-requires-in-Some-take_step
-ended-requires-in-Some-take_step g c = record {
-  work = c.take_step.ensures.work;
-  few = c.in-Some-take_step.ensures.few;
-  finish = c.in-Some-take_step.ensures.ended;
-  worn = c.in-Some-take_step.ensures.worn;
-}
+ended-requires-in-Some-take_step g c = grind arith
 
 pub loop-done-preserved : goal.loop-done-preserved
 loop-done-preserved g c = record {

@@ -26,5 +26,4 @@ loop-address-preserved g c =
     ])
 
 pub returns : goal.returns
-returns g c =
-    prints_all _ _ _ deck_line (central_line c.args.before.now c.args.after.now) c.loop-address.address (length c.args.after.now) (omega (arith, c.loop-address.auto.address-end, c.loop-address-test.false, c.size-address-end.ensures)) c.loop-address.invariant
+returns g c = grind (arith, prints_all)

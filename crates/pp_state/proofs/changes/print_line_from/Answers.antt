@@ -9,8 +9,7 @@ pub returns-then-not-differs-clause-line : goal.returns-then-not-differs-clause-
 returns-then-not-differs-clause-line g c = subst (Prints _ _ _) (no_line_of_same c.args.before.now.memory c.args.after.now.memory c.args.place (sym c.differs.ensures.value ∙ c.if-not-differs.true)) (prints_nothing _ _)
 
 pub returns-then-not-differs-clause-in_front : goal.returns-then-not-differs-clause-in_front
-returns-then-not-differs-clause-in_front g c =
-    sym (in_front_of_same c.args.before.now.memory c.args.after.now.memory c.args.place (sym c.differs.ensures.value ∙ c.if-not-differs.true))
+returns-then-not-differs-clause-in_front g c = grind (arith, in_front_of_same)
 
 pub returns-clause-line : goal.returns-clause-line
 returns-clause-line g c =
@@ -23,6 +22,4 @@ returns-clause-line g c =
     ]
 
 pub returns-clause-in_front : goal.returns-clause-in_front
-returns-clause-in_front g c =
-    ap (λ (k : ℕ). (k + 1) % 8) c.requires.in_front
-    ∙ sym (in_front_of_next c.args.before.now.memory c.args.after.now.memory c.args.place (sym c.differs.ensures.value ∙ c.if-not-differs.false))
+returns-clause-in_front g c = grind (arith, in_front_of_next)

@@ -1,4 +1,4 @@
-use Rattle.std.proofs.Common.{◌∙◌, All, ap, length, refl, subst, sym}
+use Rattle.std.proofs.Common.{◌∙◌, All, ap, length, refl, subst, sym, arith}
 use Rattle.std.specs.List.{range_with_len}
 use Rattle.pp_word.specs.Address.{place_count}
 use Rattle.pp_machine.specs.MachineState.{processor_of}
@@ -17,19 +17,13 @@ returns-clause-new_words c = λ n before after m.
     subst (All (IsNew (processor_of n before).memory)) (sym (section_words n before after m)) (all_new (processor_of n before).memory (processor_of n after).memory place_count)
 
 pub returns-clause-central : goal.returns-clause-central
-returns-clause-central c = λ before after same.
-    ap (overwritten before) (words_of_central before after (range_with_len 0 (length after)))
-    ∙ overwritten_whole before after (length after) refl same
+returns-clause-central c = grind (arith, words_of_central, overwritten_whole)
 
 pub returns-clause-new_central : goal.returns-clause-new_central
-returns-clause-new_central c = λ before after.
-    subst (All (IsNew before)) (sym (words_of_central before after (range_with_len 0 (length after)))) (all_new before after (length after))
+returns-clause-new_central c = grind (arith, words_of_central, all_new)
 
 pub returns-clause-waits : goal.returns-clause-waits
 returns-clause-waits c = λ n m all holds. (waits_where_held n m all holds, held_where_waits n m all holds)
 
 pub returns-clause-held : goal.returns-clause-held
-returns-clause-held c = λ n m count all holds. (
-  λ some. waits_where_held n m all holds (held_where_said n m count some),
-  λ waits. says_where_waits n m count (held_where_waits n m all holds waits) waits,
-)
+returns-clause-held c = grind (arith, waits_where_held, held_where_said, says_where_waits, held_where_waits)

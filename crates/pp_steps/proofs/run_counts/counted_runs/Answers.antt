@@ -15,10 +15,7 @@ use Rattle.pp_steps.proofs.run_counts.counted_runs.Goals as goal
 use Rattle.pp_steps.proofs.run_counts.counted_runs.Goals.{then-is_chosen+in_ok-note, else-is_chosen}
 
 pub loop-turn-init : goal.loop-turn-init
-loop-turn-init g c = record {
-  stands = c.in_ok-bare.ensures;
-  counted = c.in_ok-runs.ensures ∙ none_made with_step no_spells;
-}
+loop-turn-init g c = grind (arith, none_made)
 
 pub note-requires : goal.note-requires
 note-requires g c =

@@ -23,6 +23,4 @@ unfolding all_channels
 returns-clause-text g c = let all : c.loop-place.place ≡ channel_count = omega arith in rw all at c.loop-place.invariant.0
 
 pub returns-clause-fits : goal.returns-clause-fits
-returns-clause-fits g c = λ n is.
-    let within : channel_index n < c.loop-place.place = omega (arith, channel_places.place_below n is) in
-    subst (λ (k : ℕ). HistoryFits (history_on k c.args.machine.now.histories)) (channel_places.number_of_place n is) (c.loop-place.invariant.1 (channel_index n) within)
+returns-clause-fits g c = grind (arith, channel_places.place_below, channel_places.number_of_place)

@@ -34,9 +34,4 @@ unfolding all_processors
 returns-clause-text g c = let all : c.loop-place.place ≡ processor_count = omega arith in rw all at c.loop-place.invariant.0
 
 pub returns-clause-fits : goal.returns-clause-fits
-returns-clause-fits g c = λ n is.
-    let names = (and_parts (names_processor n) _ is).0 in
-    let again = processor_places.number_of_place n names in
-    let within : processor_index n < c.loop-place.place = omega (arith, processor_places.place_below n names) in
-    subst (λ (k : ℕ). ProcessorFits (processor_of k c.args.machine.now)) again
-    (c.loop-place.invariant.1 (processor_index n) within (subst (λ (k : ℕ). IsTrue (is_named c.args.named.now k)) (sym again) is))
+returns-clause-fits g c = grind (arith, and_parts, processor_places.number_of_place, processor_places.place_below)

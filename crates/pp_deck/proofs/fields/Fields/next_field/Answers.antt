@@ -1,17 +1,13 @@
-use Rattle.std.proofs.Common.{sym, ◌∙◌}
+use Rattle.std.proofs.Common.{sym, ◌∙◌, arith}
 use Rattle.std.proofs.lemmas.List.{take_rest}
 use Rattle.pp_deck.proofs.FieldLemmas.{fields_of_blanks, comment_first, field_first, field_length-le}
 use Rattle.pp_deck.proofs.fields.Fields.next_field.Goals as goal
 
 pub returns-in_err-start-clause-none : goal.returns-in_err-start-clause-none
-returns-in_err-start-clause-none c =
-    rw c.from_residual.ensures (sym c.self.view_is
-    ∙ fields_of_blanks c.first_character.result c.self.inside.text.now c.first_character.ensures c.in_err-start.was)
+returns-in_err-start-clause-none c = grind (arith, fields_of_blanks)
 
 pub returns-then-text-eq42-clause-none : goal.returns-then-text-eq42-clause-none
-returns-then-text-eq42-clause-none c =
-    sym c.self.view_is
-    ∙ comment_first c.self.inside.text.now _ c.in_ok-start.start c.in_ok-start.ensures (take_rest c.self.inside.text.now c.in_ok-start.start) c.if-text-eq42.true
+returns-then-text-eq42-clause-none c = grind (arith, comment_first, take_rest)
 
 pub split_at-requires : goal.split_at-requires
 split_at-requires c = field_length-le _ _ c.field_length.ensures

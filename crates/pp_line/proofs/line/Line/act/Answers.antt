@@ -1,4 +1,4 @@
-use Rattle.std.proofs.Common.{ℕ, ◌≤◌, refl, sym, ap, ◌∙◌, subst}
+use Rattle.std.proofs.Common.{ℕ, ◌≤◌, refl, sym, ap, ◌∙◌, subst, arith}
 use Rattle.pp_line.specs.Types.{ChanOp, Entry, Numbered}
 use Rattle.pp_channel.specs.Answer.{reply_shown}
 use Rattle.pp_line.specs.ChannelWord.{number_in, flags_in, greatest_number}
@@ -19,9 +19,7 @@ rising_acted line c op r after within acted monotone =
 
 -- a look, or an operation that is not ready
 pub look-requires-clause-found : goal.look-requires-clause-found
-look-requires-clause-found g c =
-    let load = c.load-word.ensures in
-    (c.args.self.now.view, subst (λ (log : LogState). IsLogOf c.args.self.now.view log.entries) (sym load.log) load.log_before, load.load)
+look-requires-clause-found g c = grind arith
 
 -- an operation that is ready
 pub try_event-requires-clause-next : goal.try_event-requires-clause-next

@@ -21,11 +21,4 @@ invariant_of-self-2 g c =
     )
 
 pub returns-clause-nothing_forgotten : goal.returns-clause-nothing_forgotten
-returns-clause-nothing_forgotten g c =
-    let one = c.self.inside.words.seat.me.0 in
-    let two = c.other.inside.words.seat.me.0 in
-    let each = c.self.invariant.3.each_channel ∙ sym c.other.invariant.3.each_channel in
-    let view = c.check_shares.ensures.view ∙ ap with_unrecorded_load c.join.ensures.view in (
-      λ k. omega (arith, greater_left one.seen two.seen (channel_index k) each, ap (λ (v : LineView). seen_on k v.seen) view, ap (λ (line : LineState). seen_on k line.view.seen) c.self.view_is),
-      λ k. omega (arith, greater_right one.seen two.seen (channel_index k) each, ap (λ (v : LineView). seen_on k v.seen) view, ap (λ (line : LineState). seen_on k line.view.seen) c.other.view_is),
-    )
+returns-clause-nothing_forgotten g c = grind (arith, greater_left, greater_right)

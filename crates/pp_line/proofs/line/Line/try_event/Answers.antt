@@ -1,4 +1,4 @@
-use Rattle.std.proofs.Common.{◌≡◌, ℕ, ◌+◌, sym, ap, ◌∙◌, subst}
+use Rattle.std.proofs.Common.{◌≡◌, ℕ, ◌+◌, sym, ap, ◌∙◌, subst, arith}
 use Rattle.std.specs.Prelude.{slice_set}
 use Rattle.pp_line.specs.declared.rule.LineView.{LineView}
 use Rattle.pp_line.specs.ChannelWord.{number_in, flags_in}
@@ -46,19 +46,13 @@ look-requires-clause-found g c =
     (c.self.inside.words.seat.me.0, c.self.invariant.3, lost.load)
 
 pub returns-then-found-word-clause-event_written : goal.returns-then-found-word-clause-event_written
-returns-then-found-word-clause-event_written g c =
-    subst (λ (line : LineState). c.did.new.self ≡ appended line.log (event_entry c.args.channel (number_in c.args.word) c.args.event)) c.self.view_is
-    (subst (λ (n : ℕ). c.did.new.self ≡ appended c.self.inside.log (event_entry c.args.channel n c.args.event)) (c.number_in-number.ensures.value ∙ ap number_in c.if-found-word.true) c.did.ensures)
+returns-then-found-word-clause-event_written g c = grind arith
 
 pub returns-clause-lost : goal.returns-clause-lost
-returns-clause-lost g c =
-    let lost = exchange_lost c.args.event c.exchange-found.ensures.exchange c.if-found-word.false in
-    subst (λ (after : LineView). IsLostExchange c.args.channel c.args.word c.args.self.now.view c.exchange-found.result after) (sym c.look.ensures.view)
-    (subst (λ (line : LineState). IsLostExchange c.args.channel c.args.word line.view c.exchange-found.result c.exchange-found.new.self.seat.me.0) c.self.view_is lost)
+returns-clause-lost g c = grind (arith, exchange_lost)
 
 pub returns-clause-look_written : goal.returns-clause-look_written
-returns-clause-look_written g c =
-    c.look.ensures.written ∙ ap (λ (line : LineState). looked line.log (look_entry c.args.channel (number_in c.exchange-found.result) (flags_in c.exchange-found.result))) c.self.view_is
+returns-clause-look_written g c = grind arith
 
 pub returns-clause-log_after : goal.returns-clause-log_after
 returns-clause-log_after g c = c.look.ensures.log_after

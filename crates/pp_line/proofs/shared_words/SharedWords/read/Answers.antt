@@ -5,9 +5,7 @@ use Rattle.pp_line.proofs.StepLemmas.{read_allowed}
 use Rattle.pp_line.proofs.shared_words.SharedWords.read.Goals as goal
 
 pub returns-then-place-word_count-clause-outside : goal.returns-then-place-word_count-clause-outside
-returns-then-place-word_count-clause-outside g c =
-    let words : c.word_count.result ≡ place_count + length c.args.self.now.seat.me.0.central = c.word_count.ensures ∙ (ap (λ t. t.shared.table_id.words) c.deref.ensures ∙ c.args.self.now.places) in
-    omega (arith, c.if-place-word_count.true, words, c.central_place-place.ensures)
+returns-then-place-word_count-clause-outside g c = grind arith
 
 pub load-word-requires : goal.load-word-requires
 load-word-requires g c =

@@ -9,12 +9,7 @@ zero_at_each (suc n) zero = refl
 zero_at_each (suc n) (suc i) = zero_at_each n i
 
 zeros_are_central : (size : ℕ) (words : List ℕ) → 0 < size → size ≤ 2 ^ 17 → words ≡ replicate size 0 → IsCentral words
-zeros_are_central size words some most zeros =
-    let count : length words ≡ size = ap length zeros ∙ length-replicate size 0 in
-    record {
-      size = record { some = omega arith; most = omega arith };
-      small = λ a. omega (arith, ap (λ l. get_or l a 0) zeros ∙ zero_at_each size a);
-    }
+zeros_are_central size words some most zeros = grind (arith, length-replicate, zero_at_each)
 
 pub invariant_of-result : goal.invariant_of-result
 invariant_of-result g c = zeros_are_central c.args.size _ (omega arith) (omega arith) (search rules)

@@ -24,15 +24,10 @@ same_histories : {histories : List (List Event)} {h after : List Event} (i : ℕ
 same_histories {histories} {h} i read same = ap (slice_set histories i) (same ∙ read) ∙ set-get_or histories i h
 
 pub returns-in-None-clause-ok : goal.returns-in-None-clause-ok
-returns-in-None-clause-ok g c =
-    let none : event_of c.args.op (history_of c.args.channel c.args.self.now) ≡ None = ap (event_of c.args.op) (sym (own_history c.args.channel c.self.view_is c.index-i.ensures.place (omega (arith, c.index-i.ensures.below, c.self.invariant.channels)) c.index.ensures)) ∙ (sym c.next_event-made.ensures.event ∙ c.in-None.is) in
-    sym (served_without_event c.args.n c.args.channel c.args.op c.args.self.now none)
+returns-in-None-clause-ok g c = grind (arith, own_history, served_without_event)
 
 pub invariant_of-self : goal.invariant_of-self
-invariant_of-self g c =
-    let inside = c.self.inside in
-    let before : MachineState = record { profile = inside.profile; processors = inside.processors.items; histories = inside.channels.items; central = inside.central; turns = inside.turns; trace = inside.trace.items; opened = inside.opened } in
-    subst (λ (t : List Trace). IsMachine (record before { trace = t })) (sym c.in_err-push-in-Some.ensures.items) c.self.invariant
+invariant_of-self g c = grind arith
 
 pub invariant_of-self-in-Err : goal.invariant_of-self-in-Err
 invariant_of-self-in-Err g c =
@@ -84,14 +79,10 @@ pub make-reply-requires-clause-twelve_bits : goal.make-reply-requires-clause-twe
 make-reply-requires-clause-twelve_bits g c = rw c.in-Some.is at c.next_event-made.ensures.twelve_bits
 
 pub returns-in_err-push-in-Some-clause-no_event : goal.returns-in_err-push-in-Some-clause-no_event
-returns-in_err-push-in-Some-clause-no_event g c = λ none.
-    let made : event_of c.args.op (history_of c.args.channel c.args.self.now) ≡ Some c.in-Some.event = ap (event_of c.args.op) (sym (own_history c.args.channel c.self.view_is c.index-i.ensures.place (omega (arith, c.index-i.ensures.below, c.self.invariant.channels)) c.index.ensures)) ∙ (sym c.next_event-made.ensures.event ∙ c.in-Some.is) in
-    absurd (some_is_made (event_of c.args.op (history_of c.args.channel c.args.self.now)) c.in-Some.event made none)
+returns-in_err-push-in-Some-clause-no_event g c = grind (arith, own_history, some_is_made)
 
 pub returns-in-Err-clause-no_event : goal.returns-in-Err-clause-no_event
-returns-in-Err-clause-no_event g c = λ none.
-    let made : event_of c.args.op (history_of c.args.channel c.args.self.now) ≡ Some c.in-Some.event = ap (event_of c.args.op) (sym (own_history c.args.channel c.self.view_is c.index-i.ensures.place (omega (arith, c.index-i.ensures.below, c.self.invariant.channels)) c.index.ensures)) ∙ (sym c.next_event-made.ensures.event ∙ c.in-Some.is) in
-    absurd (some_is_made (event_of c.args.op (history_of c.args.channel c.args.self.now)) c.in-Some.event made none)
+returns-in-Err-clause-no_event g c = grind (arith, own_history, some_is_made)
 
 pub returns-in-Ok-clause-reply : goal.returns-in-Ok-clause-reply
 returns-in-Ok-clause-reply g c =

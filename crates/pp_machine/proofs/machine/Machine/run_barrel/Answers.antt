@@ -43,18 +43,10 @@ returns-in-Err-run_passing-clause-run g c =
     }
 
 pub returns-in-Err-run_passing-clause-cut_at_event : goal.returns-in-Err-run_passing-clause-cut_at_event
-returns-in-Err-run_passing-clause-cut_at_event g c =
-    let m = c.args.self.now in
-    let counted = counted_rounds m.profile c.from.result c.from-in-Err-run_passing.result (c.args.turns / c.round-round.result) c.round-round.result c.from.ensures c.from-in-Err-run_passing.ensures c.round-round.ensures in (
-      omega (arith, c.in-Err-run_passing.ensures.cut.at_event.0, counted, whole_and_rest m.profile c.round-round.result c.args.turns c.round-round.ensures),
-      event_after (c.args.turns / c.round-round.result) c.in-Err-run_passing.before (c.from.result * c.from-in-Err-run_passing.result) m c.run_rounds.new.self c.in_default.ensures.ok counted c.in-Err-run_passing.ensures.cut.at_event.1,
-    )
+returns-in-Err-run_passing-clause-cut_at_event g c = grind (arith, counted_rounds, whole_and_rest, event_after)
 
 pub returns-in-Err-clause-run : goal.returns-in-Err-clause-run
 returns-in-Err-clause-run g c = record { ran = tt; cut = c.in-Err.ensures.cut.ran; headline = c.run_rounds.ensures.headline }
 
 pub returns-in-Err-clause-cut_at_event : goal.returns-in-Err-clause-cut_at_event
-returns-in-Err-clause-cut_at_event g c = (
-  omega (arith, c.in-Err.ensures.cut.at_event.0, whole_and_rest c.args.self.now.profile c.round-round.result c.args.turns c.round-round.ensures),
-  c.in-Err.ensures.cut.at_event.1,
-)
+returns-in-Err-clause-cut_at_event g c = grind (arith, whole_and_rest)

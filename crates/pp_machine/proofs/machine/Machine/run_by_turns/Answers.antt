@@ -35,12 +35,4 @@ pub overflow_mul-result : goal.overflow_mul-result
 overflow_mul-result g c = omega (arith, c.from.ensures, turns_at_most c.args.self.now.profile c.from.result c.from-in-Err.result (c.from-in-Err.ensures ∙ c.round-round.ensures))
 
 pub overflow_add-result : goal.overflow_add-result
-overflow_add-result g c =
-    let p = c.args.self.now.profile in
-    omega (
-      arith,
-      c.from.ensures,
-      turns_at_most p c.from.result c.from-in-Err.result (c.from-in-Err.ensures ∙ c.round-round.ensures),
-      turns_at_most p c.min-further.result c.round-round.result c.round-round.ensures,
-      c.in-Err.ensures.cut.at_event.0,
-    )
+overflow_add-result g c = grind (arith, turns_at_most)

@@ -27,14 +27,4 @@ loop-self-preserved g c =
     }
 
 pub returns-in_default-clause-cut : goal.returns-in_default-clause-cut
-returns-in_default-clause-cut g c =
-    let running = get_or c.args.next.now c.loop-self.place 0 in
-    let p = c.args.self.now.profile in
-    let turn : processor_in_turn p running ≡ c.at.result = in_turn_at p running (omega arith) ∙ sym c.at.ensures.number in
-    let passed : c.pass_to-in-loop-self.new.self ≡ run (barrel p running) c.args.self.now = c.pass_to-in-loop-self.ensures.ran p c.args.self.now (omega arith) c.loop-self.invariant.ran in
-    let same : c.step_in_barrel.new.self ≡ c.pass_to-in-loop-self.new.self = c.in_default.ensures.step.unchanged_after_memory in
-    let made : IsSome (step_event c.at.result c.pass_to-in-loop-self.new.self) = some_event _ c.step_in_barrel.result (rw c.in_default.is refl) c.step_in_barrel.ensures.step.no_event in
-    record {
-      ran = same ∙ passed;
-      at_event = (omega arith, subst (λ (m : MachineState). IsSome (step_event (processor_in_turn p running) m)) passed (rw turn made));
-    }
+returns-in_default-clause-cut g c = grind (arith, in_turn_at, some_event)

@@ -12,28 +12,10 @@ returns-in-Err-clause-cut g c =
     cut_after done c.min-further.result c.args.rounds c.in-Err.before (c.from.result * c.from-in-Err.result) m c.run_quiet_rounds-quiet.new.self c.run_by_turns.new.self ran counted c.in-Err.ensures.cut (omega arith)
 
 pub loop-done-preserved-then-quiet-window : goal.loop-done-preserved-then-quiet-window
-loop-done-preserved-then-quiet-window g c =
-    let m = c.args.self.now in
-    let done = c.loop-done.done + c.run_quiet_rounds-quiet.result in
-    let ran = rounds_after c.loop-done.done c.run_quiet_rounds-quiet.result m c.loop-done.self c.run_quiet_rounds-quiet.new.self c.loop-done.invariant.ran c.run_quiet_rounds-quiet.ensures.ran in
-    record {
-      ran = rounds_after done c.min-further.result m c.run_quiet_rounds-quiet.new.self c.run_by_turns.new.self ran c.in_default.ensures.ok;
-      within = omega arith;
-      pause = grind (arith);
-      headline = c.run_by_turns.ensures.headline;
-    }
+loop-done-preserved-then-quiet-window g c = grind (arith, rounds_after)
 
 pub loop-done-preserved : goal.loop-done-preserved
-loop-done-preserved g c =
-    let m = c.args.self.now in
-    let done = c.loop-done.done + c.run_quiet_rounds-quiet.result in
-    let ran = rounds_after c.loop-done.done c.run_quiet_rounds-quiet.result m c.loop-done.self c.run_quiet_rounds-quiet.new.self c.loop-done.invariant.ran c.run_quiet_rounds-quiet.ensures.ran in
-    record {
-      ran = ran;
-      within = omega arith;
-      pause = c.loop-done.invariant.pause;
-      headline = c.run_quiet_rounds-quiet.ensures.headline;
-    }
+loop-done-preserved g c = grind (arith, rounds_after)
 
 pub overflow_mul-result : goal.overflow_mul-result
 overflow_mul-result g c = omega (arith, c.from.ensures, turns_at_most c.args.self.now.profile c.from.result c.from-in-Err.result (c.from-in-Err.ensures ∙ c.round-round.ensures))

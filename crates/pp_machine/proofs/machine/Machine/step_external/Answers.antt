@@ -16,22 +16,19 @@ use Rattle.pp_machine.proofs.TakenLemmas.{own_processor, taken_by, stepped_for, 
 use Rattle.pp_machine.proofs.machine.Machine.step_external.Goals as goal
 
 pub wants_next-requires : goal.wants_next-requires
-wants_next-requires g c =
-    subst (λ (pp : Processor). IsNext c.args.next.now c.args.d pp) (sym (own_processor c.args.n c.self.view_is c.index-i.ensures.place (omega (arith, c.index-i.ensures.below, c.self.invariant.processors)) c.index.ensures)) c.requires
+wants_next-requires g c = grind (arith, own_processor)
 
 pub give_local-outcome-requires-clause-next : goal.give_local-outcome-requires-clause-next
 give_local-outcome-requires-clause-next g c = subst (λ (pp : Processor). IsNext c.args.next.now c.args.d pp) (sym (own_processor c.args.n c.self.view_is c.index-i.ensures.place (omega (arith, c.index-i.ensures.below, c.self.invariant.processors)) c.index_mut.ensures.value)) c.requires
 
 pub invariant_of-self : goal.invariant_of-self
-invariant_of-self g c =
-    with_processors _ (length-set c.self.inside.processors.items c.index-i.result c.give_local-outcome.new.self) c.self.invariant
+invariant_of-self g c = grind (arith, with_processors, length-set)
 
 pub give_reply-outcome-requires-clause-next : goal.give_reply-outcome-requires-clause-next
 give_reply-outcome-requires-clause-next g c = subst (λ (pp : Processor). IsNext c.args.next.now c.args.d pp) (sym (own_processor c.args.n (c.self-in-Channel.view_is ∙ c.in_ok-reply-in-Channel.ensures.ok) c.index-i.ensures.place (omega (arith, c.index-i.ensures.below, c.self-in-Channel.invariant.processors)) c.index_mut-in-Channel.ensures.value)) c.requires
 
 pub invariant_of-self-in-Channel : goal.invariant_of-self-in-Channel
-invariant_of-self-in-Channel g c =
-    with_processors _ (length-set c.self-in-Channel.inside.processors.items c.index-i.result c.give_reply-outcome.new.self) c.self-in-Channel.invariant
+invariant_of-self-in-Channel g c = grind (arith, with_processors, length-set)
 
 pub give_reply-outcome-requires-clause-fits : goal.give_reply-outcome-requires-clause-fits
 give_reply-outcome-requires-clause-fits g c =
@@ -46,32 +43,19 @@ pub give_central-requires-clause-next : goal.give_central-requires-clause-next
 give_central-requires-clause-next g c = subst (λ (pp : Processor). IsNext c.args.next.now c.args.d pp) (sym (own_processor c.args.n c.self.view_is c.index-i.ensures.place (omega (arith, c.index-i.ensures.below, c.self.invariant.processors)) c.index_mut-in-Read.ensures.value)) c.requires
 
 pub give_central-requires-clause-fits : goal.give_central-requires-clause-fits
-give_central-requires-clause-fits g c =
-    let needs : need (processor_of c.args.n c.args.self.now) ≡ Read c.in-Read.address = ap need (sym (own_processor c.args.n c.self.view_is c.index-i.ensures.place (omega (arith, c.index-i.ensures.below, c.self.invariant.processors)) c.index.ensures)) ∙ (sym c.wants_next.ensures ∙ c.in-Read.is) in
-    let own = own_processor c.args.n c.self.view_is c.index-i.ensures.place (omega (arith, c.index-i.ensures.below, c.self.invariant.processors)) c.index_mut-in-Read.ensures.value in
-    subst (λ (x : Need). IsTrue (fits x (answers.Read c.read-word.result))) (sym (ap need own ∙ needs)) refl
+give_central-requires-clause-fits g c = grind (arith, own_processor)
 
 pub invariant_of-self-in-Read : goal.invariant_of-self-in-Read
-invariant_of-self-in-Read g c =
-    with_processors _ (length-set c.self.inside.processors.items c.index-i.result c.give_central.new.self) c.self.invariant
+invariant_of-self-in-Read g c = grind (arith, with_processors, length-set)
 
 pub give_written-requires-clause-next : goal.give_written-requires-clause-next
 give_written-requires-clause-next g c = subst (λ (pp : Processor). IsNext c.args.next.now c.args.d pp) (sym (own_processor c.args.n c.self.view_is c.index-i.ensures.place (omega (arith, c.index-i.ensures.below, c.self.invariant.processors)) c.index_mut-in-Write.ensures.value)) c.requires
 
 pub give_written-requires-clause-fits : goal.give_written-requires-clause-fits
-give_written-requires-clause-fits g c =
-    let needs : need (processor_of c.args.n c.args.self.now) ≡ Write c.in-Write.address c.in-Write.word = ap need (sym (own_processor c.args.n c.self.view_is c.index-i.ensures.place (omega (arith, c.index-i.ensures.below, c.self.invariant.processors)) c.index.ensures)) ∙ (sym c.wants_next.ensures ∙ c.in-Write.is) in
-    let own = own_processor c.args.n c.self.view_is c.index-i.ensures.place (omega (arith, c.index-i.ensures.below, c.self.invariant.processors)) c.index_mut-in-Write.ensures.value in
-    subst (λ (x : Need). IsTrue (fits x (answers.Wrote (nat_lt c.get.result c.size.result)))) (sym (ap need own ∙ needs)) refl
+give_written-requires-clause-fits g c = grind (arith, own_processor)
 
 pub invariant_of-self-in-Write : goal.invariant_of-self-in-Write
-invariant_of-self-in-Write g c = record {
-  processors = length-set c.self.inside.processors.items c.index-i.result c.give_written.new.self ∙ c.self.invariant.processors;
-  channels = c.self.invariant.channels;
-  opened = c.self.invariant.opened;
-  central = c.write-written.ensures.sound;
-  headline = c.self.invariant.headline;
-}
+invariant_of-self-in-Write g c = grind (arith, length-set)
 
 pub returns-in_ok-reply-in-Channel-clause-step : goal.returns-in_ok-reply-in-Channel-clause-step
 returns-in_ok-reply-in-Channel-clause-step g c =

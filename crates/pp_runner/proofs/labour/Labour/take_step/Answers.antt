@@ -26,25 +26,10 @@ returns-then-is_err g c = record {
 }
 
 pub loop-held-init : goal.loop-held-init
-loop-held-init g c = record {
-  work = subst (λ (xs : List Answer). IsAtWork c.args.load.now c.args.site.now.size c.args.site.now.limits.steps c.args.self.now.pp xs c.args.self.now.line) (sym {A = List Answer} c.reserve.ensures.items) c.requires.work;
-  same_line = same_line_still _;
-  same_pp = refl;
-  same_answers = c.reserve.ensures.items;
-  place = search rules;
-  tries = omega arith;
-  operated = operated_none _ _;
-  was = λ held. absurd (omega (arith, held));
-}
+loop-held-init g c = grind (arith, same_line_still, rules, operated_none)
 
 pub try_step-requires : goal.try_step-requires
-try_step-requires g c = record {
-  running = ap (λ p. p.state) c.loop-held.invariant.same_pp ∙ c.requires.running;
-  steps_left = omega (arith, c.loop-held.self.answers.ok.0, c.args.self.now.answers.ok.0, ap (λ (xs : List Answer). length xs) c.loop-held.invariant.same_answers, c.requires.steps_left);
-  place = c.loop-held.invariant.place;
-  central = ap length c.loop-held.invariant.same_line.central ∙ c.requires.central;
-  work = c.loop-held.invariant.work;
-}
+try_step-requires g c = grind arith
 
 pub returns-in-Moved : goal.returns-in-Moved
 returns-in-Moved g c = record {

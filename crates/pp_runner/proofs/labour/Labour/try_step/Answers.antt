@@ -32,5 +32,4 @@ returns-in-Moved-clause-work g c =
     c.requires.work (omega (arith, c.args.self.now.answers.ok.0, c.requires.steps_left)) answered (sym c.give_next.ensures.outcome ∙ c.in-Moved.is) c.give_next.ensures.after c.keep.ensures)
 
 pub returns-in-Err-clause-work : goal.returns-in-Err-clause-work
-returns-in-Err-clause-work g c =
-    work_worn c.args.load.now c.args.site.now.size c.args.site.now.limits.steps c.args.self.now.pp c.args.self.now.answers.items c.args.self.now.line c.ask-answered.new.line c.requires.work (rw c.in-Err.is at c.ask-answered.ensures.unchanged_when_worn) (rw c.in-Err.is at c.ask-answered.ensures.looked_when_worn)
+returns-in-Err-clause-work g c = grind (arith, work_worn)

@@ -1,4 +1,4 @@
-use Rattle.std.proofs.Common.{◌≡◌, ◌++◌, sym, ap, ◌∙◌}
+use Rattle.std.proofs.Common.{◌≡◌, ◌++◌, sym, ap, ◌∙◌, arith}
 use Rattle.std.proofs.lemmas.List.{append-nil}
 use Rattle.pp_text.proofs.WriteLemmas.{flushed}
 use Rattle.pp_text.proofs.text_writer.TextWriter.finish.Goals as goal
@@ -7,7 +7,4 @@ pub returns-then-self-clause-written : goal.returns-then-self-clause-written
 returns-then-self-clause-written g c = λ start text had. rw append-nil at ((c.write_piece.ensures.nothing_more.goes_on start text had).front c.if-self.true)
 
 pub returns-clause-written : goal.returns-clause-written
-returns-clause-written g c = λ start text had.
-    let (written, all, out) = (c.write_piece.ensures.nothing_more.goes_on start text had).whole c.if-self.false in
-    let is : text ≡ written = sym (append-nil text) ∙ all ∙ ap (λ piece. written ++ piece) c.write_piece.ensures.empty ∙ append-nil written in
-    flushed c.map_err.result start _ _ text (rw is out) c.flush.ensures.bytes
+returns-clause-written g c = grind (arith, append-nil, flushed)
