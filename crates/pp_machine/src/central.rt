@@ -2,7 +2,7 @@ ghost use Rattle.std.specs.Prelude.{◌≡◌, ◌<◌, ◌↔◌, length, repli
 ghost use Rattle.std.specs.Bool.{OnFalse};
 
 use pp_word::{Word18, Word60};
-use std::alloc::{AllocError, Allocator};
+use std::alloc::{AllocError, AllocFailed, Allocator};
 use std::marker::Model;
 use thiserror::Error;
 
@@ -27,6 +27,17 @@ impl From<AllocError> for CentralFault {
     ghost from_gives = { λ _ fault. fault ≡ Memory };
 
     fn from(_error: AllocError) -> CentralFault {
+        CentralFault::Memory
+    }
+}
+
+impl<T: Drop> From<AllocFailed<T>> for CentralFault {
+    ghost use Rattle.std.specs.Prelude.{◌≡◌};
+    ghost use Rattle.pp_machine.specs.declared.central.CentralFault.TheVariants.{Memory};
+
+    ghost from_gives = { λ _ fault. fault ≡ Memory };
+
+    fn from(_error: AllocFailed<T>) -> CentralFault {
         CentralFault::Memory
     }
 }
