@@ -9,21 +9,14 @@ use Rattle.pp_word.proofs.BitsLemmas.{length-lowest_bits}
 lowest_bits-number_of : (bs : List Bool) → lowest_bits (length bs) (number_of bs) ≡ bs
 unfolding lowest_bits
 lowest_bits-number_of [] = refl
-lowest_bits-number_of (true ∷ bs) =
-    let low : (1 + 2 * number_of bs) % 2 ≡ 1 = omega arith in
-    let rest : (1 + 2 * number_of bs) / 2 ≡ number_of bs = omega arith in
-    rw (low, rest) (ap (λ xs. true ∷ xs) (lowest_bits-number_of bs))
-lowest_bits-number_of (false ∷ bs) =
-    let low : (0 + 2 * number_of bs) % 2 ≡ 0 = omega arith in
-    let rest : (0 + 2 * number_of bs) / 2 ≡ number_of bs = omega arith in
-    rw (low, rest) (ap (λ xs. false ∷ xs) (lowest_bits-number_of bs))
+lowest_bits-number_of (true ∷ bs) = grind (arith, lowest_bits-number_of bs)
+lowest_bits-number_of (false ∷ bs) = grind (arith, lowest_bits-number_of bs)
 
 length-bits_of : (a : ℕ) → length (bits_of a) ≡ 18
 length-bits_of a = length-lowest_bits 18 a
 
 bit-number_of : (bs : List Bool) (i : ℕ) → length bs ≡ 18 → bit (number_of bs) i ≡ get_or bs i false
-bit-number_of bs i long =
-    ap (λ xs. get_or xs i false) (ap (λ w. lowest_bits w (number_of bs)) (sym long) ∙ lowest_bits-number_of bs)
+bit-number_of bs i long = grind (arith, lowest_bits-number_of)
 
 -- logic, bit by bit
 abbrev pairwise : (Bool → Bool → Bool) → List Bool → List Bool → List Bool
@@ -41,47 +34,22 @@ get_or-pairwise f (x ∷ xs) (y ∷ ys) zero e h = refl
 get_or-pairwise f (x ∷ xs) (y ∷ ys) (suc i) e h = get_or-pairwise f xs ys i (omega (arith, e)) (omega (arith, h))
 
 pub bit-combination : (f : Bool → Bool → Bool) (a b i : ℕ) → i < 18 → bit (combination f a b) i ≡ f (bit a i) (bit b i)
-bit-combination f a b i h =
-    let la = length-bits_of a in
-    let lb = length-bits_of b in
-    let same : length (bits_of a) ≡ length (bits_of b) = la ∙ sym lb in
-    let long : length (pairwise f (bits_of a) (bits_of b)) ≡ 18 = length-pairwise f (bits_of a) (bits_of b) same ∙ la in
-    bit-number_of (pairwise f (bits_of a) (bits_of b)) i long ∙ get_or-pairwise f (bits_of a) (bits_of b) i same (omega (arith, la))
+bit-combination f a b i h = grind (arith, length-bits_of, pairwise, length-pairwise, bit-number_of, get_or-pairwise)
 
 pub bit-complement : (a i : ℕ) → i < 18 → bit (complement a) i ≡ not (bit a i)
-bit-complement a i h =
-    let la = length-bits_of a in
-    let long : length (map not (bits_of a)) ≡ 18 = length-map {A = Bool} {B = Bool} (bits_of a) not ∙ la in
-    bit-number_of (map not (bits_of a)) i long ∙ get_or-map not (bits_of a) i false false (omega (arith, la))
+bit-complement a i h = grind (arith, length-bits_of, length-map, bit-number_of, get_or-map)
 
 -- which side of a seam a bit is on
 below_or_not : (i r : ℕ) → (i < r) ⊎ (r ≤ i)
-below_or_not i r = omega_cases i r
-  where
-    omega_cases : (i r : ℕ) → (i < r) ⊎ (r ≤ i)
-    omega_cases zero zero = inr (omega arith)
-    omega_cases zero (suc r) = inl (omega arith)
-    omega_cases (suc i) zero = inr (omega arith)
-    omega_cases (suc i) (suc r) = elim (omega_cases i r) [ inl h ↦ inl (omega arith) | inr h ↦ inr (omega arith) ]
+below_or_not i r = grind arith
 
 -- a rotation by t bits, in front of the seam and behind it
 get_or-rotation : (bs : List Bool) (t r i j : ℕ) → length bs ≡ 18 → r + t ≡ 18 → i < 18 → ((i < r) × (j ≡ i + t)) ⊎ ((r ≤ i) × (j ≡ i - r)) → get_or (drop r bs ++ take r bs) j false ≡ get_or bs i false
-get_or-rotation bs t r i j long ends h (inl front) =
-    let ld : length (drop r bs) ≡ t = length-drop r bs ∙ omega (arith, long) in
-    let back : j - t ≡ i = omega (arith, front.1) in
-    get_or-append_right (drop r bs) (take r bs) t j false ld (omega (arith, front.1))
-    ∙ ap (λ k. get_or (take r bs) k false) back
-    ∙ get_or-take r bs i false front.0
-get_or-rotation bs t r i j long ends h (inr behind) =
-    let ld : length (drop r bs) ≡ t = length-drop r bs ∙ omega (arith, long) in
-    let on : r + j ≡ i = omega (arith, behind.0, behind.1) in
-    get_or_append_left (drop r bs) (take r bs) false j (omega (arith, ld, behind.1, behind.0))
-    ∙ get_or-drop r bs j false
-    ∙ ap (λ k. get_or bs k false) on
+get_or-rotation bs t r i j long ends h (inl front) = grind (arith, length-drop, get_or-append_right, get_or-take)
+get_or-rotation bs t r i j long ends h (inr behind) = grind (arith, length-drop, get_or_append_left, get_or-drop)
 
 length-rotation : (bs : List Bool) (r : ℕ) → length bs ≡ 18 → r ≤ 18 → length (drop r bs ++ take r bs) ≡ 18
-length-rotation bs r long h =
-    length-append (drop r bs) (take r bs) ∙ omega (arith, length-drop r bs, length-take r bs, long)
+length-rotation bs r long h = grind (arith, length-append, length-drop, length-take)
 
 -- what a left shift does to each bit
 abbrev pub RotatesBits : ℕ → ℕ → ℕ → Type 0
@@ -104,10 +72,7 @@ rotates a d i h =
 
 -- a right shift
 get_or-right_shift : (bs : List Bool) (k i : ℕ) → length bs ≡ 18 → i < 18 → (i < 18 - k) ⊎ (18 - k ≤ i) → get_or (right_shift k bs) i false ≡ get_or bs (i + k) false
-get_or-right_shift bs k i long h (inl low) =
-    let ld = length-drop k bs in
-    let on : k + i ≡ i + k = omega arith in
-    get_or_append_left (drop k bs) (replicate (min k 18) false) false i (omega (arith, ld, long)) ∙ get_or-drop k bs i false ∙ ap (λ j. get_or bs j false) on
+get_or-right_shift bs k i long h (inl low) = grind (arith, length-drop, get_or_append_left, min, get_or-drop)
 get_or-right_shift bs k i long h (inr high) =
     let ld : length (drop k bs) ≡ 18 - k = length-drop k bs ∙ omega (arith, long) in
     get_or-append_right (drop k bs) (replicate (min k 18) false) (18 - k) i false ld high
@@ -120,26 +85,14 @@ get_or-right_shift bs k i long h (inr high) =
     none (suc n) (suc j) = none n j
 
 length-right_shift : (bs : List Bool) (k : ℕ) → length bs ≡ 18 → length (right_shift k bs) ≡ 18
-length-right_shift bs k long =
-    length-append (drop k bs) (replicate (min k 18) false) ∙ omega (arith, length-drop k bs, length-replicate (min k 18) false, long)
+length-right_shift bs k long = grind (arith, length-append, min, length-drop, length-replicate)
 
 shifts_right : (a k : ℕ) → ShiftsBitsRight a k (number_of (right_shift k (bits_of a)))
-shifts_right a k i h =
-    let la = length-bits_of a in
-    bit-number_of (right_shift k (bits_of a)) i (length-right_shift (bits_of a) k la)
-    ∙ get_or-right_shift (bits_of a) k i la h (below_or_not i (18 - k))
+shifts_right a k i h = grind (arith, length-bits_of, bit-number_of, length-right_shift, get_or-right_shift, below_or_not)
 
 -- what SHN does to each bit, left and right
 pub bits_of_left_shift : (a d new : ℕ) → new ≡ shift a d → d < 32 → RotatesBits a d new
-bits_of_left_shift a d new value left i h =
-    let test : nat_lt d 32 ≡ true = lt-ltb d 32 left in
-    let is : new ≡ number_of (rotation d (bits_of a)) =
-    value ∙ ap (λ b. if b then number_of (rotation d (bits_of a)) else number_of (right_shift (63 - d) (bits_of a))) test in
-    ap (λ w. bit w ((i + d) % 18)) is ∙ rotates a d i h
+bits_of_left_shift a d new value left i h = grind (arith, nat_lt, lt-ltb, rotates)
 
 pub bits_of_right_shift : (a d new : ℕ) → new ≡ shift a d → 32 ≤ d → ShiftsBitsRight a (63 - d) new
-bits_of_right_shift a d new value right i h =
-    let test : nat_lt d 32 ≡ false = le-ltb d 32 right in
-    let is : new ≡ number_of (right_shift (63 - d) (bits_of a)) =
-    value ∙ ap (λ b. if b then number_of (rotation d (bits_of a)) else number_of (right_shift (63 - d) (bits_of a))) test in
-    ap (λ w. bit w i) is ∙ shifts_right a (63 - d) i h
+bits_of_right_shift a d new value right i h = grind (arith, nat_lt, le-ltb, shifts_right)

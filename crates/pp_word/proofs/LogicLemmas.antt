@@ -17,15 +17,8 @@ split_lowest w n = let whole = mod-pow-add n w 1 in let more : w + 1 ≡ suc w =
 -- an operation on numbers, bit by bit
 pub bitwise : (op : ℕ → ℕ → ℕ) (f : Bool → Bool → Bool) → IsBitwise op f → (w a b : ℕ) → number_of (map (λ pair. f pair.0 pair.1) (zip (lowest_bits w a) (lowest_bits w b))) ≡ op (a % 2 ^ w) (b % 2 ^ w)
 unfolding lowest_bits
-bitwise op f h zero a b =
-    let x : a % 2 ^ 0 ≡ 0 = omega arith in
-    let y : b % 2 ^ 0 ≡ 0 = omega arith in
-    rw (x, y) (sym h.none)
-bitwise op f h (suc w) a b =
-    let lowest = h.one (a % 2) (b % 2) (omega arith) (omega arith) in
-    let rest = bitwise op f h w (a / 2) (b / 2) in
-    let whole = h.more (a / 2 % 2 ^ w) (b / 2 % 2 ^ w) (a % 2) (b % 2) (omega arith) (omega arith) in
-    rw (lowest, rest, split_lowest w a, split_lowest w b, whole) (omega arith)
+bitwise op f h zero a b = grind arith
+bitwise op f h (suc w) a b = grind (arith, split_lowest, bitwise op f h w (a / 2) (b / 2))
 
 and_one : (r s : ℕ) → r < 2 → s < 2 → (if (r == 1) && (s == 1) then 1 else 0) ≡ bit_and r s
 and_one zero zero h k = refl

@@ -19,19 +19,13 @@ both a b one other = rw (one, other) refl
 -- one digit more at the end
 value_end : (base : ℕ) (characters : List ℕ) (d : ℕ)
     → value_of base (characters ++ digit d) ≡ value_of base characters * base + d
-value_end base characters d =
-    let e : 48 + d - 48 ≡ d = omega arith in
-    fold-append (λ (value character : ℕ). value * base + (character - 48)) 0 characters (digit d)
-    ∙ ap (λ (x : ℕ). value_of base characters * base + x) e
+value_end base characters d = grind (arith, fold-append)
 
 -- the digits of a width spell the number modulo the power of that width
 pub digits_value : (base width n : ℕ) → 0 < base
     → value_of base (digits base width n) ≡ n % base ^ width
 digits_value base zero n h = rw pow-zero (omega arith)
-digits_value base (suc width) n h =
-    value_end base (digits base width (n / base)) (n % base)
-    ∙ ap (λ (x : ℕ). x * base + n % base) (digits_value base width (n / base) h)
-    ∙ sym (ap (λ (x : ℕ). n % x) (pow-suc base width) ∙ mod-mul n (one-le-pow width base h) h)
+digits_value base (suc width) n h = grind (arith, value_end, pow-suc, mod-mul, one-le-pow, digits_value base width (n / base) h)
 
 unpadded_value : (most n : ℕ) → n < 10 ^ most → value_of 10 (unpadded most n) ≡ n
 unpadded_value zero n h = omega arith
@@ -71,22 +65,17 @@ value_one d = omega arith
 short_value_if : (b : Bool) (n : ℕ) (xs : List ℕ) → (b ≡ false → value_of 8 xs ≡ n / 8)
     → value_of 8 (cond b (digit n) (xs ++ digit (n % 8))) ≡ n
 short_value_if true n xs h = value_one n
-short_value_if false n xs h =
-    value_end 8 xs (n % 8) ∙ ap (λ (x : ℕ). x * 8 + n % 8) (h refl) ∙ div-add-mod' n 8
+short_value_if false n xs h = grind (arith, value_end, div-add-mod')
 
 short_value : (most n : ℕ) → n < 8 ^ most → value_of 8 (short_octal most n) ≡ n
 unfolding short_octal
 short_value zero n lt = let one = pow-zero 8 in omega (arith, lt, one)
-short_value (suc most) n lt =
-    short_value_if (ltb n 8) n (short_octal most (n / 8))
-    (λ e. short_value most (n / 8) (omega (arith, lt, pow-suc 8 most)))
+short_value (suc most) n lt = grind (arith, short_value_if, pow-suc, short_value most (n / 8) (omega (arith, lt, pow-suc 8 most)))
 
 -- ---- digits
 
 digit_is : (base d : ℕ) → d < base → is_digit base (48 + d) ≡ true
-digit_is base d below =
-    both (nat_le 48 (48 + d)) (nat_lt (48 + d) (48 + base)) (le-leb 48 (48 + d) (omega arith))
-    (lt-ltb (48 + d) (48 + base) (omega (arith, below)))
+digit_is base d below = grind (arith, both, le-leb, lt-ltb)
 
 -- a test that each digit of a base passes
 abbrev pub Pass : ℕ → (ℕ → Bool) → Type 0
@@ -99,21 +88,11 @@ digit_pass base p h d lt = both (p (48 + d)) true (h d lt) refl
 pub digits_pass : (base : ℕ) (p : ℕ → Bool) → Pass base p → 0 < base → (width n : ℕ)
     → list_all p (digits base width n) ≡ true
 digits_pass base p h some zero n = refl
-digits_pass base p h some (suc width) n =
-    list_all-append p (digits base width (n / base)) (digit (n % base))
-    ∙ both (list_all p (digits base width (n / base))) (list_all p (digit (n % base)))
-    (digits_pass base p h some width (n / base)) (digit_pass base p h (n % base) (mod-lt n some))
+digits_pass base p h some (suc width) n = grind (arith, list_all-append, both, digit_pass, mod-lt, digits_pass base p h some width (n / base))
 
 unpadded_pass : (p : ℕ → Bool) → Pass 10 p → (most n : ℕ) → list_all p (unpadded most n) ≡ true
 unpadded_pass p h zero n = refl
-unpadded_pass p h (suc most) n =
-    elim (cases_eq n 0) [
-      | inl z ↦ rw z refl
-      | inr some ↦
-          rw (ne_eqb n 0 some) (list_all-append p (unpadded most (n / 10)) (digit (n % 10))
-          ∙ both (list_all p (unpadded most (n / 10))) (list_all p (digit (n % 10)))
-          (unpadded_pass p h most (n / 10)) (digit_pass 10 p h (n % 10) (omega arith)))
-    ]
+unpadded_pass p h (suc most) n = grind (arith, cases_eq, ne_eqb, list_all-append, both, digit_pass, unpadded_pass p h most (n / 10))
 
 pub decimal_pass : (p : ℕ → Bool) → Pass 10 p → (n : ℕ) → list_all p (decimal n) ≡ true
 unfolding decimal
@@ -131,12 +110,7 @@ pub short_pass : (p : ℕ → Bool) → Pass 8 p → (most n : ℕ)
     → list_all p (short_octal most n) ≡ true
 unfolding short_octal
 short_pass p h zero n = refl
-short_pass p h (suc most) n =
-    short_pass_if p (ltb n 8) (digit n) (short_octal most (n / 8) ++ digit (n % 8))
-    (λ e. digit_pass 8 p h n (ltb-true n 8 e))
-    (list_all-append p (short_octal most (n / 8)) (digit (n % 8))
-    ∙ both (list_all p (short_octal most (n / 8))) (list_all p (digit (n % 8)))
-    (short_pass p h most (n / 8)) (digit_pass 8 p h (n % 8) (omega arith)))
+short_pass p h (suc most) n = grind (arith, short_pass_if, digit_pass, ltb-true, list_all-append, both, short_pass p h most (n / 8))
 
 pub decimal_are : (n : ℕ) → list_all (is_digit 10) (decimal n) ≡ true
 decimal_are = decimal_pass (is_digit 10) (digit_is 10)
@@ -149,14 +123,11 @@ digits_are base width n some = digits_pass base (is_digit base) (digit_is base) 
 
 pub length_digits : (base width n : ℕ) → length (digits base width n) ≡ width
 length_digits base zero n = refl
-length_digits base (suc width) n =
-    let first = length_digits base width (n / base) in
-    omega (arith, length-append (digits base width (n / base)) (digit (n % base)), first)
+length_digits base (suc width) n = grind (arith, length-append, length_digits base width (n / base))
 
 unpadded_short : (most k n : ℕ) → n < 10 ^ k → length (unpadded most n) ≤ k
 unpadded_short zero k n h = omega arith
-unpadded_short (suc most) zero n h =
-    let none : n ≡ 0 = omega (arith, h, pow-zero 10) in rw none (omega arith)
+unpadded_short (suc most) zero n h = grind (arith, pow-zero)
 unpadded_short (suc most) (suc k) n h =
     elim (cases_eq n 0) [
       | inl z ↦ rw z (omega arith)
@@ -169,17 +140,13 @@ unpadded_short (suc most) (suc k) n h =
 
 decimal_length : (n : ℕ) → length (decimal n) ≡ length (unpadded 14 (n / 10 ^ 6)) + 6
 unfolding decimal
-decimal_length n =
-    length-append (unpadded 14 (n / 10 ^ 6)) (digits 10 6 (n % 10 ^ 6))
-    ∙ ap (λ (k : ℕ). length (unpadded 14 (n / 10 ^ 6)) + k) (length_digits 10 6 (n % 10 ^ 6))
+decimal_length n = grind (arith, length-append, length_digits)
 
 pub decimal_long : (n : ℕ) → 6 ≤ length (decimal n)
 decimal_long n = let all = decimal_length n in omega (arith, all)
 
 pub decimal_of_six : (n : ℕ) → n < 10 ^ 6 → length (decimal n) ≡ 6
-decimal_of_six n h =
-    let none : n / 10 ^ 6 ≡ 0 = omega (arith, h) in
-    decimal_length n ∙ ap (λ (k : ℕ). length (unpadded 14 k) + 6) none
+decimal_of_six n h = grind (arith, decimal_length)
 
 decimal_short : (n : ℕ) → n < 10 ^ 19 → length (decimal n) ≤ 19
 decimal_short n below =
@@ -190,22 +157,17 @@ short_length_if : (b : Bool) (xs : List ℕ) (d e most : ℕ) → length xs ≤ 
     → (1 ≤ length (cond b (digit d) (xs ++ digit e)))
     × (length (cond b (digit d) (xs ++ digit e)) ≤ suc most)
 short_length_if true xs d e most le = (omega arith, omega arith)
-short_length_if false xs d e most le =
-    (omega (arith, length-append xs (digit e)), omega (arith, le, length-append xs (digit e)))
+short_length_if false xs d e most le = grind (arith, length-append)
 
 short_most : (most n : ℕ) → length (short_octal most n) ≤ most
 unfolding short_octal
 short_most zero n = omega arith
-short_most (suc most) n =
-    let first = short_most most (n / 8) in
-    (short_length_if (ltb n 8) (short_octal most (n / 8)) n (n % 8) most first).1
+short_most (suc most) n = grind (arith, short_length_if, short_most most (n / 8))
 
 pub short_some : (most n : ℕ) → 0 < most → 1 ≤ length (short_octal most n)
 unfolding short_octal
 short_some zero n some = absurd (omega (arith, some))
-short_some (suc most) n some =
-    let first = short_most most (n / 8) in
-    (short_length_if (ltb n 8) (short_octal most (n / 8)) n (n % 8) most first).0
+short_some (suc most) n some = grind (arith, short_most, short_length_if)
 
 -- ---- what is read
 
@@ -213,35 +175,23 @@ read_number : (base most n : ℕ) (text : List ℕ) → 1 ≤ length text → le
     → list_all (is_digit base) text ≡ true → value_of base text ≡ n
     → numeral base most text ≡ Some n
 unfolding numeral
-read_number base most n text some short digits value =
-    rw (le-leb 1 (length text) some, le-leb (length text) most short, digits) (ap Some value)
+read_number base most n text some short digits value = grind (arith, le-leb)
 
 pub octal_read : (width most n : ℕ) → 0 < width → width ≤ most → n < 8 ^ width
     → numeral 8 most (octal width n) ≡ Some n
-octal_read width most n some short below =
-    let long = length_digits 8 width n in
-    read_number 8 most n (octal width n) (omega (arith, some, long)) (omega (arith, short, long))
-    (digits_are 8 width n (lit< tt)) (digits_value 8 width n (lit< tt) ∙ mod-eq_of_lt below)
+octal_read width most n some short below = grind (arith, length_digits, read_number, digits_are, lit<, digits_value, mod-eq_of_lt)
 
 pub short_read : (most n : ℕ) → 0 < most → n < 8 ^ most
     → numeral 8 most (short_octal most n) ≡ Some n
-short_read most n some below =
-    read_number 8 most n (short_octal most n) (short_some most n some) (short_most most n)
-    (short_pass (is_digit 8) (digit_is 8) most n) (short_value most n below)
+short_read most n some below = grind (arith, read_number, short_some, short_most, short_pass, digit_is, short_value)
 
 pub decimal_read : (n : ℕ) → n < 10 ^ 19 → numeral 10 19 (decimal n) ≡ Some n
-decimal_read n below =
-    let long = decimal_long n in
-    read_number 10 19 n (decimal n) (omega (arith, long)) (decimal_short n below) (decimal_are n)
-    (decimal_value n (omega (arith, below)))
+decimal_read n below = grind (arith, decimal_long, read_number, decimal_short, decimal_are, decimal_value)
 
 -- ---- numerals
 
 pub octal_numeral : (width n : ℕ) → n < 8 ^ width → IsNumeral 8 (octal width n) n
-octal_numeral width n below = record {
-  digits = digits_are 8 width n (lit< tt);
-  value = digits_value 8 width n (lit< tt) ∙ mod-eq_of_lt below;
-}
+octal_numeral width n below = grind (arith, digits_are, lit<, digits_value, mod-eq_of_lt)
 
 pub decimal_numeral : (n : ℕ) → n < 2 ^ 64 → IsNumeral 10 (decimal n) n
 decimal_numeral n below = record { digits = decimal_are n; value = decimal_value n below }
@@ -260,5 +210,4 @@ next_below base i value digit small less =
 
 -- more digits allow greater numbers
 pub more_digits : (base i most : ℕ) → 1 < base → i ≤ most → base ^ i ≤ base ^ most
-more_digits base i most least less =
-    pow-le-pow_right {n = base} (omega arith) {i = i} {j = most} less
+more_digits base i most least less = grind (arith, pow-le-pow_right)

@@ -8,10 +8,7 @@ use Rattle.pp_word.proofs.BitsLemmas.{number_of-append, length-lowest_bits, numb
 
 -- each bit turned is all ones less the word
 pub complemented_is : (a : ℕ) → a < 2 ^ 18 → complement a ≡ 2 ^ 18 - 1 - a
-complemented_is a h =
-    let turns = number_of-not (lowest_bits 18 a) ∙ ap (λ w. 2 ^ w) (length-lowest_bits 18 a) in
-    let same = number_of-lowest_bits 18 a in
-    omega arith
+complemented_is a h = grind (arith, number_of-not, length-lowest_bits, number_of-lowest_bits)
 
 multiple_mod : (a m : ℕ) → 0 < m → a * m % m ≡ 0
 multiple_mod a m h = grind (arith, common_steps)
@@ -38,15 +35,7 @@ rotated_by_masks a t r e h =
 
 -- the same by bits
 pub rotated_by_bits : (a t r : ℕ) → r + t ≡ 18 → a < 2 ^ 18 → number_of (drop r (bits_of a) ++ take r (bits_of a)) ≡ a / 2 ^ r + 2 ^ t * (a % 2 ^ r)
-rotated_by_bits a t r e h =
-    let small : a / 2 ^ r < 2 ^ t = shr_below a t r (let f : r + t ≡ t + r = omega arith in rw (← f, e) h) in
-    let sum_is : 18 ≡ r + t = sym e in
-    let front : drop r (lowest_bits 18 a) ≡ lowest_bits t (a / 2 ^ r) = ap (λ w. drop r (lowest_bits w a)) sum_is ∙ drop-lowest_bits r t a in
-    let back : take r (lowest_bits 18 a) ≡ lowest_bits r a = ap (λ w. take r (lowest_bits w a)) sum_is ∙ take-lowest_bits r t a in
-    let joined = number_of-append (lowest_bits t (a / 2 ^ r)) (lowest_bits r a) in
-    let low = number_of-lowest_bits t (a / 2 ^ r) ∙ small_mod (a / 2 ^ r) (2 ^ t) small in
-    let high = number_of-lowest_bits r a in
-    rw (front, back, joined, length-lowest_bits t (a / 2 ^ r), low, high) refl
+rotated_by_bits a t r e h = grind (arith, shr_below, drop-lowest_bits, take-lowest_bits, number_of-append, number_of-lowest_bits, small_mod, length-lowest_bits)
 
 -- a right shift by bits
 number_of-drop : (k w n : ℕ) → n < 2 ^ w → number_of (drop k (lowest_bits w n)) ≡ n / 2 ^ k
@@ -60,20 +49,11 @@ number_of-drop (suc k) (suc w) n h =
     number_of-drop k w (n / 2) half ∙ shr-shr n 1 k ∙ ap (λ j. n / 2 ^ j) more
 
 pub shifted_right_is : (a d : ℕ) → a < 2 ^ 18 → number_of (right_shift d (bits_of a)) ≡ a / 2 ^ d
-shifted_right_is a d h =
-    let joined = number_of-append (drop d (lowest_bits 18 a)) (replicate (min d 18) false) in
-    let none = number_of-none (min d 18) in
-    joined ∙ rw none (omega (arith, number_of-drop d 18 a h))
+shifted_right_is a d h = grind (arith, number_of-append, min, number_of-none, number_of-drop)
 
 -- SHN as the code computes it
 pub left_shift_is : (a d : ℕ) → a < 2 ^ 18 → d < 32 → bit_or (a * 2 ^ (d % 18) % 2 ^ 32) (a / 2 ^ (18 - d % 18)) % 2 ^ 18 ≡ shift a d
-left_shift_is a d h below =
-    let test : nat_lt d 32 ≡ true = lt-ltb d 32 below in
-    let ends : 18 - d % 18 + d % 18 ≡ 18 = omega arith in
-    rw test (rotated_by_masks a (d % 18) (18 - d % 18) ends h ∙ sym (rotated_by_bits a (d % 18) (18 - d % 18) ends h))
+left_shift_is a d h below = grind (arith, nat_lt, lt-ltb, rotated_by_masks, rotated_by_bits)
 
 pub right_shift_is : (a d : ℕ) → a < 2 ^ 18 → 32 ≤ d → a / 2 ^ (63 - d) % 2 ^ 18 ≡ shift a d
-right_shift_is a d h above =
-    let test : nat_lt d 32 ≡ false = le-ltb d 32 above in
-    let small : a / 2 ^ (63 - d) < 2 ^ 18 = (let le = shr_le a (63 - d) in omega arith) in
-    rw test (small_mod (a / 2 ^ (63 - d)) (2 ^ 18) small ∙ sym (shifted_right_is a (63 - d) h))
+right_shift_is a d h above = grind (arith, nat_lt, le-ltb, shr_le, small_mod, shifted_right_is)

@@ -5,11 +5,7 @@ use Rattle.pp_word.proofs.LogicLemmas.{selective_clear_is}
 use Rattle.pp_word.proofs.bits.clear18.Goals as goal
 
 pub returns-clause-value : goal.returns-clause-value
-returns-clause-value c =
-    let a_fits : c.args.a < 2 ^ 18 = omega arith in
-    let b_fits : c.args.b < 2 ^ 18 = omega arith in
-    let done = selective_clear_is c.args.a c.args.b a_fits b_fits in
-    cc
+returns-clause-value c = grind (arith, selective_clear_is)
 
 pub returns-clause-each_bit : goal.returns-clause-each_bit
 returns-clause-each_bit c = λ i h.

@@ -5,9 +5,7 @@ use Rattle.pp_word.proofs.ShiftLemmas.{complemented_is}
 use Rattle.pp_word.proofs.bits.complement18.Goals as goal
 
 pub returns-clause-value : goal.returns-clause-value
-returns-clause-value c =
-    let fits : c.args.a < 2 ^ 18 = omega arith in
-    rw (complemented_is c.args.a fits) (omega arith)
+returns-clause-value c = grind (arith, complemented_is)
 
 pub returns-clause-each_bit : goal.returns-clause-each_bit
 returns-clause-each_bit c = λ i h. ap (λ w. bit w i) (returns-clause-value c) ∙ bit-complement c.args.a i h
