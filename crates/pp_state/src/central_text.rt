@@ -11,8 +11,8 @@ use std::alloc::Allocator;
 use std::io::Write;
 
 /// Writes the central words within the bounds that are not 0, a line each, in octal and in display
-/// code, as `000010  00010002000300040005   A B C D E`; and flushes the writer. The text goes out in
-/// pieces, and takes no memory. Where the writer fails, the rest of the text is lost.
+/// code, as `000010  00010002000300040005   A B C D E`, and flushes the writer. The text goes out
+/// in pieces, and takes no memory. Where the writer fails, the rest of the text is lost.
 pub fn write_central<A: Allocator, W: Write>(
     writer: &mut W,
     central: &Central<A>,

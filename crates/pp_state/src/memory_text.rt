@@ -22,7 +22,7 @@ const WORDS_ON_A_LINE: u32 = 8;
 
 /// Writes the words of a processor's memory, eight a line, in octal and in display code, as
 /// `0020  0004 0000 0017 0000 0000 0000 0000 0000   D   O`; and flushes the writer. The lines are
-/// those in which a place within the bounds stands and a word is not 0. The text goes out in pieces,
+/// those in which a place lies within the bounds and a word is not 0. The text goes out in pieces,
 /// and takes no memory. Where the writer fails, the rest of the text is lost.
 pub fn write_memory<W: Write>(writer: &mut W, pp: &Pp, bounds: Bounds) -> Result<(), WriteFault>
     ensures { IsWritten (memory_text bounds pp.now) result
