@@ -1,6 +1,6 @@
 //! The arena in a slot's memory.
 
-use crate::slot::Slot;
+use crate::Slot;
 use bumpalo::Bump;
 
 const PAGE: usize = 4096;

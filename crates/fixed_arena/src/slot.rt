@@ -3,7 +3,8 @@
 ghost use Rattle.std.specs.Prelude.{◌≡◌, ◌≤◌, ◌⊎◌, IfSome};
 ghost use Rattle.fixed_arena.specs.Units.{IsWhole, whole_block_token};
 
-use crate::memory::{Memory, UNIT};
+use crate::Memory;
+use crate::memory::UNIT;
 use std::alloc::{AllocError, Allocator};
 use std::cell::Cell;
 

@@ -7,11 +7,7 @@ ghost use Rattle.pp_channel.specs.Answer.{IsReady, IsAnswer, event_by, event_of,
 ghost use Rattle.pp_channel.specs.Law.{KeepsLaw};
 ghost use Rattle.pp_channel.specs.Session.{word_put};
 
-use crate::chan_op::ChanOp;
-use crate::channel_state::ChannelState;
-use crate::event::Event;
-use crate::flags::Flags;
-use crate::reply::Reply;
+use crate::{ChanOp, ChannelState, Event, Flags, Reply};
 use pp_word::Word12;
 
 /// On lawful histories the table of operations gives the answer of a channel, and no other is one:

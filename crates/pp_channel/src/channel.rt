@@ -3,13 +3,11 @@ ghost use Rattle.pp_channel.specs.History.{IsLawful, HasTwelveBitWord, HasTwelve
 ghost use Rattle.pp_channel.specs.Answer.{IsAnswer, channel_state, event_of, reply_shown, reply_to, history_after, flags_of};
 ghost use Rattle.pp_channel.specs.Law.{KeepsLaw};
 
-use crate::answer::{event_by, flags_after, reply_made, reply_shown, word_put};
-use crate::chan_op::ChanOp;
-use crate::channel_state::ChannelState;
-use crate::event::Event;
-use crate::flags::Flags;
-use crate::memory::Memory;
-use crate::reply::Reply;
+use crate::answer::word_put;
+use crate::{
+    ChanOp, ChannelState, Event, Flags, Memory, Reply, event_by, flags_after, reply_made,
+    reply_shown,
+};
 use pp_word::Word12;
 use std::alloc::Allocator;
 use std::marker::Model;

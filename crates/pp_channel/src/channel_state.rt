@@ -3,12 +3,11 @@ ghost use Rattle.pp_channel.specs.Answer.{channel_state, event_by, event_of, his
 ghost use Rattle.pp_channel.specs.History.{HasTwelveBitWord, IsLawful};
 ghost use Rattle.pp_channel.specs.declared.event.Event.{Event};
 
-use crate::answer::{answer_law, event_by, flags_after, reply_made, reply_shown, word_put};
-use crate::chan_op::ChanOp;
-use crate::channel::Channel;
-use crate::event::Event;
-use crate::flags::Flags;
-use crate::reply::Reply;
+use crate::answer::word_put;
+use crate::{
+    ChanOp, Channel, Event, Flags, Reply, answer_law, event_by, flags_after, reply_made,
+    reply_shown,
+};
 use pp_word::Word12;
 use std::alloc::Allocator;
 use std::fmt::{self, Display, Formatter, Write};

@@ -2,10 +2,7 @@ ghost use Rattle.std.specs.Prelude.{◌≡◌, true, IfOk, IsOk};
 ghost use Rattle.pp_channel.specs.Answer.{IsLockedAnswer, only_looks};
 ghost use Rattle.pp_channel.specs.History.{IsLawful, HasTwelveBitWords};
 
-use crate::chan_op::ChanOp;
-use crate::channel::Channel;
-use crate::memory::Memory;
-use crate::numbered::Numbered;
+use crate::{ChanOp, Channel, Memory, Numbered};
 use std::alloc::Allocator;
 use std::sync::{Mutex, Wait};
 

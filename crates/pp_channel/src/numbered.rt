@@ -1,4 +1,4 @@
-use crate::reply::Reply;
+use crate::Reply;
 
 /// An answer, and its place in the history of its channel.
 #[derive(Clone, Copy, PartialEq, Eq)]

@@ -1,4 +1,4 @@
-use crate::flags::Flags;
+use crate::Flags;
 use pp_word::Word12;
 
 /// The answer to one operation.

@@ -1,5 +1,4 @@
-use crate::event::Event;
-use crate::flags::Flags;
+use crate::{Event, Flags};
 
 /// What was done to a channel, or seen of it.
 #[derive(Clone, Copy, PartialEq, Eq)]

@@ -5,8 +5,7 @@ ghost use Rattle.pp_check.specs.TraceFault.{IsFault};
 ghost use Rattle.pp_check.specs.Verdict.{verdict_of};
 
 use crate::judge::Judge;
-use crate::trace_fault::TraceFault;
-use crate::verdict::Verdict;
+use crate::{TraceFault, Verdict};
 use pp_channel::CHANNELS;
 
 /// Whether the events of a trace are those of lawful histories: a text in the lines that `barrel`

@@ -8,9 +8,8 @@ ghost use Rattle.pp_check.specs.Verdict.{verdict_of};
 ghost use Rattle.pp_check.specs.declared.trace_line.TraceLine.{TraceLine};
 
 use crate::standing::Standing;
-use crate::trace_fault::TraceFlaw;
-use crate::trace_line::{TraceLine, line_in};
-use crate::verdict::Verdict;
+use crate::trace_line::line_in;
+use crate::{TraceFlaw, TraceLine, Verdict};
 use pp_channel::{CHANNELS, ChannelNo, Event};
 use pp_deck::Fields;
 

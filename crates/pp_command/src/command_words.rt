@@ -4,12 +4,11 @@ ghost use Rattle.std.specs.Prelude.{◌≡◌, ◌↔◌, [], IsTrue, map, optio
 ghost use Rattle.pp_command.specs.CommandLine.{AskFor, AsksForMore, Finds, IsRefused, IsWorkOf, Name, refusals, value_in};
 
 use crate::command::command;
-use crate::line_fault::LineFault;
 use crate::option_values::{
     channels_of, fits_a_picture, limits_of, number_of, profile_of, value_of, window_of,
 };
 use crate::text_of::text_of;
-use crate::work::{Asked, Work};
+use crate::{Asked, LineFault, Work};
 use clap::ArgMatches;
 use clap::error::ErrorKind;
 use pp_numbers::CHANNELS;

@@ -4,7 +4,7 @@ ghost use Rattle.std.specs.Prelude.{◌≡◌, ◌-◌, ◌≤◌, ◌↔◌, Is
 ghost use Rattle.pp_numbers.specs.Limits.{AreLimits};
 ghost use Rattle.pp_command.specs.CommandLine.{Finds, ReadsAddress, ReadsBounds, ReadsChosen, ReadsNumber, ReadsProcessor, ReadsProcessors, ReadsProfile, ReadsTurn, ReadsFlag, ReadsTurns, ReadsWindow, value_in};
 
-use crate::channel_list::listed_channels;
+use crate::listed_channels;
 use crate::number_range::{FROM, PATIENCE, STEPS, TURNS};
 use crate::processor_list::listed_processors;
 use clap::ArgMatches;

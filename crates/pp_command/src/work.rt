@@ -1,4 +1,4 @@
-use crate::text_of::TextOf;
+use crate::TextOf;
 use pp_numbers::{CHANNELS, Limits, Profile};
 
 /// The work that a command line asks for.

@@ -5,11 +5,11 @@ ghost use Rattle.pp_deck.specs.DeckText.{lines_of};
 ghost use Rattle.pp_deck.specs.DeckMeaning.{deck_meaning, meaning_of_lines, size_of, is_foreign, line_of_byte};
 ghost use Rattle.pp_machine.specs.Central.{IsCentralSize};
 
-use crate::deck_fault::{DeckCode, DeckFault};
 use crate::deck_line::central_size_in;
 use crate::keyword::Keyword;
 use crate::lines::Lines;
 use crate::reading::Reading;
+use crate::{DeckCode, DeckFault};
 use pp_channel::Memory;
 use pp_machine::{Machine, PROCESSORS, Profile};
 use std::alloc::Allocator;

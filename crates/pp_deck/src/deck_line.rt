@@ -9,7 +9,7 @@ ghost use Rattle.pp_deck.specs.OctalNumber.{number};
 ghost use Rattle.pp_deck.specs.declared.flaw.Flaw.{Flaw};
 ghost use Rattle.pp_deck.specs.Reading.{loaded_from, with_central_words, on_read, Leaves};
 
-use crate::fields::Fields;
+use crate::Fields;
 use crate::flaw::Flaw;
 use crate::octal_number::{number, word12};
 use pp_machine::{Machine, Pp};

@@ -1,7 +1,7 @@
 ghost use Rattle.std.specs.Prelude.{◌≡◌};
 ghost use Rattle.pp_deck.specs.Flaw.{code_of};
 
-use crate::deck_fault::DeckCode;
+use crate::DeckCode;
 
 /// What is wrong with a line. No line takes memory.
 #[derive(Clone, Copy)]

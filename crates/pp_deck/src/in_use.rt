@@ -1,7 +1,7 @@
 ghost use Rattle.std.specs.Prelude.{◌≡◌};
 ghost use Rattle.pp_deck.specs.InUse.{in_use, is_in_use};
 
-use crate::deck::Deck;
+use crate::Deck;
 use pp_channel::ChannelNo;
 use pp_machine::{PROCESSORS, PpNo};
 use std::alloc::Allocator;

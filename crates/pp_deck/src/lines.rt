@@ -1,6 +1,6 @@
 ghost use Rattle.std.specs.Prelude.{◌≡◌, ◌∷◌, [], IfSome, IfNone, position};
 
-use crate::fields::Fields;
+use crate::Fields;
 use std::marker::Model;
 
 /// The lines of a text that are left, from the first to the last. Contracts see the list of them,

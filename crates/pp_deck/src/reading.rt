@@ -5,14 +5,13 @@ ghost use Rattle.pp_machine.specs.DeadStart.{IsBeforeFirstTurn};
 ghost use Rattle.pp_deck.specs.DeckMeaning.{unnamed_in, with_dead_start};
 ghost use Rattle.pp_deck.specs.Reading.{before_lines, after_line, deck_so_far, on_read, Leaves};
 
-use crate::deck::Deck;
 use crate::deck_line::{
     central_size_in, end_line, next_number, set_central_words, set_words, start_a,
 };
-use crate::fields::Fields;
 use crate::flaw::Flaw;
 use crate::keyword::Keyword;
 use crate::octal_number::word12;
+use crate::{Deck, Fields};
 use pp_channel::Memory;
 use pp_machine::{CentralFault, Machine, PROCESSORS, PpNo, Profile};
 use pp_word::{Word12, Word18};

@@ -8,12 +8,11 @@ ghost use Rattle.pp_text.specs.TextWriter.{Prints};
 ghost use Rattle.pp_text.specs.Written.{IsWritten};
 ghost use Rattle.pp_draw.specs.DrawingText.{channel_lane, drawing, is_used, lanes_above, processor_lane, used_among};
 
-use crate::condition::Look;
 use crate::frame::{
     band_width, print_foot, print_head, print_legend, print_style, print_text_tag, print_ticks,
 };
 use crate::lane::Lane;
-use crate::seen_step::SeenStep;
+use crate::{Look, SeenStep};
 use pp_channel::{CHANNELS, ChannelNo, Event};
 use pp_machine::{Machine, PROCESSORS, PpNo};
 use pp_numbers::Window;

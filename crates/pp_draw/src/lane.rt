@@ -5,8 +5,8 @@ ghost use Rattle.pp_text.specs.TextWriter.{Prints};
 ghost use Rattle.pp_draw.specs.Lane.{band_element, free_after, lane_head, part_class, part_elements, part_of, still_drawn};
 ghost use Rattle.pp_draw.specs.declared.condition.Phase.{Phase};
 
-use crate::condition::{Look, Phase};
 use crate::frame::{band_width, lane_top, place, print_rectangle_tag, print_text_tag};
+use crate::{Look, Phase};
 use pp_channel::Event;
 use pp_numbers::Window;
 use pp_text::{TextWriter, print_short_decimal};

@@ -6,7 +6,7 @@ ghost use Rattle.pp_machine.specs.Run.{IsRunOf};
 ghost use Rattle.pp_run.specs.RunSteps.{IsCutAt};
 ghost use Rattle.pp_draw.specs.SeenStep.{condition_by, found_in, is_shown, seen, seen_in_window};
 
-use crate::condition::Condition;
+use crate::Condition;
 use pp_channel::Memory;
 use pp_machine::{Block, Cut, Machine, Need, Outcome, PROCESSORS, PpNo, PpState};
 use pp_numbers::Window;

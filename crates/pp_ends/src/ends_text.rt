@@ -11,8 +11,7 @@ ghost use Rattle.pp_text.specs.TextWriter.{Prints};
 ghost use Rattle.pp_text.specs.Written.{IsWritten};
 ghost use Rattle.pp_ends.specs.EndsText.{ending_text, ends_text, loop_text, looping_line};
 
-use crate::ending::Ending;
-use crate::loops::Loop;
+use crate::{Ending, Loop};
 use pp_machine::{Machine, PROCESSORS, PpNo};
 use pp_text::{
     TextWriter, WriteFault, octal4, print_channels, print_decimal, print_short_decimal,

@@ -3,7 +3,7 @@
 ghost use Rattle.std.specs.Prelude.{◌≡◌, ◌+◌, IfOk};
 ghost use Rattle.pp_ends.specs.Loops.{AreLoops, TellLoops, noted, widened};
 
-use crate::ending::Ending;
+use crate::Ending;
 use crate::quiet::step_telling;
 use crate::run::run_telling;
 use pp_channel::Memory;

@@ -6,7 +6,7 @@ ghost use Rattle.pp_machine.specs.MachineState.{MachineState};
 ghost use Rattle.pp_run.specs.Determinacy.{IsQuiet};
 ghost use Rattle.pp_ends.specs.Endings.{IsEnding, IsStillFrom, after_turns};
 
-use crate::ending::Ending;
+use crate::Ending;
 use crate::quiet::{is_quiet, is_running, step_telling};
 use crate::rounds::{find_period, find_start, round_of};
 use pp_channel::Memory;

@@ -1,6 +1,6 @@
 //! What a line does at a shared word.
 
-use crate::entry::Entry;
+use crate::Entry;
 
 /// An access of a line to a channel or to central memory. No value of it is made.
 pub enum Access {

@@ -12,12 +12,11 @@ ghost use Rattle.pp_line.specs.LineView.{first_view, finds, reads, writes, paren
 ghost use Rattle.pp_line.specs.ChannelWord.{history_word, number_in, flags_in};
 ghost use Rattle.pp_channel.specs.History.{IsLawful, HasTwelveBitWord, HasTwelveBitWords};
 
-use crate::entry::Entry;
 use crate::line_log::LineLog;
 use crate::recorded_history::recorded_channels;
 use crate::shared_words::SharedWords;
-use crate::word_step::{WordStep, advance, flags_in, number_in, state_in};
-use crate::worn::Worn;
+use crate::word_step::{flags_in, number_in, state_in};
+use crate::{Entry, WordStep, Worn, advance};
 pub use closing::Closed;
 use pp_channel::{
     CHANNELS, ChanOp, Channel, ChannelNo, Event, Memory, Numbered, Reply, reply_shown,

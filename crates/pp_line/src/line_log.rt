@@ -3,7 +3,7 @@
 ghost use Rattle.std.specs.Prelude.{◌≡◌, ◌<◌, ◌++◌, true, IfOk, OnOk, OnErr};
 ghost use Rattle.pp_line.specs.LineLog.{LogState, empty_log, event_entry, look_entry, appended, looked, ends_in_look_at};
 
-use crate::entry::Entry;
+use crate::Entry;
 use pp_channel::{ChannelNo, Event, Flags, Memory, Seen};
 use std::alloc::Allocator;
 use std::marker::Model;

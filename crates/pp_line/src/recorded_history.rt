@@ -6,7 +6,7 @@ ghost use Rattle.pp_numbers.specs.ChannelNo.{channel_count};
 ghost use Rattle.pp_channel.specs.declared.event.Event.{Event};
 ghost use Rattle.pp_line.specs.Merge.{IsRecordedBy, with_entry};
 
-use crate::entry::Entry;
+use crate::Entry;
 use pp_channel::{CHANNELS, Channel, Event, Memory, Seen};
 use std::alloc::Allocator;
 use std::marker::Model;

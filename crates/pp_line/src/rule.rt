@@ -1,7 +1,7 @@
 //! The rule of the shared words, and the kinds of step on them.
 
+use crate::Entry;
 use crate::access::Access;
-use crate::entry::Entry;
 use atomic_table::{Join, Play, Split, TableRule};
 use pp_channel::Event;
 use std::alloc::Allocator;

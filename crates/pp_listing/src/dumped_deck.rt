@@ -1,8 +1,9 @@
 ghost use Rattle.std.specs.Prelude.{◌≡◌, None};
 ghost use Rattle.pp_listing.specs.Dump.{GoesOnFrom, IsDumped, dump, first_busy};
 
+use crate::Busy;
 use crate::deck_lines::print_size;
-use crate::going_on::{Busy, first_busy};
+use crate::going_on::first_busy;
 use crate::listed_deck::print_central;
 use crate::sections::print_sections;
 use pp_deck::Deck;

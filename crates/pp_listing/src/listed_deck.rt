@@ -4,7 +4,8 @@ ghost use Rattle.pp_text.specs.Written.{IsWritten};
 ghost use Rattle.pp_listing.specs.ListedLine.{text_of};
 ghost use Rattle.pp_listing.specs.Listing.{ReadsBackAs, central_word_lines, dead_start_line, listing};
 
-use crate::deck_lines::{print_central_line, print_size};
+use crate::deck_lines::print_size;
+use crate::print_central_line;
 use crate::sections::print_sections;
 use pp_channel::{CHANNELS, ChannelNo};
 use pp_deck::Deck;

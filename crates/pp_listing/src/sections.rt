@@ -2,8 +2,8 @@ ghost use Rattle.pp_text.specs.TextWriter.{Prints};
 ghost use Rattle.pp_listing.specs.ListedLine.{text_of};
 ghost use Rattle.pp_listing.specs.Listing.{sections, start_line};
 
-use crate::deck_lines::print_section_line;
 use crate::instruction_lines::print_instructions;
+use crate::print_section_line;
 use pp_machine::{Machine, PROCESSORS, Pp, PpNo, PpState};
 use pp_text::{TextWriter, octal4, octal6};
 use std::alloc::Allocator;

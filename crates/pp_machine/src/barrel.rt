@@ -5,10 +5,8 @@ ghost use Rattle.std.specs.Prelude.{◌≡◌, ◌*◌, ◌<◌, ◌≤◌, leng
 ghost use Rattle.pp_numbers.specs.PpNo.{processor_count};
 ghost use Rattle.pp_machine.specs.Rounds.{RestBetween, PassesOverRest};
 
-use crate::cut::Cut;
-use crate::machine::Machine;
-use crate::pp::Pp;
 use crate::quiet::run_ahead;
+use crate::{Cut, Machine, Pp};
 use pp_numbers::{PROCESSORS, PpNo};
 use std::alloc::Allocator;
 

@@ -4,7 +4,7 @@ ghost use Rattle.std.specs.Prelude.{◌≡◌, ◌≤◌, [], ◌∷◌, take, I
 ghost use Rattle.pp_channel.specs.declared.event.Event.TheVariants.{Activate};
 ghost use Rattle.pp_numbers.specs.PpNo.{processor_count, names_processor};
 
-use crate::machine::Machine;
+use crate::Machine;
 use pp_channel::{ChanOp, Channel, ChannelNo, Memory};
 use pp_numbers::{PROCESSORS, PpNo};
 use std::alloc::Allocator;

@@ -7,9 +7,7 @@ ghost use Rattle.pp_machine.specs.Headline.{HoldsOnChannel};
 ghost use Rattle.pp_numbers.specs.PpNo.{processor_count};
 ghost use Rattle.pp_machine.specs.Processor.{new_processor};
 
-use crate::central::{Central, CentralFault};
-use crate::pp::Pp;
-use crate::trace::Trace;
+use crate::{Central, CentralFault, Pp, Trace};
 use pp_channel::{CHANNELS, Channel, ChannelNo, Memory};
 use pp_numbers::{PROCESSORS, PpNo, Profile};
 use pp_word::{Word18, Word60};

@@ -11,9 +11,8 @@ ghost use Rattle.std.specs.Prelude.{◌≡◌, ◌↔◌, IsTrue, IsSome, IfSome
 ghost use Rattle.pp_machine.specs.Processor.{IsProcessor, HasFaultNumber, IsBlockIn, new_processor, word_at};
 ghost use Rattle.pp_numbers.specs.Profile.{has_channel};
 
-use crate::block::Block;
 use crate::pp_memory::PpMemory;
-use crate::pp_state::PpState;
+use crate::{Block, PpState};
 pub(crate) use next_step::ends;
 use pp_channel::ChannelNo;
 use pp_numbers::Profile;

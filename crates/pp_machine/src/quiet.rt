@@ -7,10 +7,8 @@ ghost use Rattle.pp_machine.specs.NeedAndEffect.{need};
 ghost use Rattle.pp_numbers.specs.PpNo.{processor_count};
 ghost use Rattle.pp_machine.specs.Quiet.{is_quiet, IsAhead, AreAhead};
 
-use crate::answer::Answer;
-use crate::need::Need;
-use crate::outcome::Outcome;
-use crate::pp::{Pp, ends};
+use crate::pp::ends;
+use crate::{Answer, Need, Outcome, Pp};
 use pp_channel::Channel;
 use std::alloc::Allocator;
 

@@ -5,9 +5,7 @@ ghost use Rattle.pp_machine.specs.BlockResults.{CompleteInput, ShortInput, Compl
 ghost use Rattle.pp_machine.specs.Replay.{fits, reply_fits, replayed, given_count};
 ghost use Rattle.pp_machine.specs.Processor.{IsAtRest};
 
-use crate::answer::Answer;
-use crate::need::Need;
-use crate::pp::Pp;
+use crate::{Answer, Need, Pp};
 use pp_channel::{ChanOp, Reply};
 
 /// Whether a reply fits an operation.

@@ -7,8 +7,7 @@ ghost use Rattle.pp_machine.specs.MachineState.{MachineState};
 ghost use Rattle.pp_machine.specs.MachineStep.{step_event};
 ghost use Rattle.pp_machine.specs.Run.{run};
 
-use crate::cut::Cut;
-use crate::machine::Machine;
+use crate::{Cut, Machine};
 use pp_numbers::PpNo;
 use std::alloc::Allocator;
 

@@ -6,12 +6,7 @@ ghost use Rattle.pp_machine.specs.NeedAndEffect.{need};
 ghost use Rattle.pp_numbers.specs.Profile.{has_channel};
 ghost use Rattle.pp_machine.specs.Processor.{IsAtRest, IsAtFault, KeepsMemoryAndRegisters};
 
-use crate::answer::Answer;
-use crate::machine::Machine;
-use crate::need::Need;
-use crate::outcome::Outcome;
-use crate::pp_state::PpState;
-use crate::trace::Trace;
+use crate::{Answer, Machine, Need, Outcome, PpState, Trace};
 use pp_channel::{ChanOp, ChannelNo, Memory, Reply};
 use pp_numbers::{PpNo, Profile};
 use pp_word::{Opcode, Word6};

@@ -1,8 +1,7 @@
 ghost use Rattle.std.specs.Prelude.{◌≡◌, ◌↔◌, IsTrue, IsSome, IfSome};
 ghost use Rattle.pp_numbers.specs.Profile.{processors_in, channels_in, has_processor, has_channel};
 
-use crate::channel_no::{CHANNELS, ChannelNo};
-use crate::pp_no::{PROCESSORS, PpNo};
+use crate::{CHANNELS, ChannelNo, PROCESSORS, PpNo};
 
 /// How many processors and channels a machine has. Both profiles number the first ones alike.
 #[derive(Clone, Copy)]

@@ -2,7 +2,7 @@
 
 ghost use Rattle.std.specs.Prelude.{◌≡◌, ◌++◌, ◌∷◌, [], OnOk};
 
-use crate::asking_step::AskingStep;
+use crate::AskingStep;
 use pp_channel::Memory;
 use pp_machine::{PROCESSORS, PpNo, Trace};
 use std::alloc::Allocator;

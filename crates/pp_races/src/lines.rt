@@ -6,8 +6,7 @@ ghost use Rattle.pp_text.specs.PrintedText.{line_end};
 ghost use Rattle.pp_text.specs.TextWriter.{Prints};
 ghost use Rattle.pp_races.specs.RacesText.{entry_text, finding_line, place_text, processors_text, step_line};
 
-use crate::asking_step::AskingStep;
-use crate::finding::Finding;
+use crate::{AskingStep, Finding};
 use pp_machine::{PROCESSORS, PpNo, Trace};
 use pp_text::{
     TextWriter, channel_name, octal4, octal6, print_decimal, print_event_end, processor_name,

@@ -5,7 +5,7 @@ ghost use Rattle.std.specs.Option.{option_or};
 ghost use Rattle.pp_channel.specs.declared.flags.Flags.{Flags};
 ghost use Rattle.pp_races.specs.FlagSets.{has, look_at, no_looks};
 
-use crate::asking_step::AskingStep;
+use crate::AskingStep;
 use crate::flag_set::FlagSet;
 use pp_channel::Flags;
 

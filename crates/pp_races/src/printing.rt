@@ -6,11 +6,10 @@ ghost use Rattle.pp_races.specs.Printing.{PrintsFindings};
 ghost use Rattle.pp_races.specs.Tables.{AreUses};
 ghost use Rattle.pp_races.specs.Watch.{Watch, each_below};
 
-use crate::finding::Finding;
 use crate::lines::print_finding_line;
 use crate::sharing::sharing;
-use crate::verdict::Verdict;
 use crate::word_use::WordUse;
+use crate::{Finding, Verdict};
 use pp_text::TextWriter;
 use std::io::Write;
 

@@ -10,7 +10,7 @@ ghost use Rattle.pp_races.specs.RacesText.{races_text, verdict_line};
 ghost use Rattle.pp_races.specs.Watch.{unwatched};
 ghost use Rattle.pp_races.specs.WatchTables.{AreTables};
 
-use crate::verdict::Verdict;
+use crate::Verdict;
 use crate::watch_tables::WatchTables;
 use crate::watched_run::print_run;
 use pp_channel::CHANNELS;

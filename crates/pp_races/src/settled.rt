@@ -12,13 +12,13 @@ ghost use Rattle.pp_races.specs.Spans.{Indexes};
 ghost use Rattle.pp_races.specs.Tables.{entry_count, AreLow};
 ghost use Rattle.pp_races.specs.Watch.{Watch, each_number};
 
-use crate::asking_step::AskingStep;
-use crate::finding::{Finding, keep};
+use crate::finding::keep;
 use crate::found::goes_on_at;
 use crate::low::Low;
 use crate::position::{Position, waits_at};
 use crate::trace_index::TraceIndex;
 use crate::watch::entry_place;
+use crate::{AskingStep, Finding};
 use pp_channel::{ChanOp, ChannelNo, Memory};
 use pp_machine::{Answer, Machine, Need, PROCESSORS, Pp, PpNo, Profile};
 use pp_word::Word12;

@@ -8,7 +8,7 @@ ghost use Rattle.pp_races.specs.Findings.{is_shared, sharing_of};
 ghost use Rattle.pp_races.specs.Tables.{IsUseOf, has_bit};
 ghost use Rattle.pp_races.specs.Watch.{Watch};
 
-use crate::finding::Finding;
+use crate::Finding;
 use crate::word_use::{WordUse, has_bit};
 use pp_machine::{PROCESSORS, PpNo};
 

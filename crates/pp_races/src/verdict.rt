@@ -4,7 +4,7 @@ ghost use Rattle.std.specs.Prelude.{◌≡◌, ◌++◌, ◌∷◌, [], List};
 ghost use Rattle.pp_races.specs.RacesText.{is_going_on, verdict_of};
 ghost use Rattle.pp_races.specs.declared.finding.Finding.{Finding};
 
-use crate::finding::Finding;
+use crate::Finding;
 
 /// What findings come to.
 #[derive(Clone, Copy)]

@@ -16,8 +16,7 @@ ghost use Rattle.pp_races.specs.Tables.{entry_count, entry_place, closing_findin
 ghost use Rattle.pp_races.specs.WatchTables.{AreTables};
 ghost use Rattle.pp_races.specs.Watch.{Watch, asked, each_number, looked, made, race_after, race_before, watched_need};
 
-use crate::asking_step::AskingStep;
-use crate::finding::{Finding, keep};
+use crate::finding::keep;
 use crate::found::{goes_on_at, look_sets};
 use crate::looks::Looks;
 use crate::low::Low;
@@ -25,6 +24,7 @@ use crate::position::waits_at;
 use crate::trace_index::TraceIndex;
 use crate::watch_tables::WatchTables;
 use crate::word_use::WordUse;
+use crate::{AskingStep, Finding};
 use pp_channel::{CHANNELS, ChanOp, ChannelNo, Event, Flags, Memory, flags_after};
 use pp_machine::{Machine, Need, PROCESSORS, PpNo, Trace};
 use pp_word::{Word18, Word60};

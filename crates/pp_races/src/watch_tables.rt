@@ -5,7 +5,7 @@ ghost use Rattle.pp_races.specs.Tables.{entry_count, AreLooks, AreLow, AreUses};
 ghost use Rattle.pp_races.specs.Watch.{unwatched};
 ghost use Rattle.pp_races.specs.WatchTables.{AreTables};
 
-use crate::finding::Finding;
+use crate::Finding;
 use crate::looks::Looks;
 use crate::low::Low;
 use crate::trace_index::TraceIndex;

@@ -9,9 +9,9 @@ ghost use Rattle.pp_races.specs.Watch.{unwatched};
 ghost use Rattle.pp_races.specs.WatchTables.{AreTables};
 ghost use Rattle.pp_races.specs.declared.verdict.Verdict.TheVariants.{Same};
 
+use crate::Verdict;
 use crate::printing::{print_findings, print_shared};
 use crate::settled::find_unsettled;
-use crate::verdict::Verdict;
 use crate::watch::take_step;
 use crate::watch_tables::WatchTables;
 use pp_machine::Machine;

@@ -4,8 +4,7 @@ ghost use Rattle.std.specs.Prelude.{[], IfErr, OnOk};
 ghost use Rattle.pp_machine.specs.Run.{IsRunOf, barrel};
 ghost use Rattle.pp_run.specs.RunSteps.{IsCutAt, RunStep, run_steps};
 
-use crate::observer::Observer;
-use crate::turn::in_turn;
+use crate::{Observer, in_turn};
 use pp_machine::{Cut, Machine};
 use std::alloc::Allocator;
 

@@ -6,8 +6,7 @@ ghost use Rattle.pp_machine.specs.declared.outcome.Outcome.{Outcome};
 ghost use Rattle.pp_run.specs.RunSteps.{run_steps};
 ghost use Rattle.pp_run.specs.StepCounts.{counts_of, each_step_counts};
 
-use crate::observed_run::run_observed;
-use crate::observer::Observer;
+use crate::{Observer, run_observed};
 use pp_channel::Memory;
 use pp_machine::{Cut, Machine, Outcome, PROCESSORS, PpNo};
 use std::alloc::Allocator;

@@ -8,11 +8,10 @@ ghost use Rattle.pp_machine.specs.Processor.{Processor};
 ghost use Rattle.pp_runner.specs.Crew.{IsEnded, HasEnded, AreReady, HasBegun};
 ghost use Rattle.pp_runner.specs.Labour.{IsUnused};
 
-use crate::gate::Gate;
 use crate::labour::work;
-use crate::run_fault::RunFault;
 use crate::site::Site;
 use crate::worker::Ended;
+use crate::{Gate, RunFault};
 use pp_line::Line;
 use pp_machine::{Machine, Pp, PpNo, PpState};
 use std::alloc::Allocator;

@@ -8,11 +8,10 @@ ghost use Rattle.pp_runner.specs.Crew.{IsEnded};
 ghost use Rattle.pp_runner.specs.Labour.{IsAtWork, IsUnused, IsAnswered, IsSameLine, HasActed, HasLooked, HasOperated, operations};
 ghost use Rattle.pp_runner.specs.End.{IsEnd, NeedsWornChannel, WornWithCause, WasHeld};
 
-use crate::end::End;
-use crate::gate::Gate;
 use crate::site::Site;
 use crate::spinning::Spinning;
 use crate::worker::Ended;
+use crate::{End, Gate};
 use pp_line::{Line, Worn};
 use pp_machine::{Answer, Need, Outcome, Pp, PpNo, PpState};
 use std::alloc::Allocator;

@@ -1,6 +1,6 @@
 //! What a run leaves.
 
-use crate::worker::Worker;
+use crate::Worker;
 use pp_channel::{CHANNELS, Channel};
 use std::alloc::Allocator;
 

@@ -7,13 +7,11 @@ ghost use Rattle.pp_runner.specs.Crew.{HasOpened};
 ghost use Rattle.pp_runner.specs.Report.{IsReportOf};
 
 use crate::crew::run_crew;
-use crate::gate::Gate;
 use crate::opening::opening_line;
-use crate::report::Report;
-use crate::run_fault::RunFault;
 use crate::site::Site;
 use crate::spinning::Spinning;
 use crate::worker::workers;
+use crate::{Gate, Report, RunFault};
 use pp_channel::Memory;
 use pp_line::{Closed, Line};
 use pp_machine::Machine;

@@ -3,7 +3,7 @@
 ghost use Rattle.std.specs.Prelude.{◌≡◌, IfOk, map};
 ghost use Rattle.pp_runner.specs.Crew.{worker_of};
 
-use crate::end::End;
+use crate::End;
 use pp_channel::Memory;
 use pp_line::Entry;
 use pp_machine::{Answer, Pp};

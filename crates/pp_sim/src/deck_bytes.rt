@@ -3,7 +3,7 @@ ghost use Rattle.pp_deck.specs.DeckMeaning.{deck_meaning};
 ghost use Rattle.pp_sim.specs.TextAnswer.{IsLoadFault};
 ghost use Rattle.std.specs.Prelude.{◌≡◌, [], Ok, IfOk, IfErr};
 
-use crate::text_fault::TextFault;
+use crate::TextFault;
 use pp_deck::{Deck, DeckCode, deck_law, read_deck};
 use pp_machine::Profile;
 use std::alloc::Allocator;

@@ -1,7 +1,8 @@
 //! What the program does from its words to its exit status. It stands in a library, so that several
 //! programs with other words, decks and statuses can be run on it.
 
-use crate::program::{BAD_USAGE, NO_MEMORY, run_program};
+use crate::program::{BAD_USAGE, NO_MEMORY};
+use crate::run_program;
 use std::alloc::Global;
 use std::env::Env;
 use std::fs::Files;

@@ -4,10 +4,8 @@ ghost use Rattle.std.specs.Prelude.{◌≡◌, map};
 ghost use Rattle.pp_runner.specs.Report.{ReportFitsInMemory};
 ghost use Rattle.pp_sim.specs.Program.{IsDone, IsDoneOnFile, IsRun, IsReported, status_of};
 
-use crate::text_fault::{TextFault, answer_to};
-use crate::texts::check_text::check_text;
-use crate::texts::deck_text::deck_text;
-use crate::texts::threads_text::threads_text;
+use crate::text_fault::answer_to;
+use crate::{TextFault, check_text, deck_text, threads_text};
 use pp_command::{LineFault, Work, read_words};
 use pp_text::write_whole;
 use std::alloc::{Allocator, Global};

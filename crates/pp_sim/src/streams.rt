@@ -5,7 +5,7 @@ ghost use Rattle.std.specs.Prelude.{◌≤◌, ◌<◌, ℕ, List, length, OnOk,
 ghost use Rattle.std.specs.Io.KnownBytes.{Consumes, IsAtEnd};
 ghost use Rattle.pp_sim.specs.TextAnswer.{IsReadFault, most_bytes};
 
-use crate::text_fault::TextFault;
+use crate::TextFault;
 use std::alloc::Allocator;
 use std::io::{ErrorKind, Read};
 

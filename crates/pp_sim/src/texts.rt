@@ -10,8 +10,9 @@ ghost use Rattle.pp_sim.specs.TextAnswer.{AnswersLoaded, AnswersLoadedUnless, Is
 ghost use Rattle.pp_sim.specs.TextOf.{IsDumpText, IsEndsText, IsRacesText, IsStepsText, IsTextAfter, IsTextOf, PreventsDump, obstacle};
 ghost use Rattle.pp_state.specs.StateText.{state_after};
 
+use crate::TextFault;
 use crate::deck_bytes::DeckBytes;
-use crate::text_fault::{TextFault, answer_to, answer_to_report};
+use crate::text_fault::{answer_to, answer_to_report};
 use pp_command::{ChosenSteps, TextOf};
 use pp_deck::Deck;
 use pp_draw::{run_seeing_steps, write_drawing};

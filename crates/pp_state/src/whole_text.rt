@@ -16,8 +16,8 @@ use std::io::Write;
 /// Writes how things stand after a run, and flushes the writer: the processors shown, as
 /// `PP00 P=0113 A=000006 RUNNING IAN 01 HELD CH01 ACTIVE EMPTY x376`, with the instruction that
 /// runs, the place of a block in progress and the channel that holds it; the words that differ from
-/// the machine as it was loaded, `before`; and the channels that have a history. `held` has for each
-/// processor, in the order of the barrel, the count of its last steps in a row that were held
+/// the machine as it was loaded, `before`; and the channels that have a history. `held` has for
+/// each processor, in the order of the barrel, the count of its last steps in a row that were held
 /// (decimal; all else is octal). The text goes out in pieces, and takes no memory. If the writer
 /// fails, the rest of the text is lost.
 pub fn write_state<A: Allocator, W: Write>(

@@ -6,7 +6,7 @@ ghost use Rattle.pp_machine.specs.Run.{barrel};
 ghost use Rattle.pp_steps.specs.Choice.{chosen_steps};
 ghost use Rattle.pp_steps.specs.HeldRuns.{each_spells, no_spells};
 
-use crate::choice::Choice;
+use crate::Choice;
 use crate::held_runs::HeldRuns;
 use pp_channel::Memory;
 use pp_machine::{Machine, PROCESSORS};

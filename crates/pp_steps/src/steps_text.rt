@@ -4,7 +4,7 @@ ghost use Rattle.pp_machine.specs.Run.{barrel};
 ghost use Rattle.pp_text.specs.Written.{IsReportWritten};
 ghost use Rattle.pp_steps.specs.StepsText.{steps_text};
 
-use crate::choice::Choice;
+use crate::Choice;
 use crate::cursor::{Cursor, LineKind};
 use crate::run_counts::counted_runs;
 use crate::step_line::{print_held_line, print_step_line};

@@ -4,8 +4,7 @@ ghost use Rattle.pp_text.specs.Standing.{channel_held_text, flags_text};
 ghost use Rattle.pp_text.specs.TextWriter.{Prints};
 
 use crate::numbers::print_unpadded;
-use crate::state_text::channel_name;
-use crate::text_writer::TextWriter;
+use crate::{TextWriter, channel_name};
 use pp_channel::{ChannelNo, Flags};
 use std::io::Write;
 

@@ -5,9 +5,8 @@ ghost use Rattle.pp_text.specs.InstructionText.{block_text, instruction_text, op
 ghost use Rattle.pp_text.specs.PrintedText.{padded};
 ghost use Rattle.pp_text.specs.TextWriter.{Prints};
 
-use crate::digits::{octal2, octal4};
 use crate::operands::Operands;
-use crate::text_writer::TextWriter;
+use crate::{TextWriter, octal2, octal4};
 use pp_machine::{Block, BlockKind};
 use pp_word::{Word6, Word12, decode, relative};
 use std::io::Write;

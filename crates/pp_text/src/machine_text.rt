@@ -12,9 +12,7 @@ ghost use Rattle.pp_text.specs.TextLaw.{FitsItsText, HistoryFits, ProcessorFits,
 ghost use Rattle.pp_text.specs.Written.{IsWritten};
 
 use crate::printed_line::{print_event, print_processor};
-use crate::state_text::print_channel_line;
-use crate::text_writer::TextWriter;
-use crate::write_fault::WriteFault;
+use crate::{TextWriter, WriteFault, print_channel_line};
 use pp_channel::{CHANNELS, ChannelNo};
 use pp_machine::{Machine, PROCESSORS, PpNo, Trace};
 use std::alloc::Allocator;

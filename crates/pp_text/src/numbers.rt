@@ -4,8 +4,7 @@ ghost use Rattle.std.specs.Prelude.{◌≡◌, ◌<◌, ◌/◌, ◌%◌, ◌^�
 ghost use Rattle.pp_word.specs.Numeral.{decimal, octal, short_decimal, short_octal, unpadded};
 ghost use Rattle.pp_text.specs.TextWriter.{Prints};
 
-use crate::digits::decimal6;
-use crate::text_writer::TextWriter;
+use crate::{TextWriter, decimal6};
 use std::io::Write;
 
 /// The least count that has more than six decimal digits.

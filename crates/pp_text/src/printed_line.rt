@@ -9,10 +9,9 @@ ghost use Rattle.pp_text.specs.PrintedText.{event_line, event_text, line_end, pr
 ghost use Rattle.pp_text.specs.TextLaw.{ProcessorFits, EventFits};
 ghost use Rattle.pp_text.specs.TextWriter.{Prints};
 
-use crate::digits::{decimal6, octal2, octal4};
-use crate::numbers::print_upper_digits;
-use crate::state_text::{print_state_text, processor_heading};
-use crate::text_writer::TextWriter;
+use crate::{
+    TextWriter, decimal6, octal2, octal4, print_state_text, print_upper_digits, processor_heading,
+};
 use pp_channel::{ChannelNo, Event};
 use pp_machine::{Pp, PpNo, Trace};
 use pp_word::Word12;

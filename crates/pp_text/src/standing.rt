@@ -7,11 +7,7 @@ ghost use Rattle.pp_machine.specs.NeedAndEffect.{need};
 ghost use Rattle.pp_text.specs.Standing.{held_text, standing};
 ghost use Rattle.pp_text.specs.TextWriter.{Prints};
 
-use crate::digits::octal4;
-use crate::held_text::print_held_text;
-use crate::instruction::print_running;
-use crate::state_text::print_state_text;
-use crate::text_writer::TextWriter;
+use crate::{TextWriter, octal4, print_held_text, print_running, print_state_text};
 use pp_channel::{ChanOp, ChannelNo};
 use pp_machine::{Machine, Need, Outcome, PpNo};
 use pp_word::next;

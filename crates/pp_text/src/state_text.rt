@@ -7,8 +7,7 @@ ghost use Rattle.pp_text.specs.PrintedText.{channel_line, channel_text, state_te
 ghost use Rattle.pp_text.specs.TextLaw.{HistoryFits};
 ghost use Rattle.pp_text.specs.TextWriter.{Prints};
 
-use crate::digits::{octal2, octal4, octal6};
-use crate::text_writer::TextWriter;
+use crate::{TextWriter, octal2, octal4, octal6};
 use pp_channel::{Channel, ChannelNo};
 use pp_machine::{Pp, PpNo, PpState};
 use std::alloc::Allocator;

@@ -3,7 +3,8 @@
 ghost use Rattle.std.specs.Prelude.{◌≡◌, ◌≤◌, ◌+◌, ◌++◌, ℕ, List, [], length, Option};
 ghost use Rattle.pp_text.specs.Piece.{piece_length};
 
-use crate::write_fault::{WriteFault, write_bytes};
+use crate::WriteFault;
+use crate::write_fault::write_bytes;
 use std::io::Write;
 use std::marker::Model;
 

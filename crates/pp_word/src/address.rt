@@ -3,8 +3,7 @@
 ghost use Rattle.std.specs.Prelude.{◌≡◌, ◌+◌, ◌-◌, ◌%◌, ◌<◌, ◌≤◌};
 ghost use Rattle.pp_word.specs.Address.{indexed, next_place, place_count, relative_to};
 
-use crate::word6::Word6;
-use crate::word12::Word12;
+use crate::{Word6, Word12};
 
 /// The number of places in a processor's memory.
 const PLACES: u32 = 0o10000;

@@ -4,8 +4,7 @@ ghost use Rattle.std.specs.Prelude.{ℕ, ◌≡◌, ◌+◌, ◌-◌, ◌%◌, �
 ghost use Rattle.pp_word.specs.Bits.{bit, shift, complement, logical_product, logical_difference, selective_clear};
 
 use crate::ones_complement::ALL_ONES;
-use crate::word6::Word6;
-use crate::word18::Word18;
+use crate::{Word6, Word18};
 
 /// Each bit inverted.
 pub fn complement18(a: Word18) -> Word18

@@ -3,8 +3,7 @@
 ghost use Rattle.std.specs.Prelude.{◌≡◌, ◌%◌, ◌^◌};
 ghost use Rattle.pp_word.specs.CentralWord.{parts_of, joined};
 
-use crate::word12::Word12;
-use crate::word60::Word60;
+use crate::{Word12, Word60};
 
 /// The low twelve bits of a number.
 fn lowest_part(bits: u64) -> Word12

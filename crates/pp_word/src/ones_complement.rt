@@ -3,7 +3,7 @@
 ghost use Rattle.std.specs.Prelude.{◌≡◌};
 ghost use Rattle.pp_word.specs.OnesComplement.{sum, difference, IsSum, IsDifference};
 
-use crate::word18::Word18;
+use crate::Word18;
 
 /// 777777, a word of 18 ones: the other zero.
 pub(crate) const ALL_ONES: u32 = 0o777_777;

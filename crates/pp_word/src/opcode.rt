@@ -1,8 +1,7 @@
 ghost use Rattle.std.specs.Prelude.{◌≡◌, ◌/◌, ◌%◌, ◌^◌, ◌<◌};
 ghost use Rattle.pp_word.specs.Opcode.{code_of, row_of, opcode_at};
 
-use crate::word6::Word6;
-use crate::word12::Word12;
+use crate::{Word6, Word12};
 
 /// An operation code, named by the manual's mnemonic. Codes 24 and 25 do nothing, as PSN.
 #[derive(Clone, Copy)]

@@ -1,6 +1,6 @@
 ghost use Rattle.std.specs.Prelude.{ℕ, ◌≡◌, ◌%◌, ◌^◌, ◌<◌, ◌↔◌, IsSome, IfSome};
 
-use crate::word6::Word6;
+use crate::Word6;
 use std::marker::Model;
 
 /// A word of 12 bits, 0 to 7777 (octal). Contracts see it as that number.

@@ -1,7 +1,6 @@
 ghost use Rattle.std.specs.Prelude.{ℕ, ◌≡◌, ◌%◌, ◌^◌, ◌<◌, ◌↔◌, IsSome, IfSome};
 
-use crate::word6::Word6;
-use crate::word12::Word12;
+use crate::{Word6, Word12};
 use std::marker::Model;
 
 /// A word of 18 bits, 0 to 777777 (octal). Contracts see it as that number.

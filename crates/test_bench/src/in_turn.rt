@@ -1,6 +1,6 @@
 //! Calls with each request refused in turn.
 
-use crate::allocator::Rationed;
+use crate::Rationed;
 use std::alloc::Allocator;
 
 impl<B: Allocator> Rationed<B> {

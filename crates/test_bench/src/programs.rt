@@ -2,7 +2,7 @@
 
 ghost use Rattle.std.specs.Prelude.{◌≡◌, [], IfOk};
 
-use crate::numbers::{first, word};
+use crate::{first, word};
 use pp_machine::{CentralFault, Machine, Pp, Profile};
 use pp_word::{Word18, next};
 use std::alloc::Allocator;

@@ -7,7 +7,7 @@ ghost use Rattle.pp_line.specs.LineSteps.{IsLogOf};
 ghost use Rattle.pp_line.specs.LineView.{joined_view, with_unrecorded_load, greater_of_each};
 
 use super::{Line, greater_of_each};
-use crate::entry::Entry;
+use crate::Entry;
 use crate::recorded_history::recorded_channels;
 use crate::shared_words::SharedWords;
 use pp_channel::{CHANNELS, Channel, ChannelNo, Memory};

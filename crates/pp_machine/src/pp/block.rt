@@ -7,10 +7,7 @@ ghost use Rattle.pp_machine.specs.Block.{receives, central_from, ends, starts, c
 ghost use Rattle.pp_machine.specs.NeedAndEffect.{answered};
 ghost use Rattle.pp_machine.specs.Processor.{HasWordsLeft};
 
-use crate::answer::Answer;
-use crate::block::{Block, BlockKind};
-use crate::pp::Pp;
-use crate::pp_state::{PAST_CENTRAL_MEMORY, PpState};
+use crate::{Answer, Block, BlockKind, PAST_CENTRAL_MEMORY, Pp, PpState};
 use pp_channel::{ChannelNo, Reply};
 use pp_word::{Word12, Word18, Word60, add18, join60, next, split60, sub18};
 

@@ -6,8 +6,7 @@ ghost use Rattle.pp_word.specs.OnesComplement.{sum, difference};
 ghost use Rattle.pp_machine.specs.Processor.{IsFaultNumber};
 ghost use Rattle.pp_machine.specs.Effect.{goes_on, faults, jumps_or_stops, jumps_where, branches_where, calls, is_negative, leads_to_itself, loads, loads_word, adds_word, subtracts_word, differs_from_word, stores_word, replaces, replaces_by_sum, replaces_by_one_more, replaces_by_one_less};
 
-use crate::pp::Pp;
-use crate::pp_state::PpState;
+use crate::{Pp, PpState};
 use pp_word::{Word6, Word12, Word18, add18, and18, next, relative, sub18, xor18};
 
 /// The uppermost bit of A: 1 in a negative number.

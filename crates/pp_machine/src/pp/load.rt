@@ -4,9 +4,7 @@ ghost use Rattle.std.specs.Prelude.{◌≡◌, slice_set};
 ghost use Rattle.pp_machine.specs.DeadStart.{waiting_on};
 ghost use Rattle.pp_machine.specs.Processor.{runs_from};
 
-use crate::block::{Block, BlockKind};
-use crate::pp::Pp;
-use crate::pp_state::PpState;
+use crate::{Block, BlockKind, Pp, PpState};
 use pp_channel::ChannelNo;
 use pp_word::{Word12, Word18};
 

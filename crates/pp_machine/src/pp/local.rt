@@ -7,10 +7,7 @@ ghost use Rattle.pp_machine.specs.NeedAndEffect.{answered};
 ghost use Rattle.pp_machine.specs.Replay.{fits};
 ghost use Rattle.pp_machine.specs.Step.{need_of};
 
-use crate::answer::Answer;
-use crate::block::BlockKind;
-use crate::pp::Pp;
-use crate::pp_state::{EXCHANGE_JUMP, NO_CENTRAL_PROCESSOR, NO_SUCH_CHANNEL, PpState};
+use crate::{Answer, BlockKind, EXCHANGE_JUMP, NO_CENTRAL_PROCESSOR, NO_SUCH_CHANNEL, Pp, PpState};
 use pp_word::{Opcode, Word6, Word12, Word18, clear18, complement18, shift18};
 
 impl Pp {

@@ -11,13 +11,8 @@ ghost use Rattle.pp_numbers.specs.Profile.{has_channel};
 ghost use Rattle.pp_machine.specs.Replay.{fits};
 ghost use Rattle.pp_machine.specs.Step.{need_of};
 
-use crate::answer::Answer;
-use crate::block::{Block, BlockKind};
-use crate::need::Need;
-use crate::outcome::Outcome;
-use crate::pp::Pp;
 use crate::pp::effect::leads_to_itself;
-use crate::pp_state::PpState;
+use crate::{Answer, Block, BlockKind, Need, Outcome, Pp, PpState};
 use pp_channel::{ChanOp, Flags, Reply};
 use pp_word::{Opcode, Word6, Word60, decode};
 

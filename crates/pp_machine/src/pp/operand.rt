@@ -5,7 +5,7 @@ ghost use Rattle.pp_word.specs.Address.{place_after};
 ghost use Rattle.pp_machine.specs.Operand.{second_word, index, constant};
 ghost use Rattle.pp_machine.specs.Processor.{word_at};
 
-use crate::pp::Pp;
+use crate::Pp;
 use pp_word::{Word6, Word12, Word18, index_address};
 
 impl Pp {

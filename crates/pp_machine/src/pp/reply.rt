@@ -4,9 +4,7 @@ ghost use Rattle.std.specs.Prelude.{◌≡◌, None};
 ghost use Rattle.pp_machine.specs.InstructionTable.{row};
 ghost use Rattle.pp_machine.specs.NeedAndEffect.{answered};
 
-use crate::answer::Answer;
-use crate::pp::Pp;
-use crate::pp_state::PAST_CENTRAL_MEMORY;
+use crate::{Answer, PAST_CENTRAL_MEMORY, Pp};
 use pp_channel::Reply;
 use pp_word::{Opcode, Word6, Word12, Word18, Word60};
 

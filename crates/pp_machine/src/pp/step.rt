@@ -9,12 +9,7 @@ ghost use Rattle.pp_machine.specs.Replay.{fits};
 ghost use Rattle.pp_machine.specs.Step.{need_of};
 ghost use Rattle.pp_machine.specs.Processor.{IsAtRest, IsAtFault, KeepsMemoryAndRegisters};
 
-use crate::answer::Answer;
-use crate::block::{Block, BlockKind};
-use crate::need::Need;
-use crate::outcome::Outcome;
-use crate::pp::Pp;
-use crate::pp_state::PpState;
+use crate::{Answer, Block, BlockKind, Need, Outcome, Pp, PpState};
 use pp_channel::ChanOp;
 use pp_word::{Opcode, Word6, Word12};
 

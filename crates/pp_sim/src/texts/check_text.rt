@@ -1,7 +1,8 @@
 ghost use Rattle.pp_sim.specs.CheckText.{AnswersTrace};
 
+use crate::TextFault;
 use crate::streams::read_all;
-use crate::text_fault::{TextFault, answer_to};
+use crate::text_fault::answer_to;
 use pp_channel::CHANNELS;
 use pp_check::{check_trace, write_verdict};
 use std::alloc::Allocator;

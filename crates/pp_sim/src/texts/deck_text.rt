@@ -1,9 +1,9 @@
 ghost use Rattle.pp_sim.specs.TextAnswer.{AnswersDeck, AnswersDeckUnless};
 ghost use Rattle.pp_sim.specs.TextOf.{IsBarrelText, IsTextOf, obstacle};
 
+use crate::TextFault;
 use crate::deck_bytes::DeckBytes;
 use crate::streams::read_front;
-use crate::text_fault::TextFault;
 use crate::texts::write_text_of;
 use pp_command::TextOf;
 use pp_machine::Profile;

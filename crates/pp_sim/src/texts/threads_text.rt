@@ -4,9 +4,10 @@ ghost use Rattle.pp_runner.specs.Report.{ReportFitsInMemory};
 ghost use Rattle.pp_sim.specs.TextAnswer.{AnswersDeck, AnswersLoaded};
 ghost use Rattle.pp_sim.specs.ThreadsText.{IsThreadsText};
 
+use crate::TextFault;
 use crate::deck_bytes::DeckBytes;
 use crate::streams::read_front;
-use crate::text_fault::{TextFault, answer_to_report};
+use crate::text_fault::answer_to_report;
 use pp_deck::Deck;
 use pp_machine::Profile;
 use pp_report::{headline_law, write_report};
