@@ -1,6 +1,6 @@
 -- The table of operations gives the answer of a channel on lawful histories, and no other is one;
 -- operations that only look, and those that act, in the table.
-use Rattle.std.proofs.Common.{◌≡◌, ℕ, ◌==◌, Bool, true, false, List, [], ◌∷◌, ◌++◌, Option, Some, None, refl, sym, ap, ◌∙◌, subst, inl, inr}
+use Rattle.std.proofs.Common.{◌≡◌, ℕ, ◌==◌, Bool, true, false, List, [], ◌∷◌, ◌++◌, Option, Some, None, refl, sym, ap, ◌∙◌, subst, inl, inr, arith}
 use Rattle.std.specs.Prelude.{◌↔◌, if◌then◌else◌, is_some, ℕ, ◌⊎◌}
 use Rattle.std.specs.Option.{option_to_list}
 use Rattle.std.proofs.lemmas.List.{append-nil}
@@ -24,8 +24,7 @@ flags_are : (h : List Event) (s : State) → Fits h s → flags_of h ≡ flags_a
 flags_are h s f = ap (λ a. record { active = a; full = full h }) (active_at h s f) ∙ ap (λ b. record { active = is_active s; full = b }) (full_at h s f)
 
 event_is : (op : ChanOp) (h : List Event) (s : State) → Fits h s → event_of op h ≡ event_at op s
-event_is op h s f =
-    ap (λ g. event_by op g (waiting h)) (flags_are h s f) ∙ ap (λ w. event_by op (flags_at s) w) (waiting_at h s f)
+event_is op h s f = grind (arith, flags_are, flags_at, waiting_at)
 
 -- a step leads to the flags and the register that the table has after its event
 abbrev LeadsTo : State → Event → State → Type 0
@@ -143,10 +142,7 @@ answer_with h l op None is =
     inr (record { not_ready = λ e r. let some = table_of_ready h l op e r in cc; answered = refl; unchanged = append-nil h })
 
 pub answered_by_table : (h : List Event) (op : ChanOp) (reply : Reply) (after : List Event) → IsLawful h → reply ≡ reply_to op h → after ≡ history_after op h → IsAnswer h op reply after
-answered_by_table h op reply after l r a =
-    let P : Reply → Type 0 = λ x. IsAnswer h op x after in
-    let Q : List Event → Type 0 = λ x. IsAnswer h op (reply_to op h) x in
-    subst P (sym r) (subst Q (sym a) (answer_with h l op (event_of op h) refl))
+answered_by_table h op reply after l r a = grind (arith, answer_with)
 
 pub answered_where_none : (h : List Event) (op : ChanOp) (reply : Reply) → IsLawful h → event_of op h ≡ None → reply ≡ reply_shown op (channel_state h) → IsAnswer h op reply h
 answered_where_none h op reply l none shown =
@@ -161,9 +157,7 @@ only_answer : (h : List Event) → IsLawful h → (op : ChanOp) (reply : Reply) 
 only_answer h l op reply after (inl (e, made)) =
     let is = table_of_ready h l op e made.ready in
     (made.answered ∙ sym (ap (λ o. reply_by op (channel_state h) o) is), made.recorded ∙ sym (ap (λ o. h ++ option_to_list o) is))
-only_answer h l op reply after (inr shown) =
-    let is = none_without_ready h l op shown.not_ready (event_of op h) refl in
-    (shown.answered ∙ sym (ap (λ o. reply_by op (channel_state h) o) is), shown.unchanged ∙ (sym (append-nil h) ∙ sym (ap (λ o. h ++ option_to_list o) is)))
+only_answer h l op reply after (inr shown) = grind (arith, none_without_ready, append-nil)
 
 pub answer_by_table : (h : List Event) (op : ChanOp) (reply : Reply) (after : List Event) → IsLawful h → IsAnswer h op reply after ↔ ((reply ≡ reply_to op h) × (after ≡ history_after op h))
 answer_by_table h op reply after l = (only_answer h l op reply after, λ p. answered_by_table h op reply after l p.0 p.1)
@@ -233,7 +227,4 @@ looks_or_acts false = inr refl
 
 pub acts_where_made : (op : ChanOp) (f : Flags) (word : Option ℕ) (e : Event)
     → event_by op f word ≡ Some e → only_looks op ≡ false
-acts_where_made op f word e made = elim (looks_or_acts (only_looks op)) [
-  | inl looks ↦ let none : None ≡ Some e = sym (look_makes_none op f word looks) ∙ made in absurd cc
-  | inr acts ↦ acts
-]
+acts_where_made op f word e made = grind (arith, looks_or_acts, look_makes_none)

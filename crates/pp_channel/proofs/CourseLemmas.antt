@@ -1,5 +1,5 @@
 -- One more event on a course.
-use Rattle.std.proofs.Common.{◌≡◌, ℕ, List, [], ◌∷◌, ◌++◌, Option, Some, None, refl, ap, append_assoc}
+use Rattle.std.proofs.Common.{◌≡◌, ℕ, List, [], ◌∷◌, ◌++◌, Option, Some, None, refl, ap, append_assoc, arith}
 use Rattle.std.specs.List.{flat_map}
 use Rattle.std.proofs.lemmas.List.{append-nil, map-append}
 use Rattle.std.proofs.lemmas.Grind.{flat_map-append}
@@ -17,9 +17,7 @@ abbrev closed_events : List ℕ → List (Session × List ℕ) → List Event
 closed_events ws ps = idle_stretch ws ++ flat_map whole_session ps
 
 regroup : (a b i f j g : List Event) (x y : Event) → j ++ g ≡ i ++ f ++ y ∷ [] → a ++ (b ++ x ∷ j ++ g) ≡ a ++ (b ++ x ∷ i ++ f) ++ y ∷ []
-regroup a b i f j g x y e =
-    let e' = simp append_assoc at e in
-    simp append_assoc (ap (λ l. a ++ (b ++ x ∷ l)) e')
+regroup a b i f j g x y e = grind (arith, append_assoc)
 
 -- one more function goes into the last idle stretch
 more_idle : (ws : List ℕ) (ps : List (Session × List ℕ)) (w : ℕ) → (vs : List ℕ) × (qs : List (Session × List ℕ)) × (closed_events vs qs ≡ closed_events ws ps ++ Function w ∷ [])

@@ -21,12 +21,8 @@ last_stretch-push : (h : List Event) (e : Event) → is_some (switches_to e) ≡
 last_stretch-push h e is = after_last-push (λ x. is_some (switches_to x)) h e is
 
 active-push : (h : List Event) (e : Event) (o : Option Bool) → switches_to e ≡ o → active (h ++ e ∷ []) ≡ unwrap_or o (active h)
-active-push h e None is =
-    let all : filter_map switches_to (h ++ e ∷ []) ≡ filter_map switches_to h = filter_map-append switches_to h (e ∷ []) ∙ (ap (λ o. filter_map switches_to h ++ cons_option o []) is ∙ append-nil (filter_map switches_to h)) in
-    ap (λ l. unwrap_or (last_or None l) false) all
-active-push h e (Some b) is =
-    let all : filter_map switches_to (h ++ e ∷ []) ≡ filter_map switches_to h ++ b ∷ [] = filter_map-append switches_to h (e ∷ []) ∙ ap (λ o. filter_map switches_to h ++ cons_option o []) is in
-    ap (λ l. unwrap_or (last_or None l) false) all ∙ ap (λ o. unwrap_or o false) (last_or-push None (filter_map switches_to h) b)
+active-push h e None is = grind (arith, filter_map-append, append-nil)
+active-push h e (Some b) is = grind (arith, filter_map-append, last_or-push)
 
 -- what the state says of the history before it
 abbrev pub Fits : List Event → State → Type 0

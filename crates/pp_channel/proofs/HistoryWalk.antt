@@ -1,6 +1,6 @@
 -- A lawful history event by event: the state after each. The definitions in specs/ know no state: it
 -- is only the way by which their laws are proved.
-use Rattle.std.proofs.Common.{◌≡◌, ℕ, ◌==◌, List, [], ◌∷◌, ◌++◌, map, Option, Some, None, refl, sym, ap, ◌∙◌, subst, append_assoc}
+use Rattle.std.proofs.Common.{◌≡◌, ℕ, ◌==◌, List, [], ◌∷◌, ◌++◌, map, Option, Some, None, refl, sym, ap, ◌∙◌, subst, append_assoc, arith}
 use Rattle.std.specs.Prelude.{if◌then◌else◌}
 use Rattle.std.specs.Option.{option_and_then, option_to_list}
 use Rattle.std.specs.List.{flat_map}
@@ -44,11 +44,7 @@ walk-append s (x ∷ xs) ys = walk-append (option_and_then (λ t. step t x) s) x
 pub along : (Q : List Event → State → Type 0)
     → ((h : List Event) (s : State) (e : Event) (t : State) → Q h s → step s e ≡ Some t → Q (h ++ e ∷ []) t)
     → (p : List Event) (s : State) → Q p s → (xs : List Event) (t : State) → walk (Some s) xs ≡ Some t → Q (p ++ xs) t
-along Q keeps p s q [] t e =
-    let same : s ≡ t = cc in
-    let P : State → Type 0 = λ u. Q (p ++ []) u in
-    let R : List Event → Type 0 = λ l. Q l s in
-    subst P same (subst R (sym (append-nil p)) q)
+along Q keeps p s q [] t e = grind (arith, append-nil)
 along Q keeps p s q (x ∷ xs) t e = along_from (step s x) refl e (λ u r f. along Q keeps (p ++ x ∷ []) u r xs t f)
   where
     along_from : (o : Option State) → step s x ≡ o → walk o xs ≡ Some t

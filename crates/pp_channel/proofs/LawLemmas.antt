@@ -21,8 +21,7 @@ Words p Empty = takes p ≡ puts p
 Words p (Holding w) = IsUntaken p w
 
 take_within : (p : List Event) (w v : ℕ) (b : Bool) → (v == w) ≡ b → (t : State) → Words p (Holding w) → (if b then Some Empty else None) ≡ Some t → Words (p ++ Take v ∷ []) t
-take_within p w v true same t q is =
-    moved (Words (p ++ Take v ∷ [])) Empty t is (simp (filter_map-append, append-nil) (ap (λ x. takes p ++ x ∷ []) (eqb-true v w same) ∙ sym q))
+take_within p w v true same t q is = grind (arith, moved, filter_map-append, append-nil, eqb-true)
 take_within p w v false same t q is = absurd cc
 
 words_more : (p : List Event) (s : State) (e : Event) (t : State) → Words p s → e ≢ Disconnect → step s e ≡ Some t → Words (p ++ e ∷ []) t

@@ -1,4 +1,4 @@
-use Rattle.std.proofs.Common.{refl}
+use Rattle.std.proofs.Common.{refl, arith}
 use Rattle.std.proofs.lemmas.List.Elements.{All-nil}
 use Rattle.pp_channel.specs.History.{HasTwelveBitWord}
 use Rattle.pp_channel.proofs.HistoryLemmas.{lawful_empty}
@@ -6,5 +6,4 @@ use Rattle.pp_channel.proofs.channel.Channel.new.Goals as goal
 
 -- what is kept of a history without events
 pub invariant_of-result : goal.invariant_of-result
-invariant_of-result g c =
-    rw c.new.ensures.items (lawful_empty, All-nil HasTwelveBitWord, refl, refl)
+invariant_of-result g c = grind (arith, lawful_empty)
