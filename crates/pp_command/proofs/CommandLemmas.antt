@@ -8,9 +8,9 @@ use Rattle.clap.specs.declared.{error.Error.Error, parser.matches.Found.Found, p
 use Rattle.clap.specs.declared.error.kind.ErrorKind.TheVariants.{OutOfMemory}
 use Rattle.pp_numbers.specs.declared.{window.Window.Window, profile.Profile.Profile}
 use Rattle.pp_numbers.specs.Profile.{processors_in}
-use Rattle.pp_command.specs.CommandLine.{Finds, IsRefused, IsWorkOf, ReadsAlike, AsksForMore, AsksForText, ReadsChannels, ReadsChosen, ReadsEnd, ReadsNumber, ReadsProfile, ReadsTurn, ReadsTurns, ReadsWindow, ppsim, refusals}
-use Rattle.pp_command.specs.declared.{work.Work.Work, text_of.TextOf.TextOf}
-use Rattle.pp_command.specs.declared.line_fault.LineFault.TheVariants.{Refused}
+use Rattle.pp_command.specs.CommandLine.{Finds, IsFaultBy, IsRefused, IsWorkOf, ReadsAlike, AsksForMore, AsksForText, ReadsChannels, ReadsChosen, ReadsEnd, ReadsNumber, ReadsProfile, ReadsTurn, ReadsTurns, ReadsWindow, ppsim, refusals}
+use Rattle.pp_command.specs.declared.{line_fault.LineFault.LineFault, work.Work.Work, text_of.TextOf.TextOf}
+use Rattle.pp_command.specs.declared.line_fault.LineFault.TheVariants.{Memory, Refused, Number, Picture}
 
 -- a parse that succeeds has no refusal
 pub taken_words : (words : List Text) (app : App) → ReadsAlike words app → (is_simple_and_free app ≡ true → fault_of app words ≡ []) → refusals words ≡ []
@@ -22,12 +22,15 @@ among kinds error (inl memory) other = absurd (other memory)
 among kinds error (inr kind) other = kind
 
 -- one that fails for another cause than memory fails by one of the refusals
-pub refused_words : (words : List Text) (app : App) (error : Error) → ReadsAlike words app → (is_simple_and_free app ≡ true → HasKind (fault_of app words) error)
-    → kind_of error ≢ OutOfMemory → IsRefused words (Refused error)
+pub refused_words : (words : List Text) (app : App) (error : Error) (fault : LineFault) → ReadsAlike words app → (is_simple_and_free app ≡ true → HasKind (fault_of app words) error)
+    → IsFaultBy error fault → IsRefused words fault
 unfolding refusals
-refused_words words app error alike h other =
+refused_words words app error Memory alike h by = tt
+refused_words words app error (Refused told) alike h by =
     let kinds = subst (λ (kinds : Kinds). HasKind kinds error) alike.fault (h alike.free) in
-    (among (fault_of ppsim words) error kinds other, other)
+    rw (by.0) (among (fault_of ppsim words) error kinds by.1, by.1)
+refused_words words app error Number alike h by = absurd by
+refused_words words app error Picture alike h by = absurd by
 
 pair_of : {Z : Type 0} (o : Option (Box SubCommand Z)) (name : Text) (rows : List Row) → Some name ≡ option_map (λ b. (out-SubCommand (box_value b)).name.now) o → Some rows ≡ option_map (λ p. p.1) (subcommand_rows o) → subcommand_rows o ≡ Some (name, rows)
 pair_of None name rows e h = cc

@@ -4,7 +4,7 @@ use Rattle.std.specs.List.{list_any}
 use Rattle.std.specs.Str.Parse.{ParsesUnsigned}
 use Rattle.clap.specs.Words.{App, IsAmong, Kinds, Row, Rule, Text, fault_of, first_of, found_of, is_simple, is_simple_and_free, kind_of, new_app, new_rule, rows_of, subcommand_of, with_rule, with_subcommand}
 use Rattle.clap.specs.declared.builder.action.ArgAction.TheVariants.{Set, SetTrue}
-use Rattle.clap.specs.declared.{parser.matches.ArgMatches.ArgMatches}
+use Rattle.clap.specs.declared.{error.Error.Error, parser.matches.ArgMatches.ArgMatches}
 use Rattle.clap.specs.declared.error.kind.ErrorKind.TheVariants.{OutOfMemory}
 use Rattle.pp_numbers.specs.ChannelNo.{channel_count}
 use Rattle.pp_command.specs.ChannelList.{AreListed}
@@ -226,6 +226,12 @@ IsRefused words LineFault.Number = (refusals words ≡ []) × ((work : Work) →
     × ¬ AsksForMoreAmong (subcommand_of ppsim words)
 IsRefused words LineFault.Picture = (refusals words ≡ []) × ((work : Work) → ¬ AskFor words work)
     × AsksForMoreAmong (subcommand_of ppsim words)
+
+-- the fault that clap's error makes: want of memory is reported as such
+abbrev pub IsFaultBy : Error → LineFault → Type 0
+IsFaultBy error LineFault.Memory = kind_of error ≡ OutOfMemory
+IsFaultBy error (LineFault.Refused told) = (told ≡ error) × (kind_of error ≢ OutOfMemory)
+IsFaultBy error other = ⊥
 
 -- ---- parts of a reading
 

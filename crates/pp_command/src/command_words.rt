@@ -1,7 +1,7 @@
 //! Reading the words of a command line.
 
 ghost use Rattle.std.specs.Prelude.{◌≡◌, ◌↔◌, [], IsTrue, map, option_map, IfOk, IfErr, OnOk};
-ghost use Rattle.pp_command.specs.CommandLine.{AskFor, AsksForMore, Finds, IsRefused, IsWorkOf, Name, refusals, value_in};
+ghost use Rattle.pp_command.specs.CommandLine.{AskFor, AsksForMore, Finds, IsFaultBy, IsRefused, IsWorkOf, Name, refusals, value_in};
 
 use crate::command::command;
 use crate::option_values::{
@@ -9,8 +9,8 @@ use crate::option_values::{
 };
 use crate::text_of::text_of;
 use crate::{Asked, LineFault, Work};
-use clap::ArgMatches;
 use clap::error::ErrorKind;
+use clap::{ArgMatches, Error};
 use pp_numbers::CHANNELS;
 use std::alloc::Global;
 
@@ -49,6 +49,16 @@ fn work_of(name: &str, matches: &ArgMatches<'_>) -> Option<Work>
     }
 }
 
+/// The fault of a parse that failed.
+fn refusal(error: Error) -> LineFault
+    ensures { IsFaultBy error result }
+{
+    match error.kind() {
+        ErrorKind::OutOfMemory => LineFault::Memory,
+        _ => LineFault::Refused(error),
+    }
+}
+
 /// What the words of a command line ask for. The first word is the program's name.
 pub fn read_words<'a>(alloc: Global, words: &'a [&'a str]) -> Result<Asked<'a>, LineFault>
     ensures work { IfOk result (λ asked. AskFor (map (λ s. s.now) words.entry.now) asked.work) }
@@ -65,8 +75,7 @@ pub fn read_words<'a>(alloc: Global, words: &'a [&'a str]) -> Result<Asked<'a>, 
     };
     let matches = match command.try_get_matches_from(words) {
         Ok(matches) => matches,
-        Err(error) if error.kind() == ErrorKind::OutOfMemory => return Err(LineFault::Memory),
-        Err(error) => return Err(LineFault::Refused(error)),
+        Err(error) => return Err(refusal(error)),
     };
     match matches.subcommand() {
         Some((name, inner)) => match work_of(name, inner) {

@@ -1,7 +1,7 @@
 //! Why there is no report.
 
 use pp_channel::Memory;
-use std::alloc::AllocFailed;
+use std::alloc::{AllocError, AllocFailed};
 use std::thread::SpawnError;
 use thiserror::Error;
 
@@ -15,6 +15,12 @@ pub enum RunFault {
 
 impl From<Memory> for RunFault {
     fn from(_refused: Memory) -> RunFault {
+        RunFault::Memory
+    }
+}
+
+impl From<AllocError> for RunFault {
+    fn from(_refused: AllocError) -> RunFault {
         RunFault::Memory
     }
 }

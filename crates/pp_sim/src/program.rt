@@ -2,7 +2,7 @@
 
 ghost use Rattle.std.specs.Prelude.{◌≡◌, map};
 ghost use Rattle.pp_runner.specs.Report.{ReportFitsInMemory};
-ghost use Rattle.pp_sim.specs.Program.{IsDone, IsDoneOnFile, IsRun, IsReported, status_of};
+ghost use Rattle.pp_sim.specs.Program.{IsDone, IsDoneOnFile, IsPrinted, IsRun, IsReported, status_of};
 
 use crate::text_fault::answer_to;
 use crate::{TextFault, check_text, deck_text, threads_text};
@@ -120,9 +120,16 @@ fn tell_line_fault<O: Write, E: Write>(
         return BAD_USAGE;
     }
     match format!(in alloc; "{refusal}") {
-        Ok(help) => tell_answer(answer_to(write_whole(output, help.as_bytes())), error),
+        Ok(help) => show_help(help.as_bytes(), output, error),
         Err(_) => tell_answer(Err(TextFault::Memory), error),
     }
+}
+
+/// Prints help that was asked for.
+fn show_help<O: Write, E: Write>(help: &[u8], output: &mut O, error: &mut E) -> u8
+    ensures { IsPrinted help.now result (O.contents output.old) (O.contents output.new) }
+{
+    tell_answer(answer_to(write_whole(output, help)), error)
 }
 
 /// The status of what was done, or failed, which is reported.

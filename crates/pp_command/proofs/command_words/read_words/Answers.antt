@@ -4,8 +4,8 @@ use Rattle.pp_command.specs.CommandLine.{AsksForMoreAmong}
 use Rattle.pp_command.proofs.CommandLemmas.{met_command, met_none, refused_words, taken_words}
 use Rattle.pp_command.proofs.command_words.read_words.Goals as goal
 
-pub returns-in-Err-2-clause-refused : goal.returns-in-Err-2-clause-refused
-returns-in-Err-2-clause-refused c = refused_words _ _ c.in-Err.error c.in-Ok.ensures c.in-Err.ensures.kinds (search rules)
+pub returns-in-Err-clause-refused : goal.returns-in-Err-clause-refused
+returns-in-Err-clause-refused c = refused_words _ _ c.in-Err.error _ c.in-Ok.ensures c.in-Err.ensures.kinds c.refusal.ensures
 
 pub returns-in-Some-work_of-clause-taken : goal.returns-in-Some-work_of-clause-taken
 returns-in-Some-work_of-clause-taken c = taken_words _ _ c.in-Ok.ensures c.in-Ok-try_get_matches_from.ensures.kinds

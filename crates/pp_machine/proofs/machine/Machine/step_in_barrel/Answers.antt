@@ -16,57 +16,22 @@ use Rattle.pp_machine.proofs.machine.Machine.step_in_barrel.Goals.{in-Some+else-
 use Rattle.pp_machine.proofs.machine.Machine.step_in_barrel.Goals as goal
 
 pub step_internal-requires : goal.step_internal-requires
-<<<<<<< HEAD:crates/pp_machine/proofs/machine/Machine/step_in_barrel/Answers.antt
-step_internal-requires g c =
-    let within : c.index-i.result < length c.self.inside.processors.items = omega (arith, c.index-i.ensures.below, c.self.invariant.processors) in
-    let read = own_processor c.args.n c.self.view_is c.index-i.ensures.place within c.index-2.ensures in
-    let lent = own_processor c.args.n c.self.view_is c.index-i.ensures.place within c.index_mut.ensures.value in
-    subst (λ (pp : Processor). IsNext (Some c.in-Some.op) c.next_instruction-next.result.1 pp) (read ∙ sym lent) (rw c.in-Some.is at c.next_instruction-next.ensures)
-=======
 step_internal-requires g c = grind (arith, own_processor)
->>>>>>> g/main:crates/pp_machine/proofs/machine/Machine/go_on/Answers.antt
 
 pub invariant_of-self : goal.invariant_of-self
 invariant_of-self g c = grind (arith, with_processors, length-set)
 
 pub returns-then-step_internal-clause-step : goal.returns-then-step_internal-clause-step
-<<<<<<< HEAD:crates/pp_machine/proofs/machine/Machine/step_in_barrel/Answers.antt
-returns-then-step_internal-clause-step g c =
-    let own = own_processor c.args.n c.self.view_is c.index-i.ensures.place (omega (arith, c.index-i.ensures.below, c.self.invariant.processors)) c.index_mut.ensures.value in
-    let local : need (processor_of c.args.n c.args.self.now) ≡ Local = ap need (sym own) ∙ c.if-step_internal.ensures.local in
-    record {
-      ok = taken_by c.args.n answers.Local c.self.view_is c.index-i.ensures.place own c.if-step_internal.ensures.after c.count_turn-then-step_internal.ensures.turn ∙ sym (stepped_alone c.args.n c.args.self.now local);
-      outcome = sym (outcome_alone c.args.n c.args.self.now local (ap (λ pp. outcome pp answers.Local) (sym own) ∙ c.if-step_internal.ensures.moved));
-      unchanged_after_memory = tt;
-      no_event = λ none. refl;
-    }
-
-pub tests_flags-requires : goal.tests_flags-requires
-tests_flags-requires g c =
-    let within : c.index-i.result < length c.self.inside.processors.items = omega (arith, c.index-i.ensures.below, c.self.invariant.processors) in
-    let read = own_processor c.args.n c.self.view_is c.index-i.ensures.place within c.index-2.ensures in
-    let again = own_processor c.args.n (same_machine c.index-i.result c.self.view_is c.index_mut.ensures.value c.if-step_internal.ensures.otherwise) c.index-i.ensures.place
-    (subst (λ k. c.index-i.result < k) (sym (length-set c.self.inside.processors.items c.index-i.result c.step_internal.new.self)) within) c.index-in-Some.ensures in
-    subst (λ (pp : Processor). IsNext (Some c.in-Some.op) c.next_instruction-next.result.1 pp) (read ∙ sym again) (rw c.in-Some.is at c.next_instruction-next.ensures)
-=======
 returns-then-step_internal-clause-step g c = grind (arith, own_processor, taken_by, stepped_alone, outcome_alone)
 
 pub tests_flags-requires : goal.tests_flags-requires
 tests_flags-requires g c = grind (arith, own_processor, same_machine, length-set)
->>>>>>> g/main:crates/pp_machine/proofs/machine/Machine/go_on/Answers.antt
 
 pub invariant_of-self-then-tests_flags : goal.invariant_of-self-then-tests_flags
 invariant_of-self-then-tests_flags g c = grind (arith, with_processors, length-set)
 
 pub test_flags-requires-clause-next : goal.test_flags-requires-clause-next
-<<<<<<< HEAD:crates/pp_machine/proofs/machine/Machine/step_in_barrel/Answers.antt
-test_flags-requires-clause-next g c =
-    let read = own_processor c.args.n c.self.view_is c.index-i.ensures.place (omega (arith, c.index-i.ensures.below, c.self.invariant.processors)) c.index-2.ensures in
-    subst (λ (m : MachineState). IsNext (Some c.in-Some.op) c.next_instruction-next.result.1 (processor_of c.args.n m)) (sym (same_machine c.index-i.result c.self.view_is c.index_mut.ensures.value c.if-step_internal.ensures.otherwise))
-    (subst (λ (pp : Processor). IsNext (Some c.in-Some.op) c.next_instruction-next.result.1 pp) read (rw c.in-Some.is at c.next_instruction-next.ensures))
-=======
 test_flags-requires-clause-next g c = grind (arith, own_processor, same_machine)
->>>>>>> g/main:crates/pp_machine/proofs/machine/Machine/go_on/Answers.antt
 
 pub test_flags-requires-clause-probes : goal.test_flags-requires-clause-probes
 test_flags-requires-clause-probes g c =
@@ -85,25 +50,7 @@ pub invariant_of-self-else-tests_flags : goal.invariant_of-self-else-tests_flags
 invariant_of-self-else-tests_flags g c = grind (arith, with_processors, length-set)
 
 pub step_external-requires : goal.step_external-requires
-<<<<<<< HEAD:crates/pp_machine/proofs/machine/Machine/step_in_barrel/Answers.antt
-step_external-requires g c =
-    let read = own_processor c.args.n c.self.view_is c.index-i.ensures.place (omega (arith, c.index-i.ensures.below, c.self.invariant.processors)) c.index-2.ensures in
-    let same : c.match-next.self ≡ c.args.self.now = elim c.match-next.branch [
-      | in-Some+else-step_internal+else-tests_flags w ↦ w.self-is ∙ same_machine c.index-i.result c.self.view_is w.index_mut.ensures.value w.if-step_internal.ensures.otherwise
-      | in_default-next w ↦ w.self-is
-    ] in
-    subst (λ (pp : Processor). IsNext c.next_instruction-next.result.0 c.next_instruction-next.result.1 pp) (read ∙ ap (processor_of c.args.n) (sym same)) c.next_instruction-next.ensures
-
-pub returns-clause-step : goal.returns-clause-step
-returns-clause-step g c =
-    let same : c.match-next.self ≡ c.args.self.now = elim c.match-next.branch [
-      | in-Some+else-step_internal+else-tests_flags w ↦ w.self-is ∙ same_machine c.index-i.result c.self.view_is w.index_mut.ensures.value w.if-step_internal.ensures.otherwise
-      | in_default-next w ↦ w.self-is
-    ] in
-    subst (λ (m : MachineState). IsStep c.args.n c.step_external.result m c.step_external.new.self) same c.step_external.ensures.step
-=======
 step_external-requires g c = grind (arith, own_processor, in-Some+else-step_internal+else-tests_flags, same_machine, in_default)
 
 pub returns-clause-step : goal.returns-clause-step
 returns-clause-step g c = grind (arith, in-Some+else-step_internal+else-tests_flags, same_machine, in_default)
->>>>>>> g/main:crates/pp_machine/proofs/machine/Machine/go_on/Answers.antt
