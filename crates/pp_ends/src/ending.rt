@@ -1,5 +1,3 @@
-//! How a run ends.
-
 ghost use Rattle.std.specs.Prelude.{◌≡◌};
 ghost use Rattle.pp_ends.specs.EndsText.{ends_turn};
 

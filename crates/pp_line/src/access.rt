@@ -1,5 +1,3 @@
-//! What a line does at a shared word.
-
 use crate::Entry;
 
 /// An access of a line to a channel or to central memory. No value of it is made.

@@ -1,5 +1,3 @@
-//! Entries of logs.
-
 use pp_channel::{ChannelNo, Seen};
 
 /// An entry of a log.

@@ -1,5 +1,3 @@
-//! A log with room for a given number of entries.
-
 ghost use Rattle.std.specs.Prelude.{◌≡◌, ◌<◌, ◌++◌, true, IfOk, OnOk, OnErr};
 ghost use Rattle.pp_line.specs.LineLog.{LogState, empty_log, event_entry, look_entry, appended, looked, ends_in_look_at};
 

@@ -1,5 +1,3 @@
-//! A step that asks a channel.
-
 ghost use Rattle.std.specs.Prelude.{◌≡◌};
 ghost use Rattle.pp_races.specs.Watch.{asking_step};
 

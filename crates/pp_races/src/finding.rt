@@ -1,5 +1,3 @@
-//! What is found of a run.
-
 ghost use Rattle.std.specs.Prelude.{◌≡◌, ◌++◌, ◌∷◌, [], OnOk};
 
 use crate::AskingStep;

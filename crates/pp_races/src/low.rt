@@ -1,5 +1,3 @@
-//! What a processor may still find of a channel.
-
 ghost use Rattle.std.specs.Prelude.{◌≡◌, ◌≤◌, drop, length, slice_get};
 ghost use Rattle.pp_races.specs.FlagSets.{has};
 ghost use Rattle.pp_races.specs.Spans.{Indexes};

@@ -1,5 +1,3 @@
-//! What the events of one channel in a span of the trace were.
-
 ghost use Rattle.std.specs.Prelude.{◌≡◌, ℕ, IfSome, List, None, Some, [], true};
 ghost use Rattle.pp_channel.specs.declared.flags.Flags.{Flags};
 ghost use Rattle.pp_machine.specs.declared.trace.Trace.{Trace};

@@ -1,5 +1,3 @@
-//! What the findings of a run come to.
-
 ghost use Rattle.std.specs.Prelude.{◌≡◌, ◌++◌, ◌∷◌, [], List};
 ghost use Rattle.pp_races.specs.RacesText.{is_going_on, verdict_of};
 ghost use Rattle.pp_races.specs.declared.finding.Finding.{Finding};

@@ -1,5 +1,3 @@
-//! Who used a central word.
-
 ghost use Rattle.std.specs.Prelude.{◌≡◌, ℕ, ◌||◌, ◌==◌, IsTrue};
 ghost use Rattle.pp_numbers.specs.PpNo.{names_processor};
 ghost use Rattle.pp_races.specs.Tables.{has_bit, unused};

@@ -1,5 +1,3 @@
-//! What observes a run.
-
 ghost use Rattle.std.specs.Prelude.{ℕ, ⊤, ◌+◌, ◌<◌, ◌^◌, List, [], ◌∷◌, ◌++◌, length, OnErr, OnOk};
 ghost use Rattle.pp_machine.specs.MachineState.{MachineState};
 ghost use Rattle.pp_run.specs.RunSteps.{IsMade, RunStep};

@@ -1,5 +1,3 @@
-//! What a step did.
-
 use pp_channel::Flags;
 
 /// What a step did to its processor, and what held it.

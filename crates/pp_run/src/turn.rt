@@ -1,5 +1,3 @@
-//! Turns of the barrel.
-
 ghost use Rattle.std.specs.Prelude.{◌≡◌, ◌<◌};
 ghost use Rattle.pp_numbers.specs.PpNo.{processor_count, processor_index};
 ghost use Rattle.pp_numbers.specs.Profile.{processor_in_turn};

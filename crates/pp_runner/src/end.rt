@@ -1,5 +1,3 @@
-//! How a worker ends.
-
 /// Why a worker made no further step.
 #[derive(Clone, Copy, PartialEq, Eq)]
 pub enum End {

@@ -1,5 +1,3 @@
-//! What a run leaves.
-
 use crate::Worker;
 use pp_channel::{CHANNELS, Channel};
 use std::alloc::Allocator;

@@ -1,5 +1,3 @@
-//! Why there is no report.
-
 use pp_channel::Memory;
 use std::alloc::{AllocError, AllocFailed};
 use std::thread::SpawnError;

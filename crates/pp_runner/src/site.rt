@@ -1,5 +1,3 @@
-//! What the workers of a run share.
-
 use crate::spinning::Spinning;
 use pp_numbers::Limits;
 use std::alloc::Allocator;

@@ -1,5 +1,3 @@
-//! Which steps of a run are chosen.
-
 ghost use Rattle.std.specs.Prelude.{◌≡◌};
 ghost use Rattle.pp_machine.specs.MachineState.{MachineState};
 ghost use Rattle.pp_machine.specs.NeedAndEffect.{need};

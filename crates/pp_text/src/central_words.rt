@@ -1,5 +1,3 @@
-//! Central words, read by address.
-
 ghost use Rattle.std.specs.Prelude.{◌≡◌, slice_index};
 
 use pp_machine::Central;

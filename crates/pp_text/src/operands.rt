@@ -1,5 +1,3 @@
-//! The kinds of operands that instructions have.
-
 ghost use Rattle.std.specs.Prelude.{◌≡◌};
 ghost use Rattle.pp_word.specs.Opcode.{code_of};
 

@@ -1,5 +1,3 @@
-//! Why a report was not written.
-
 use thiserror::Error;
 
 /// Why the text of a report was not written. `Memory` comes before the first byte is written.
