@@ -16,22 +16,44 @@ use Rattle.pp_machine.proofs.machine.Machine.step_in_barrel.Goals.{in-Some+else-
 use Rattle.pp_machine.proofs.machine.Machine.step_in_barrel.Goals as goal
 
 pub step_internal-requires : goal.step_internal-requires
-step_internal-requires g c = grind (arith, own_processor)
+step_internal-requires g c =
+    let within : c.index-i.result < length c.self.inside.processors.items = omega (arith, c.index-i.ensures.below, c.self.invariant.processors) in
+    let read = own_processor c.args.n c.self.view_is c.index-i.ensures.place within c.index-2.ensures in
+    let lent = own_processor c.args.n c.self.view_is c.index-i.ensures.place within c.index_mut.ensures.value in
+    subst (λ (pp : Processor). IsNext (Some c.in-Some.op) c.next_instruction-next.result.1 pp) (read ∙ sym lent) (rw c.in-Some.is at c.next_instruction-next.ensures)
 
 pub invariant_of-self : goal.invariant_of-self
-invariant_of-self g c = grind (arith, with_processors, length-set)
+invariant_of-self g c =
+    with_processors _ (length-set c.self.inside.processors.items c.index-i.result c.step_internal.new.self) c.self.invariant
 
 pub returns-then-step_internal-clause-step : goal.returns-then-step_internal-clause-step
-returns-then-step_internal-clause-step g c = grind (arith, own_processor, taken_by, stepped_alone, outcome_alone)
+returns-then-step_internal-clause-step g c =
+    let own = own_processor c.args.n c.self.view_is c.index-i.ensures.place (omega (arith, c.index-i.ensures.below, c.self.invariant.processors)) c.index_mut.ensures.value in
+    let local : need (processor_of c.args.n c.args.self.now) ≡ Local = ap need (sym own) ∙ c.if-step_internal.ensures.local in
+    record {
+      ok = taken_by c.args.n answers.Local c.self.view_is c.index-i.ensures.place own c.if-step_internal.ensures.after c.count_turn-then-step_internal.ensures.turn ∙ sym (stepped_alone c.args.n c.args.self.now local);
+      outcome = sym (outcome_alone c.args.n c.args.self.now local (ap (λ pp. outcome pp answers.Local) (sym own) ∙ c.if-step_internal.ensures.moved));
+      unchanged_after_memory = tt;
+      no_event = λ none. refl;
+    }
 
 pub tests_flags-requires : goal.tests_flags-requires
-tests_flags-requires g c = grind (arith, own_processor, same_machine, length-set)
+tests_flags-requires g c =
+    let within : c.index-i.result < length c.self.inside.processors.items = omega (arith, c.index-i.ensures.below, c.self.invariant.processors) in
+    let read = own_processor c.args.n c.self.view_is c.index-i.ensures.place within c.index-2.ensures in
+    let again = own_processor c.args.n (same_machine c.index-i.result c.self.view_is c.index_mut.ensures.value c.if-step_internal.ensures.otherwise) c.index-i.ensures.place
+    (subst (λ k. c.index-i.result < k) (sym (length-set c.self.inside.processors.items c.index-i.result c.step_internal.new.self)) within) c.index-in-Some.ensures in
+    subst (λ (pp : Processor). IsNext (Some c.in-Some.op) c.next_instruction-next.result.1 pp) (read ∙ sym again) (rw c.in-Some.is at c.next_instruction-next.ensures)
 
 pub invariant_of-self-then-tests_flags : goal.invariant_of-self-then-tests_flags
-invariant_of-self-then-tests_flags g c = grind (arith, with_processors, length-set)
+invariant_of-self-then-tests_flags g c =
+    with_processors _ (length-set c.self.inside.processors.items c.index-i.result c.step_internal.new.self) c.self.invariant
 
 pub test_flags-requires-clause-next : goal.test_flags-requires-clause-next
-test_flags-requires-clause-next g c = grind (arith, own_processor, same_machine)
+test_flags-requires-clause-next g c =
+    let read = own_processor c.args.n c.self.view_is c.index-i.ensures.place (omega (arith, c.index-i.ensures.below, c.self.invariant.processors)) c.index-2.ensures in
+    subst (λ (m : MachineState). IsNext (Some c.in-Some.op) c.next_instruction-next.result.1 (processor_of c.args.n m)) (sym (same_machine c.index-i.result c.self.view_is c.index_mut.ensures.value c.if-step_internal.ensures.otherwise))
+    (subst (λ (pp : Processor). IsNext (Some c.in-Some.op) c.next_instruction-next.result.1 pp) read (rw c.in-Some.is at c.next_instruction-next.ensures))
 
 pub test_flags-requires-clause-probes : goal.test_flags-requires-clause-probes
 test_flags-requires-clause-probes g c =
@@ -44,13 +66,32 @@ test_flags-requires-clause-probes g c =
     ap (λ (m : MachineState). need (processor_of c.args.n m)) same ∙ (ap need (sym again) ∙ c.if-tests_flags.ensures ∙ ap (λ p. if has_channel p c.next_instruction-next.result.1 then Channel c.next_instruction-next.result.1 Probe else Local) (ap (λ (pp : Processor). pp.profile) (again ∙ sym once_more) ∙ sym c.profile-profile.ensures))
 
 pub returns-then-tests_flags-clause-step : goal.returns-then-tests_flags-clause-step
-returns-then-tests_flags-clause-step g c = grind (arith, same_machine)
+returns-then-tests_flags-clause-step g c =
+    let same = same_machine c.index-i.result c.self.view_is c.index_mut.ensures.value c.if-step_internal.ensures.otherwise in
+    record {
+      ok = c.test_flags.ensures.stepped ∙ ap (stepped c.args.n) same;
+      outcome = sym c.test_flags.ensures.outcome ∙ ap (step_outcome c.args.n) same;
+      unchanged_after_memory = tt;
+      no_event = λ none. refl;
+    }
 
 pub invariant_of-self-else-tests_flags : goal.invariant_of-self-else-tests_flags
-invariant_of-self-else-tests_flags g c = grind (arith, with_processors, length-set)
+invariant_of-self-else-tests_flags g c =
+    with_processors _ (length-set c.self.inside.processors.items c.index-i.result c.step_internal.new.self) c.self.invariant
 
 pub step_external-requires : goal.step_external-requires
-step_external-requires g c = grind (arith, own_processor, in-Some+else-step_internal+else-tests_flags, same_machine, in_default)
+step_external-requires g c =
+    let read = own_processor c.args.n c.self.view_is c.index-i.ensures.place (omega (arith, c.index-i.ensures.below, c.self.invariant.processors)) c.index-2.ensures in
+    let same : c.match-next.self ≡ c.args.self.now = elim c.match-next.branch [
+      | in-Some+else-step_internal+else-tests_flags w ↦ w.self-is ∙ same_machine c.index-i.result c.self.view_is w.index_mut.ensures.value w.if-step_internal.ensures.otherwise
+      | in_default-next w ↦ w.self-is
+    ] in
+    subst (λ (pp : Processor). IsNext c.next_instruction-next.result.0 c.next_instruction-next.result.1 pp) (read ∙ ap (processor_of c.args.n) (sym same)) c.next_instruction-next.ensures
 
 pub returns-clause-step : goal.returns-clause-step
-returns-clause-step g c = grind (arith, in-Some+else-step_internal+else-tests_flags, same_machine, in_default)
+returns-clause-step g c =
+    let same : c.match-next.self ≡ c.args.self.now = elim c.match-next.branch [
+      | in-Some+else-step_internal+else-tests_flags w ↦ w.self-is ∙ same_machine c.index-i.result c.self.view_is w.index_mut.ensures.value w.if-step_internal.ensures.otherwise
+      | in_default-next w ↦ w.self-is
+    ] in
+    subst (λ (m : MachineState). IsStep c.args.n c.step_external.result m c.step_external.new.self) same c.step_external.ensures.step
