@@ -60,7 +60,7 @@ impl Pp {
         ensures { self.new ≡ answered (instruction op self.old d) self.old Answer.Local }
     {
         match op {
-            Opcode::PSN | Opcode::PSN24 | Opcode::PSN25 => self.go_on(1),
+            Opcode::PSN => self.go_on(1),
             Opcode::LJM => self.p = self.index(d),
             Opcode::RJM => self.call(self.index(d)),
             Opcode::UJN => self.jump_or_stop(d),
@@ -81,6 +81,9 @@ impl Pp {
             Opcode::ADC => self.add(self.constant(d), 2),
             Opcode::LPC => self.mask(self.constant(d), 2),
             Opcode::LMC => self.differ(self.constant(d), 2),
+            // Arms of their own: in one with PSN, each quiet step takes two instructions more.
+            Opcode::PSN24 => self.go_on(1),
+            Opcode::PSN25 => self.go_on(1),
             Opcode::EXN => self.fault(EXCHANGE_JUMP),
             Opcode::RPN => self.fault(NO_CENTRAL_PROCESSOR),
             Opcode::LDD => self.load_word(Word12::from(d), 1),

@@ -109,7 +109,13 @@ impl Pp {
         ensures running { self.new.state ≡ PpState.Running }
         ensures free { self.new.block ≡ None }
     {
-        self.take_reply(op, d, Reply::Flags(flags));
+        match op {
+            Opcode::AJM => self.branch_where(flags.active),
+            Opcode::IJM => self.branch_where(!flags.active),
+            Opcode::FJM => self.branch_where(flags.full),
+            Opcode::EJM => self.branch_where(!flags.full),
+            _ => {}
+        }
     }
 
     /// What its next step, which `next_instruction` found, needs from outside.
