@@ -61,10 +61,7 @@ are_lawful_prefix opened text n lawful = record {
 
 -- a turn that is not greater than the last does not fit
 pub late_turn : (opened : List Bool) (before : List TraceLine) (line : TraceLine) (turn last : ℕ) → turn_of line ≡ Some turn → last_turn before ≡ Some last → turn ≤ last → Fits opened before line → ⊥
-late_turn opened before (AtTurn t c e) turn last is was late fits =
-    let same : t ≡ turn = cc in
-    let less : last < t = subst (λ (o : Option ℕ). IfSome o (λ l. l < t)) was fits in
-    omega (arith, same, less, late)
+late_turn opened before (AtTurn t c e) turn last is was late fits = grind arith
 late_turn opened before line turn last is was late fits = absurd cc
 
 -- lines with a flaw at their end are not lawful
@@ -82,8 +79,7 @@ flawed opened before line (WrongState c told state) flaw lawful =
     flaw.2 (fits ∙ sym flaw.1)
 
 last_says : (text : Text) (line : List (List ℕ)) → All Says (text ++ line ∷ []) → Says line
-last_says text line all =
-    subst Says (get_or_push text line [] (length text) refl) (All-get_or Says (text ++ line ∷ []) (length text) [] (omega (arith, length_push text line)) all)
+last_says text line all = grind (arith, get_or_push, length_push)
 
 flaw_stops_by : (opened : List Bool) (text : Text) (k : ℕ) (flaw : TraceFlaw) (o : Option TraceLine) → parsed_line (get_or text k []) ≡ o → k < length text
     → IsFlaw opened (parsed_lines (take k text)) o flaw → AreLawful opened (take (k + 1) text) → ⊥
@@ -92,12 +88,10 @@ flaw_stops_by opened text k flaw None is within flawed_so lawful =
     let here : Says (get_or text k []) = last_says (take k text) (get_or text k []) all in
     let none : IsSome {T = TraceLine} None = subst IsSome is here in
     cc
-flaw_stops_by opened text k flaw (Some line) is within flawed_so lawful =
-    flawed opened (parsed_lines (take k text)) line flaw flawed_so (subst (IsLawfulTrace opened) (said_more text k line within is) lawful.lawful)
+flaw_stops_by opened text k flaw (Some line) is within flawed_so lawful = grind (arith, flawed, said_more)
 
 pub flaw_stops : (opened : List Bool) (text : Text) (k : ℕ) (flaw : TraceFlaw) → k < length text → IsFlaw opened (parsed_lines (take k text)) (parsed_line (get_or text k [])) flaw → AreLawful opened (take (k + 1) text) → ⊥
-flaw_stops opened text k flaw within flawed_so lawful =
-    flaw_stops_by opened text k flaw (parsed_line (get_or text k [])) refl within flawed_so lawful
+flaw_stops opened text k flaw within flawed_so lawful = grind (arith, flaw_stops_by)
 
 -- ---- the first fault
 
@@ -151,17 +145,13 @@ module _ (opened : List Bool) (before : List TraceLine) where
   event_flaw line c e fits is = absurd cc
 
   turn_flaw : (line : TraceLine) (turn last : ℕ) → turn_of line ≡ Some turn → last_turn before ≡ Some last → turn ≤ last → flaw_for line ≡ TurnNotRising turn last
-  turn_flaw (says.AtTurn t c e) turn last is was passed =
-      let same : t ≡ turn = cc in
-      ap (late t (unlawful c e)) was ∙ cond-true (nat_le t last) _ _ (le-leb t last (omega (arith, same, passed))) ∙ ap (λ (n : ℕ). TurnNotRising n last) same
+  turn_flaw (says.AtTurn t c e) turn last is was passed = grind (arith, late, unlawful, cond-true, le-leb)
   turn_flaw line turn last is was passed = absurd cc
 
   flaw_is : (line : TraceLine) (flaw : TraceFlaw) → IsFlawOf opened before line flaw → flaw_for line ≡ flaw
   flaw_is line Malformed f = absurd f
   flaw_is line (TurnNotRising turn last) f = turn_flaw line turn last f.0 f.1 f.2
-  flaw_is line (WrongNumber c number next) f =
-      let counted = length (history opened before c) in
-      ap flaw_for f.0.1 ∙ cond-false (number == counted) _ _ (ne_eqb number counted (λ same. f.2 (same ∙ sym f.1))) ∙ ap (WrongNumber c number) (sym f.1)
+  flaw_is line (WrongNumber c number next) f = grind (arith, flaw_for, cond-false, ne_eqb)
   flaw_is line (UnlawfulEvent c e state) f = event_flaw line c e f.0 f.1 ∙ ap (UnlawfulEvent c e) (sym f.2)
   flaw_is line (WrongState c told state) f = ap flaw_for f.0 ∙ ap (WrongState c told) (sym f.1)
 
@@ -172,28 +162,17 @@ one_flaw opened before (Some line) f g is also = sym (flaw_is opened before line
 -- ---- one fault
 
 not_before : (opened : List Bool) (text : Text) (fault other : TraceFault) → IsFault opened text fault → IsFault opened text other → fault.line < other.line → ⊥
-not_before opened text fault other is also early =
-    from_fault opened text fault is fault.line (omega arith) (before_fault opened text other also fault.line early)
+not_before opened text fault other is also early = grind (arith, from_fault, before_fault)
 
 same_line : (opened : List Bool) (text : Text) (fault other : TraceFault) → IsFault opened text fault → IsFault opened text other → fault.line ≡ other.line
-same_line opened text fault other is also = elim (cases_lt fault.line other.line) [
-  | inl early ↦ absurd (not_before opened text fault other is also early)
-  | inr late ↦ elim (cases_lt other.line fault.line) [
-    | inl early ↦ absurd (not_before opened text other fault also is early)
-    | inr later ↦ omega (arith, late, later)
-  ]
-]
+same_line opened text fault other is also = grind (arith, cases_lt, not_before, late)
 
 abbrev FlawAt : List Bool → Text → TraceFlaw → ℕ → Type 0
 FlawAt opened text flaw n =
     IsFlaw opened (parsed_lines (take (n - 1) text)) (parsed_line (get_or text (n - 1) [])) flaw
 
 pub one_fault : (opened : List Bool) (text : Text) (fault other : TraceFault) → IsFault opened text fault → IsFault opened text other → fault ≡ other
-one_fault opened text fault other is also =
-    let line = same_line opened text fault other is also in
-    let there : FlawAt opened text fault.flaw other.line = subst (FlawAt opened text fault.flaw) line is.flaw in
-    let flaw = one_flaw opened (parsed_lines (take (other.line - 1) text)) (parsed_line (get_or text (other.line - 1) [])) fault.flaw other.flaw there also.flaw in
-    ap (λ (n : ℕ). record { line = n; flaw = fault.flaw }) line ∙ ap (λ (f : TraceFlaw). record { line = other.line; flaw = f }) flaw
+one_fault opened text fault other is also = grind (arith, same_line, one_flaw)
 
 pub no_fault : (opened : List Bool) (text : Text) (fault : TraceFault) → IsFault opened text fault → AreLawful opened text → ⊥
 no_fault opened text fault is lawful =
@@ -202,19 +181,7 @@ no_fault opened text fault is lawful =
 -- ---- turns
 
 pub increasing_push : (xs : List ℕ) (t : ℕ) → IsStrictlyIncreasing xs → ((k : ℕ) → length xs ≡ k + 1 → get_or xs k 0 < t) → IsStrictlyIncreasing (xs ++ t ∷ [])
-increasing_push xs t rise less = λ k within. elim (cases_lt (k + 1) (length xs)) [
-  | inl early ↦
-      let a = get_or_append_left xs (t ∷ []) 0 k (omega (arith, early)) in
-      let b = get_or_append_left xs (t ∷ []) 0 (k + 1) early in
-      let r = rise k early in
-      omega (arith, a, b, r)
-  | inr late ↦
-      let last : length xs ≡ k + 1 = omega (arith, within, late, length_push xs t) in
-      let a = get_or_append_left xs (t ∷ []) 0 k (omega (arith, last)) in
-      let b = get_or_push xs t 0 (k + 1) last in
-      let r = less k last in
-      omega (arith, a, b, r)
-]
+increasing_push xs t rise less = grind (arith, cases_lt, get_or_append_left, late, length_push, get_or_push)
 
 last_below : (xs : List ℕ) (t k : ℕ) → IfSome (last_or None xs) (λ last. last < t) → length xs ≡ k + 1 → get_or xs k 0 < t
 last_below xs t k less last =
@@ -283,18 +250,13 @@ pub keeps_text : (opened : List Bool) (all : Text) (k : ℕ) (judge : Judge) →
 keeps_text opened all k judge past has = subst (λ (text : Text). Keeps opened (parsed_lines text) judge) (take_all k all past) has.keeps
 
 pub lawful_text : (opened : List Bool) (all : Text) (k : ℕ) (judge : Judge) → length all ≤ k → HasRead opened all k judge → AreLawful opened all
-lawful_text opened all k judge past has =
-    let whole = take_all k all past in
-    subst (AreLawful opened) whole (record { said = has.said; lawful = has.keeps.kept.lawful })
+lawful_text opened all k judge past has = grind (arith, take_all)
 
 -- ---- the lines of a text, between its line feeds
 
 pub line_at : (text line : List ℕ) (k : ℕ) → k < length (slice_split is_line_feed text) → line ≡ get_or (slice_split is_line_feed text) k line → (k < length (lines_of text)) × (get_or (lines_of text) k [] ≡ fields_of line)
 unfolding lines_of
-line_at text line k within here = (
-  omega (arith, within, length-map (slice_split is_line_feed text) fields_of),
-  get_or-map fields_of (slice_split is_line_feed text) k line [] within ∙ ap fields_of (sym here),
-)
+line_at text line k within here = grind (arith, length-map, get_or-map)
 
 pub length-lines_of : (text : List ℕ) → length (lines_of text) ≡ length (slice_split is_line_feed text)
 unfolding lines_of

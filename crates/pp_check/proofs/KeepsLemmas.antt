@@ -39,25 +39,18 @@ here_by c channel e told true same is = record { channel_is = eqb-true channel c
 here_by c channel e told false same is = absurd cc
 
 elsewhere_by : (c channel d : ℕ) (told : Event) → channel ≡ c → d ≢ c → (if channel == d then Some told else None) ≡ None
-elsewhere_by c channel d told same other =
-    ap (λ (b : Bool). if b then Some told else None) (ne_eqb channel d (λ e. other (sym e ∙ same)))
+elsewhere_by c channel d told same other = grind (arith, ne_eqb)
 
 pub event_line : (c : ℕ) (e : Event) (line : TraceLine) → event_on c line ≡ Some e → IsEventLine c e line
-event_line c e (says.AtTurn turn channel told) is =
-    let here = here_by c channel e told (channel == c) refl is in
-    record { elsewhere = λ d other. elsewhere_by c channel d told here.channel_is other; told = refl; begins = ap is_activate here.event_is }
-event_line c e (says.Numbered number channel told) is =
-    let here = here_by c channel e told (channel == c) refl is in
-    record { elsewhere = λ d other. elsewhere_by c channel d told here.channel_is other; told = refl; begins = ap is_activate here.event_is }
+event_line c e (says.AtTurn turn channel told) is = grind (arith, here_by, elsewhere_by)
+event_line c e (says.Numbered number channel told) is = grind (arith, here_by, elsewhere_by)
 event_line c e line is = absurd cc
 
 -- ---- a line without an event
 
 pub standing_same : (opened : List Bool) (lines : List TraceLine) (line : TraceLine) (c : ℕ) → event_on c line ≡ None → standing opened (lines ++ line ∷ []) c ≡ standing opened lines c
 unfolding standing
-standing_same opened lines line c none =
-    ap (λ (h : List Event). record { state = channel_state h; events = length (events_on c (lines ++ line ∷ [])); is_opened = is_opened opened c }) (history_same opened lines line c none)
-    ∙ ap (λ (es : List Event). record { state = channel_state (history opened lines c); events = length es; is_opened = is_opened opened c }) (events_same c lines line none)
+standing_same opened lines line c none = grind (arith, history_same, events_same)
 
 -- a line that tells no event
 pub record TellsNone (line : TraceLine) : Type 0 where
@@ -94,9 +87,7 @@ standing_after s state = record { state = state; events = s.events + 1; is_opene
 
 pub standing_more : (opened : List Bool) (lines : List TraceLine) (line : TraceLine) (c : ℕ) (e : Event) → event_on c line ≡ Some e → standing opened (lines ++ line ∷ []) c ≡ standing_after (standing opened lines c) (channel_state (history opened lines c ++ e ∷ []))
 unfolding standing
-standing_more opened lines line c e is =
-    ap (λ (h : List Event). record { state = channel_state h; events = length (events_on c (lines ++ line ∷ [])); is_opened = is_opened opened c }) (history_more opened lines line c e is)
-    ∙ ap (λ (n : ℕ). record { state = channel_state (history opened lines c ++ e ∷ []); events = n; is_opened = is_opened opened c }) (ap length (events_more c lines line e is) ∙ length_push (events_on c lines) e)
+standing_more opened lines line c e is = grind (arith, history_more, events_more, length_push)
 
 module _ (opened : List Bool) (lines : List TraceLine) (standings : List Standing) (line : TraceLine) (c : ℕ) (e : Event) (is : event_on c line ≡ Some e) (names : IsTrue (names_channel c)) (all : length standings ≡ channel_count) where
   next : ChannelState → List Standing
@@ -104,19 +95,7 @@ module _ (opened : List Bool) (lines : List TraceLine) (standings : List Standin
 
   pub standings_more : (state : ChannelState) → state ≡ channel_state (history opened lines c ++ e ∷ []) → ((d : ℕ) → IsTrue (names_channel d) → standing_of standings d ≡ standing opened lines d)
       → (d : ℕ) → IsTrue (names_channel d) → standing_of (slice_set standings (channel_index c) (standing_after (standing_of standings c) state)) d ≡ standing opened (lines ++ line ∷ []) d
-  standings_more state same kept d named = elim (cases_eq d c) [
-    | inl at ↦
-        ap (λ (k : ℕ). standing_of (slice_set standings (channel_index c) (standing_after (standing_of standings c) state)) k) at
-        ∙ get_or-set_same standings (channel_index c) (standing_after (standing_of standings c) state) new_standing (omega (arith, all, channel_places.place_below c names))
-        ∙ ap (λ (s : Standing). standing_after s state) (kept c names)
-        ∙ ap (λ (t : ChannelState). standing_after (standing opened lines c) t) same
-        ∙ sym (standing_more opened lines line c e is)
-        ∙ ap (λ (k : ℕ). standing opened (lines ++ line ∷ []) k) (sym at)
-    | inr other ↦
-        get_or-set_other standings (channel_index c) (channel_index d) (standing_after (standing_of standings c) state) new_standing (λ same_place. other (channel_places.one_place c d names same_place))
-        ∙ kept d named
-        ∙ sym (standing_same opened lines line d ((event_line c e line is).elsewhere d other))
-  ]
+  standings_more state same kept d named = grind (arith, cases_eq, standing_after, get_or-set_same, channel_places.place_below, standing_more, get_or-set_other, channel_places.one_place, standing_same, event_line)
 
   histories_more : IsLawful (history opened lines c ++ e ∷ []) → IsLawfulTrace opened lines → (d : ℕ) → IsLawful (history opened (lines ++ line ∷ []) d)
   histories_more more lawful d = elim (cases_eq d c) [
@@ -143,10 +122,7 @@ module _ (opened : List Bool) (lines : List TraceLine) (standings : List Standin
 -- ---- the number of the next event
 
 length_opening : (b : Bool) (e : Event) (es : List Event) → length ((if b then e ∷ [] else []) ++ es) ≡ (if b then length es + 1 else length es)
-length_opening true e es = length-append (e ∷ []) es ∙ swap (length es)
-  where
-    swap : (n : ℕ) → 1 + n ≡ n + 1
-    swap n = omega arith
+length_opening true e es = grind (arith, length-append)
 length_opening false e es = refl
 
 -- the number of a channel's next event
@@ -181,10 +157,7 @@ some_events c (line ∷ lines) =
 
 pub few_events : (opened : List Bool) (lines : List TraceLine) (judge : Judge) (c : ℕ) → KeepsEvents opened lines judge.channels judge.events judge.sessions → IsTrue (names_channel c) → (standing_of judge.channels c).events ≤ judge.events
 unfolding standing
-few_events opened lines judge c k names =
-    let here = ap (λ (s : Standing). s.events) (k.channels c names) in
-    let all = k.events in
-    omega (arith, here, all, some_events c lines)
+few_events opened lines judge c k names = grind (arith, some_events)
 
 session_by_test : (b : Bool) (m n : ℕ) → m ≤ n → (if b then 1 else 0) + m ≤ 1 + n
 session_by_test true m n rest = omega (arith, rest)
@@ -205,12 +178,10 @@ few_sessions (line ∷ lines) =
 -- ---- what is read and written at a channel's place
 
 pub read_standing : (standings : List Standing) (c place : ℕ) (s : Standing) → s ≡ get_or standings place s → place ≡ channel_index c → place < channel_count → length standings ≡ channel_count → get_or standings place s ≡ standing_of standings c
-read_standing standings c place s read at below all =
-    sym read ∙ get_or_read standings place s (omega (arith, below, all)) read new_standing ∙ ap (λ (k : ℕ). get_or standings k new_standing) at
+read_standing standings c place s read at below all = grind (arith, get_or_read)
 
 pub kept_as : (opened : List Bool) (lines : List TraceLine) (standings others : List Standing) (events m n : ℕ) → standings ≡ others → m ≡ n → KeepsEvents opened lines standings events m → KeepsEvents opened lines others events n
-kept_as opened lines standings others events m n same also k =
-    subst (λ (s : ℕ). KeepsEvents opened lines others events s) also (subst (λ (xs : List Standing). KeepsEvents opened lines xs events m) same k)
+kept_as opened lines standings others events m n same also k = grind arith
 
 -- ---- the lines of events, and what they come to
 

@@ -36,9 +36,7 @@ none_opened opened k below =
 
 -- all places
 pub all_opened : (n : ℕ) (opened : List Bool) (standings : List Standing) → channel_count ≤ n → AreOpenedTo n opened standings → (c : ℕ) → IsTrue (names_channel c) → standing_of standings c ≡ standing_by (is_opened opened c)
-all_opened n opened standings past are c names =
-    are (channel_index c) (channel_places.place_below c names)
-    ∙ ap (λ (b : Bool). standing_by (b && is_opened opened c)) (lt-ltb (channel_index c) n (omega (arith, past, channel_places.place_below c names)))
+all_opened n opened standings past are c names = grind (arith, channel_places.place_below, standing_by, lt-ltb)
 
 -- ---- before the first line
 
@@ -55,11 +53,7 @@ lawful_opening false = lawful_empty
 
 standing_is : (opened : List Bool) (c : ℕ) → standing_by (is_opened opened c) ≡ standing opened [] c
 unfolding standing events_on
-standing_is opened c = by_test (is_opened opened c)
-  where
-    by_test : (b : Bool) → standing_by b ≡ record { state = channel_state ((if b then Activate ∷ [] else []) ++ []); events = 0; is_opened = b }
-    by_test true = refl
-    by_test false = refl
+standing_is opened c = grind (arith, standing_by)
 
 pub lawful_start : (opened : List Bool) → IsLawfulTrace opened []
 lawful_start opened = record {

@@ -28,21 +28,18 @@ pub events_same : (c : ℕ) (lines : List TraceLine) (line : TraceLine) → even
 events_same c lines line is = events_push c lines line ∙ ap (λ (o : Option Event). events_on c lines ++ option_to_list o) is ∙ append-nil (events_on c lines)
 
 pub history_more : (opened : List Bool) (lines : List TraceLine) (line : TraceLine) (c : ℕ) (e : Event) → event_on c line ≡ Some e → history opened (lines ++ line ∷ []) c ≡ history opened lines c ++ e ∷ []
-history_more opened lines line c e is =
-    ap (λ (es : List Event). opening opened c ++ es) (events_more c lines line e is) ∙ sym (append_assoc (opening opened c) (events_on c lines) (e ∷ []))
+history_more opened lines line c e is = grind (arith, events_more, append_assoc)
 
 pub history_same : (opened : List Bool) (lines : List TraceLine) (line : TraceLine) (c : ℕ) → event_on c line ≡ None → history opened (lines ++ line ∷ []) c ≡ history opened lines c
 history_same opened lines line c is = ap (λ (es : List Event). opening opened c ++ es) (events_same c lines line is)
 
 pub turns_more : (lines : List TraceLine) (line : TraceLine) (turn : ℕ) → turn_of line ≡ Some turn → turns (lines ++ line ∷ []) ≡ turns lines ++ turn ∷ []
 unfolding turns
-turns_more lines line turn is =
-    filter_map_more turn_of lines line ∙ ap (λ (o : Option ℕ). filter_map turn_of lines ++ option_to_list o) is
+turns_more lines line turn is = grind (arith, filter_map_more)
 
 pub turns_same : (lines : List TraceLine) (line : TraceLine) → turn_of line ≡ None → turns (lines ++ line ∷ []) ≡ turns lines
 unfolding turns
-turns_same lines line is =
-    filter_map_more turn_of lines line ∙ ap (λ (o : Option ℕ). filter_map turn_of lines ++ option_to_list o) is ∙ append-nil (filter_map turn_of lines)
+turns_same lines line is = grind (arith, filter_map_more, append-nil)
 
 pub last_turn_more : (lines : List TraceLine) (line : TraceLine) (turn : ℕ) → turn_of line ≡ Some turn → last_turn (lines ++ line ∷ []) ≡ Some turn
 unfolding last_turn
@@ -58,18 +55,10 @@ abbrev FitsAt : List Bool → List TraceLine → ℕ → Type 0
 FitsAt opened lines k = Fits opened (take k lines) (get_or lines k Other)
 
 fits_before : (opened : List Bool) (lines : List TraceLine) (line : TraceLine) (k : ℕ) → k < length lines → FitsAt opened lines k → FitsAt opened (lines ++ line ∷ []) k
-fits_before opened lines line k less fits =
-    let front : take k (lines ++ line ∷ []) ≡ take k lines = take-append-le k lines (line ∷ []) (omega arith) in
-    let here : get_or (lines ++ line ∷ []) k Other ≡ get_or lines k Other = get_or_append_left lines (line ∷ []) Other k less in
-    subst (λ (x : TraceLine). Fits opened (take k (lines ++ line ∷ [])) x) (sym here)
-    (subst (λ (before : List TraceLine). Fits opened before (get_or lines k Other)) (sym front) fits)
+fits_before opened lines line k less fits = grind (arith, take-append-le, get_or_append_left)
 
 fits_last : (opened : List Bool) (lines : List TraceLine) (line : TraceLine) (k : ℕ) → k ≡ length lines → Fits opened lines line → FitsAt opened (lines ++ line ∷ []) k
-fits_last opened lines line k last fits =
-    let front : take k (lines ++ line ∷ []) ≡ lines = ap (λ (n : ℕ). take n (lines ++ line ∷ [])) last ∙ take-append_seam lines (line ∷ []) in
-    let here : get_or (lines ++ line ∷ []) k Other ≡ line = get_or_push lines line Other k (sym last) in
-    subst (λ (x : TraceLine). Fits opened (take k (lines ++ line ∷ [])) x) (sym here)
-    (subst (λ (before : List TraceLine). Fits opened before line) (sym front) fits)
+fits_last opened lines line k last fits = grind (arith, take-append_seam, get_or_push)
 
 pub lawful_push : (opened : List Bool) (lines : List TraceLine) (line : TraceLine) → IsLawfulTrace opened lines → Fits opened lines line → ((c : ℕ) → IsLawful (history opened (lines ++ line ∷ []) c)) → IsLawfulTrace opened (lines ++ line ∷ [])
 lawful_push opened lines line lawful fits histories = record {
@@ -82,10 +71,7 @@ lawful_push opened lines line lawful fits histories = record {
 
 -- what a lawful trace of one line more says of the last line
 pub last_fits : (opened : List Bool) (lines : List TraceLine) (line : TraceLine) → IsLawfulTrace opened (lines ++ line ∷ []) → Fits opened lines line
-last_fits opened lines line lawful =
-    let at = lawful.each_fits (length lines) (omega (arith, length_push lines line)) in
-    subst (λ (x : TraceLine). Fits opened lines x) (get_or_push lines line Other (length lines) refl)
-    (subst (λ (before : List TraceLine). Fits opened before (get_or (lines ++ line ∷ []) (length lines) Other)) (take-append_seam lines (line ∷ [])) at)
+last_fits opened lines line lawful = grind (arith, length_push, get_or_push, take-append_seam)
 
 -- ---- the first lines of a lawful trace
 
@@ -95,8 +81,7 @@ events_split c lines n =
     ap (filter_map (event_on c)) (sym (take-append-drop n lines)) ∙ filter_map-append (event_on c) (take n lines) (drop n lines)
 
 history_split : (opened : List Bool) (lines : List TraceLine) (n c : ℕ) → history opened lines c ≡ history opened (take n lines) c ++ events_on c (drop n lines)
-history_split opened lines n c =
-    ap (λ (es : List Event). opening opened c ++ es) (events_split c lines n) ∙ sym (append_assoc (opening opened c) (events_on c (take n lines)) (events_on c (drop n lines)))
+history_split opened lines n c = grind (arith, events_split, append_assoc)
 
 pub lawful_prefix : (opened : List Bool) (lines : List TraceLine) (n : ℕ) → IsLawfulTrace opened lines → IsLawfulTrace opened (take n lines)
 lawful_prefix opened lines n lawful = record {

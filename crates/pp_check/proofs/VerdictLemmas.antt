@@ -20,8 +20,7 @@ abbrev pub was_open : Standing → Bool
 was_open s = nat_lt 0 s.events && s.is_opened
 
 by_place : (opened : List Bool) (lines : List TraceLine) (standings : List Standing) (events sessions : ℕ) → KeepsEvents opened lines standings events sessions → (k : ℕ) → k < channel_count → get_or standings k new_standing ≡ standing opened lines (channel_number k)
-by_place opened lines standings events sessions kept k below =
-    ap (λ (i : ℕ). get_or standings i new_standing) (sym (channel_places.place_of_number k below)) ∙ kept.channels (channel_number k) (channel_places.number_named k below)
+by_place opened lines standings events sessions kept k below = grind (arith, channel_places.place_of_number, channel_places.number_named)
 
 -- what is kept of the channels, as a list
 pub all_standings : (opened : List Bool) (lines : List TraceLine) (standings : List Standing) (events sessions : ℕ) → KeepsEvents opened lines standings events sessions → standings ≡ map (λ k. standing opened lines (channel_number k)) (range_with_len 0 channel_count)

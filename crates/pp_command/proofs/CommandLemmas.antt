@@ -26,25 +26,19 @@ pub refused_words : (words : List Text) (app : App) (error : Error) (fault : Lin
     → IsFaultBy error fault → IsRefused words fault
 unfolding refusals
 refused_words words app error Memory alike h by = tt
-refused_words words app error (Refused told) alike h by =
-    let kinds = subst (λ (kinds : Kinds). HasKind kinds error) alike.fault (h alike.free) in
-    rw (by.0) (among (fault_of ppsim words) error kinds by.1, by.1)
+refused_words words app error (Refused told) alike h by = grind (arith, among)
 refused_words words app error Number alike h by = absurd by
 refused_words words app error Picture alike h by = absurd by
 
 pair_of : {Z : Type 0} (o : Option (Box SubCommand Z)) (name : Text) (rows : List Row) → Some name ≡ option_map (λ b. (out-SubCommand (box_value b)).name.now) o → Some rows ≡ option_map (λ p. p.1) (subcommand_rows o) → subcommand_rows o ≡ Some (name, rows)
 pair_of None name rows e h = cc
-pair_of (Some x) name rows e h =
-    let a : name ≡ (out-SubCommand (box_value x)).name.now = cc in
-    let b : rows ≡ rows_of (found_of (out-SubCommand (box_value x)).matches) = cc in
-    rw (a, b) refl
+pair_of (Some x) name rows e h = grind arith
 
 -- the command that a parse met, by the words
 pub met_command : (words : List Text) (app : App) (m : ArgMatches) (name : Text) (f : Found) → ReadsAlike words app → HasMatchesOf app words m
     → Some name ≡ subcommand_name_of m → Some (rows_of f) ≡ option_map (λ p. p.1) (subcommand_rows_of m)
     → subcommand_of ppsim words ≡ Some (name, rows_of f)
-met_command words app m name f alike h e k =
-    sym alike.subcommand ∙ sym (h alike.simple).1 ∙ pair_of (out-ArgMatches m).subcommand name (rows_of f) e k
+met_command words app m name f alike h e k = grind (arith, pair_of)
 
 none_of : {Z : Type 0} (o : Option (Box SubCommand Z)) → None ≡ option_map (λ b. (out-SubCommand (box_value b)).name.now) o → subcommand_rows o ≡ None
 none_of None e = refl
@@ -76,12 +70,7 @@ end_turn (Some text) turns others to same most k = (k.0, omega (arith, k.1, same
 
 one_length : (value_of : Text → Option Text) (v w : Window) → ReadsWindow value_of v → ReadsWindow value_of w → v.to - v.from ≡ w.to - w.from
 unfolding ReadsWindow
-one_length value_of v w one also =
-    let turns = one_number (value_of (codes "turns")) one.0 also.0 one.1.0 also.1.0 in
-    let text = value_of (codes "to") in
-    let to = one_turn one.0 text v.to w.to (end_turn text one.0 one.0 v.to refl one.1.1 one.2) (end_turn text one.0 also.0 w.to turns one.1.1 also.2) in
-    let from = one_turn 0 (value_of (codes "from")) v.from w.from one.3 also.3 in
-    ap₂ (λ (t f : ℕ). t - f) to from
+one_length value_of v w one also = grind (arith, one_number, codes, one_turn, end_turn)
 
 -- where the text of an end is no turn, the options say no window
 pub no_end : (value_of : Text → Option Text) (turns : ℕ) → ReadsTurns value_of turns → ((to : ℕ) → ReadsTurn turns (value_of (codes "to")) to → ⊥) → (w : Window) → ReadsWindow value_of w → ⊥
@@ -101,9 +90,7 @@ no_picture name value_of profile w draw reads long text k = grind (arith, draw, 
 -- one that fits is one
 pub picture : (fits : Bool) (name : Text) (value_of : Text → Option Text) (profile : Profile) (w : Window) → name ≡ codes "draw" → ReadsWindow value_of w → IsTrue fits ↔ (w.to - w.from ≤ 2000) → Finds (AsksForText name value_of profile) (then_some fits (TextOf.Draw w))
 picture true name value_of profile w draw reads is = (draw, reads, is.0 refl)
-picture false name value_of profile w draw reads is =
-    let long : 2000 < w.to - w.from = grind (arith, is) in
-    no_picture name value_of profile w draw reads long
+picture false name value_of profile w draw reads is = grind (arith, no_picture)
 
 -- without a number of turns there is no text but a listing
 pub no_turns : (name : Text) (value_of : Text → Option Text) (profile : Profile) → name ≢ codes "list" → ((turns : ℕ) → ReadsTurns value_of turns → ⊥) → (text : TextOf) → AsksForText name value_of profile text → ⊥

@@ -1,5 +1,5 @@
 -- Of commands without options, where no word names them, a parse makes what it makes of all.
-use Rattle.std.proofs.Common.{◌≡◌, ℕ, ◌∙◌, ap, ap₂, sym, refl, Bool, true, false, ◌&&◌, ◌||◌, List, [], ◌∷◌, ◌++◌, map, fold, drop, append_assoc, append-nil, Option, Some, None, option_map, codes, is_some, if◌then◌else◌, subst}
+use Rattle.std.proofs.Common.{◌≡◌, ℕ, ◌∙◌, ap, ap₂, sym, refl, Bool, true, false, ◌&&◌, ◌||◌, List, [], ◌∷◌, ◌++◌, map, fold, drop, append_assoc, append-nil, Option, Some, None, option_map, codes, is_some, if◌then◌else◌, subst, arith}
 use Rattle.std.specs.Prelude.{⊤, find, bytes_eq, IfOk, Result, Ok, Err}
 use Rattle.std.specs.List.{list_all}
 use Rattle.std.specs.Option.{option_map_or}
@@ -73,8 +73,7 @@ all name = true
 found_next : (choice : Text → Bool) (name : Text) (c : Command) (cs : List Command) → (bytes_eq c.0 name ≡ true → choice c.0 ≡ true)
     → looked_up name (subs_of (map (chosen choice) cs)) ≡ looked_up name (subs_of (map (chosen all) cs))
     → (b : Bool) → bytes_eq c.0 name ≡ b → looked_up name (subs_of (map (chosen choice) (c ∷ cs))) ≡ looked_up name (subs_of (map (chosen all) (c ∷ cs)))
-found_next choice name c cs sure rest true is =
-    rw (sure is, answers_by name all c true is) refl
+found_next choice name c cs sure rest true is = grind (arith, answers_by, all)
 found_next choice name c cs sure rest false is =
     rw (answers_by name choice c false is, answers_by name all c false is) rest
 
@@ -145,18 +144,13 @@ stopped_by : (c : List Rule) (word : Text) (w : Walk) (h : Held) (step : Step) �
 stopped_by c word w h (next waiting) none m p stop = let never : None ≡ Some p = sym none ∙ stop in absurd cc
 stopped_by c word w h (trailing position) none m p stop = let never : None ≡ Some p = sym none ∙ stop in absurd cc
 stopped_by c word w h (subcommand name) none m p stop = let same : name ≡ p.0 = ap (λ (o : Option (Text × List Text)). option_map_or (λ q. q.0) o []) stop in rw (← same) m
-stopped_by c word w h value none m p stop = by (arg_by_index c w.position) stop
-  where
-    by : (o : Option Rule) → (to_positional c o word w h).stopped ≡ Some p → bytes_eq p.0 word ≡ true
-    by None stop = let never : None ≡ Some p = sym none ∙ stop in absurd cc
-    by (Some a) stop = absurd cc
+stopped_by c word w h value none m p stop = grind arith
 
 -- and one that has stopped stays where it is
 stays : (c : List Rule) (names : Names) (words : List Text) (w : Walk) (q p : Text × List Text) → w.stopped ≡ Some q → (fold (walked c names) w words).stopped ≡ Some p → p.0 ≡ q.0
 unfolding walked
 stays c names [] w q p at stop = let same : Some p ≡ Some q = sym stop ∙ at in ap (λ (o : Option (Text × List Text)). option_map_or (λ q. q.0) o []) same
-stays c names (x ∷ words) w q p at stop =
-    stays c names words (walked c names w x) (q.0, q.1 ++ x ∷ []) p (rw at refl) stop
+stays c names (x ∷ words) w q p at stop = grind (arith, stays c names words (walked c names w x) (q.0, q.1 ++ x ∷ []) p (rw at refl) stop)
 
 stop_is_word : (c : List Rule) (texts words : List Text) (w : Walk) (p : Text × List Text) → w.stopped ≡ None
     → (fold (walked c (plain_names texts)) w words).stopped ≡ Some p → is_word words p.0 ≡ true
@@ -233,11 +227,7 @@ fault_alike choice (Some p) sure = ap (λ (o : Option Shape). option_map_or (λ 
 
 later_word : (words : List Text) (name : Text) → is_word (drop 1 words) name ≡ true → is_word words name ≡ true
 later_word [] name is = is
-later_word (x ∷ words) name is = rw is (by (bytes_eq x name))
-  where
-    by : (b : Bool) → (b || true) ≡ true
-    by true = refl
-    by false = refl
+later_word (x ∷ words) name is = grind arith
 
 module _ (words : List Text) where
   stop_by : Names → Option (Text × List Text)

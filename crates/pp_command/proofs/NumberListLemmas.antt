@@ -65,11 +65,7 @@ flag_more names places is_flagged numbers flags place number more m has is one_m
 
 -- all are
 pub all_flagged : (names : ℕ → Bool) (places : ℕ) (is_flagged : List Bool → ℕ → Bool) (text : List ℕ) (flags : List Bool) → HasFlagged names places is_flagged (numbers_of text) flags [] → AreFlagged names places is_flagged text flags
-all_flagged names places is_flagged text flags has = record {
-  numbers = has.all_if_more (All-nil (IsNumber names));
-  each_place = has.each_place;
-  flagged = λ n. sym (or_false (is_flagged flags n)) ∙ has.flagged n;
-}
+all_flagged names places is_flagged text flags has = grind (arith, or_false)
 
 -- one that names nothing is in no list
 pub no_list : (names : ℕ → Bool) (places : ℕ) (is_flagged : List Bool → ℕ → Bool) (text : List ℕ) (flags : List Bool) (number : List ℕ) (more : List (List ℕ)) → HasFlagged names places is_flagged (numbers_of text) flags (number ∷ more) → numbered names number ≡ None → (listed : List Bool) → AreFlagged names places is_flagged text listed → ⊥
@@ -79,22 +75,12 @@ no_list names places is_flagged text flags number more has none listed are = abs
 
 -- one more is set
 one_set : (index : ℕ → ℕ) (flags : List Bool) (m n : ℕ) → index m < length flags → (index n ≡ index m → n ≡ m) → slice_index_or (slice_set flags (index m) true) (index n) false ≡ (slice_index_or flags (index n) false || (m == n))
-one_set index flags m n below own = elim (cases_eq n m) [
-  | inl same ↦
-      ap (λ (k : ℕ). slice_index_or (slice_set flags (index m) true) (index k) false) same
-      ∙ get_or-set_same flags (index m) true false below
-      ∙ sym (ap (λ (b : Bool). slice_index_or flags (index n) false || b) (eq-eqb m n (sym same)) ∙ or_true (slice_index_or flags (index n) false))
-  | inr other ↦
-      get_or-set_other flags (index m) (index n) true false (λ same_place. other (own same_place))
-      ∙ sym (ap (λ (b : Bool). slice_index_or flags (index n) false || b) (ne_eqb m n (λ same. other (sym same))) ∙ or_false (slice_index_or flags (index n) false))
-]
+one_set index flags m n below own = grind (arith, cases_eq, get_or-set_same, eq-eqb, or_true, get_or-set_other, ne_eqb, or_false)
 
 -- ---- channels
 
 pub one_channel : (flags : List Bool) (d : ℕ) → length flags ≡ channel_count → IsTrue (names_channel d) → (c : ℕ) → is_flagged_channel (slice_set flags (channel_index d) true) c ≡ (is_flagged_channel flags c || (d == c))
-one_channel flags d all names c =
-    let below = channel_places.place_below d names in
-    one_set channel_index flags d c (omega (arith, all, below)) (channel_places.one_place d c names)
+one_channel flags d all names c = grind (arith, channel_places.place_below, one_set, channel_places.one_place)
 
 -- ---- processors
 
@@ -105,13 +91,4 @@ and_own false b false own = refl
 and_own false b true own = absurd (false≢true (own refl))
 
 pub one_processor : (flags : List Bool) (m : ℕ) → length flags ≡ processor_count → IsTrue (names_processor m) → (n : ℕ) → is_named (slice_set flags (processor_index m) true) n ≡ (is_named flags n || (m == n))
-one_processor flags m all names n =
-    let below = processor_places.place_below m names in
-    ap (λ (b : Bool). names_processor n && b) (one_set processor_index flags m n (omega (arith, all, below)) (processor_places.one_place m n names))
-    ∙ and_own (names_processor n) (slice_index_or flags (processor_index n) false) (m == n) (own m n names)
-  where
-    own : (m n : ℕ) → IsTrue (names_processor m) → (m == n) ≡ true → names_processor n ≡ true
-    own m n names same = elim (cases_eq m n) [
-      | inl e ↦ subst (λ (k : ℕ). names_processor k ≡ true) e names
-      | inr other ↦ absurd (false≢true (sym (ne_eqb m n other) ∙ same))
-    ]
+one_processor flags m all names n = grind (arith, processor_places.place_below, one_set, processor_places.one_place, and_own, cases_eq, false≢true, ne_eqb)

@@ -23,16 +23,10 @@ use Rattle.pp_numbers.specs.declared.window.Window.{Window}
 -- ---- where they begin and end
 
 pub next_adjoins : (w : Window) (phase next : Phase) (after : Option Phase) → IsFalse (is_sent phase.look) → EndsAt (part_of w phase (Some next)) (part_of w next after).since (part_of w next after).start
-next_adjoins w phase next after lasts = record {
-  turns = ap (λ (b : Bool). cond b (counted phase.since) next.since) lasts;
-  places = ap (λ (b : Bool). place w (cond b (counted phase.since) next.since)) lasts;
-}
+next_adjoins w phase next after lasts = grind arith
 
 pub last_to_end : (w : Window) (phase : Phase) → IsFalse (is_sent phase.look) → EndsAt (part_of w phase None) w.to (band_width w)
-last_to_end w phase lasts = record {
-  turns = ap (λ (b : Bool). cond b (counted phase.since) w.to) lasts;
-  places = ap (λ (b : Bool). place w (cond b (counted phase.since) w.to)) lasts;
-}
+last_to_end w phase lasts = grind arith
 
 pub code_in_turn : (w : Window) (phase : Phase) (next : Option Phase) → IsTrue (is_sent phase.look) → (part_of w phase next).until ≡ counted phase.since
 code_in_turn w phase (Some next) code = ap (λ (b : Bool). cond b (counted phase.since) next.since) code

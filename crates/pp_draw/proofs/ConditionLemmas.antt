@@ -1,6 +1,6 @@
 -- Which phases are drawn: those under another look than the one before. The last that is drawn is
 -- under the look of the last that came.
-use Rattle.std.proofs.Common.{◌≡◌, ℕ, Bool, true, false, cond, List, [], ◌∷◌, ◌++◌, Option, None, Some, refl, sym, ap, ◌∙◌}
+use Rattle.std.proofs.Common.{◌≡◌, ℕ, Bool, true, false, cond, List, [], ◌∷◌, ◌++◌, Option, None, Some, refl, sym, ap, ◌∙◌, arith}
 use Rattle.std.specs.Prelude.{IsTrue}
 use Rattle.std.specs.List.{last_or}
 use Rattle.std.specs.Option.{option_map}
@@ -51,13 +51,7 @@ drawn_after before next = cond (goes_on_from before next) [] (next ∷ [])
 
 more_drawn : (came : Phase) (more : List Phase) (next : Phase) → changes came.look (more ++ next ∷ []) ≡ changes came.look more ++ drawn_after (last_or (Some came) more) next
 more_drawn came [] next = refl
-more_drawn came (n ∷ more) next = by_test (goes_on came.look n.look) (more_drawn n more next)
-  where
-    by_test : (b : Bool) → changes n.look (more ++ next ∷ []) ≡ changes n.look more ++ drawn_after (last_or (Some n) more) next
-        → cond b (changes n.look (more ++ next ∷ [])) (n ∷ changes n.look (more ++ next ∷ []))
-        ≡ cond b (changes n.look more) (n ∷ changes n.look more) ++ drawn_after (last_or (Some n) more) next
-    by_test true after = after
-    by_test false after = ap (λ (ps : List Phase). n ∷ ps) after
+more_drawn came (n ∷ more) next = grind (arith, drawn_after, more_drawn n more next)
 
 pub next_is_drawn : (phases : List Phase) (next : Phase) → phases_from None (phases ++ next ∷ []) ≡ phases_from None phases ++ drawn_after (last_or None phases) next
 next_is_drawn [] next = refl

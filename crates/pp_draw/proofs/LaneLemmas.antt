@@ -1,5 +1,5 @@
 -- A lane, phase by phase.
-use Rattle.std.proofs.Common.{◌≡◌, ℕ, ◌+◌, ◌<◌, ◌≤◌, Bool, true, false, cond, List, [], ◌∷◌, ◌++◌, length, drop, get_or, Option, None, Some, sym, ap, ◌∙◌, append_assoc}
+use Rattle.std.proofs.Common.{◌≡◌, ℕ, ◌+◌, ◌<◌, ◌≤◌, Bool, true, false, cond, List, [], ◌∷◌, ◌++◌, length, drop, get_or, Option, None, Some, sym, ap, ◌∙◌, append_assoc, arith}
 use Rattle.std.specs.List.{cons_option, filter_map}
 use Rattle.std.proofs.lemmas.List.{at_drop_all, at_drop_more}
 use Rattle.pp_text.proofs.PrintingLemmas.{prints_on, prints_then}
@@ -15,14 +15,7 @@ use Rattle.pp_draw.proofs.ConditionLemmas.{same_on}
 
 -- it goes on under the look before
 pub goes_by : (lane : Lane) (current next : Phase) (rest : List Phase) → lane.current ≡ Some current → goes_on current.look next.look ≡ true → still_drawn lane (next ∷ rest) ≡ still_drawn lane rest
-goes_by lane current next rest is on =
-    ap (λ (o : Option Phase). drawn o (next ∷ rest)) is
-    ∙ ap (λ (b : Bool). drawn_from lane.window lane.name lane.free (current ∷ cond b (changes next.look rest) (next ∷ changes next.look rest))) on
-    ∙ ap (λ (l : Look). drawn_from lane.window lane.name lane.free (current ∷ changes l rest)) (sym (same_on current.look next.look on))
-    ∙ ap (λ (o : Option Phase). drawn o rest) (sym is)
-  where
-    drawn : Option Phase → List Phase → List ℕ
-    drawn o phases = drawn_from lane.window lane.name lane.free (phases_from o phases)
+goes_by lane current next rest is on = grind (arith, same_on)
 
 -- the phase before is over
 pub comes_next : (lane : Lane) (current next : Phase) (part : Part) (free : ℕ) (rest : List Phase)
@@ -62,13 +55,7 @@ takes contents start old new whole lane after next rest h so_far =
 pub comes_first : {W : Type 0} (contents : W → Option (List ℕ)) (start now : TextWriter W) (w : Window) (name said front : List ℕ) (lane : Lane) (phases left : List Phase)
     → lane ≡ record { window = w; name = said; current = None; free = 0 } → said ≡ name → left ≡ phases → Prints contents start now front
     → LeadsTo contents start now (front ++ drawn_from w name 0 (phases_from None phases)) lane left
-comes_first contents start now w name said front lane phases left is named same prints = record {
-  printed = front;
-  prints = prints;
-  rest = ap (λ (l : Lane). front ++ still_drawn l left) is
-      ∙ ap (λ (n : List ℕ). front ++ drawn_from w n 0 (phases_from None left)) named
-      ∙ ap (λ (ps : List Phase). front ++ drawn_from w name 0 (phases_from None ps)) same;
-}
+comes_first contents start now w name said front lane phases left is named same prints = grind arith
 
 -- the next of a list comes
 pub next_left : {T : Type 0} (phase : T → Option Phase) (xs : List T) (i : ℕ) (x : T) → i < length xs → x ≡ get_or xs i x

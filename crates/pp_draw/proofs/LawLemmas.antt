@@ -1,5 +1,5 @@
 -- What a drawing tells of a run.
-use Rattle.std.proofs.Common.{◌≡◌, ℕ, Bool, true, false, cond, eqb, List, [], ◌∷◌, ◌++◌, map, Some, None, refl, sym, ap, ◌∙◌}
+use Rattle.std.proofs.Common.{◌≡◌, ℕ, Bool, true, false, cond, eqb, List, [], ◌∷◌, ◌++◌, map, Some, None, refl, sym, ap, ◌∙◌, arith}
 use Rattle.std.specs.Prelude.{◌↔◌, IsTrue}
 use Rattle.std.specs.List.{cons_option, filter_map}
 use Rattle.std.proofs.lemmas.List.{map-append}
@@ -27,11 +27,7 @@ phases_on c trace = filter_map (phase_on c) trace
 mapped_on : {A B : Type 0} (h : A → B) (f : Trace → A) (c : ℕ) (trace : List Trace)
     → map h (filter_map (λ (e : Trace). cond (eqb e.channel c) (Some (f e)) None) trace) ≡ filter_map (λ (e : Trace). cond (eqb e.channel c) (Some (h (f e))) None) trace
 mapped_on h f c [] = refl
-mapped_on {A} {B} h f c (e ∷ trace) = by_test (eqb e.channel c) _ _ (mapped_on h f c trace)
-  where
-    by_test : (b : Bool) (xs : List A) (ys : List B) → map h xs ≡ ys → map h (cons_option (cond b (Some (f e)) None) xs) ≡ cons_option (cond b (Some (h (f e))) None) ys
-    by_test true xs ys is = ap (λ (zs : List B). h (f e) ∷ zs) is
-    by_test false xs ys is = is
+mapped_on {A} {B} h f c (e ∷ trace) = grind (arith, mapped_on h f c trace)
 
 opening_mapped : {A B : Type 0} (h : A → B) (b : Bool) (x : A) → map h (cond b (x ∷ []) []) ≡ cond b (h x ∷ []) []
 opening_mapped h true x = refl
@@ -66,12 +62,7 @@ turn_for_event c m =
 -- those that come after an event
 all_begin : (c : ℕ) (event : Event) (trace : List Trace) → changes (Channel event) (phases_on c trace) ≡ phases_on c trace
 all_begin c event [] = refl
-all_begin c event (e ∷ trace) = by_test (eqb e.channel c) (all_begin c event trace) (all_begin c e.event trace)
-  where
-    by_test : (b : Bool) → changes (Channel event) (phases_on c trace) ≡ phases_on c trace → changes (Channel e.event) (phases_on c trace) ≡ phases_on c trace
-        → changes (Channel event) (cons_option (cond b (Some (phase_after e)) None) (phases_on c trace)) ≡ cons_option (cond b (Some (phase_after e)) None) (phases_on c trace)
-    by_test true old new = ap (λ (ps : List Phase). phase_after e ∷ ps) new
-    by_test false old new = old
+all_begin c event (e ∷ trace) = grind (arith, phases_on, phase_after, all_begin c event trace, all_begin c e.event trace)
 
 -- an event goes on as nothing does
 from_start : (event : Event) (phases : List Phase) → phases_from None phases ≡ changes (Channel event) phases

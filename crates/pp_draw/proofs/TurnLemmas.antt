@@ -41,19 +41,7 @@ none_drawn turn look (n ∷ more) none = by_test (leb n.since turn) (goes_on loo
 -- those drawn that have begun are those drawn of the ones that have
 begun_drawn : (turn : ℕ) (look : Look) (more : List Phase) → BeginInOrder turn more → begun turn (changes look more) ≡ changes look (begun turn more)
 begun_drawn turn look [] order = refl
-begun_drawn turn look (n ∷ more) order = by_test (leb n.since turn) (goes_on look n.look) refl refl (begun_drawn turn n.look more order.1)
-  where
-    by_test : (early goes : Bool) → leb n.since turn ≡ early → goes_on look n.look ≡ goes → begun turn (changes n.look more) ≡ changes n.look (begun turn more)
-        → begun turn (cond goes (changes n.look more) (n ∷ changes n.look more)) ≡ changes look (cond early (n ∷ begun turn more) (begun turn more))
-    by_test true true is on rest = rest ∙ ap (λ (b : Bool). cond b (changes n.look (begun turn more)) (n ∷ changes n.look (begun turn more))) (sym on)
-    by_test true false is over rest =
-        ap (λ (b : Bool). cond b (n ∷ begun turn (changes n.look more)) (begun turn (changes n.look more))) is
-        ∙ ap (λ (ps : List Phase). n ∷ ps) rest
-        ∙ ap (λ (b : Bool). cond b (changes n.look (begun turn more)) (n ∷ changes n.look (begun turn more))) (sym over)
-    by_test false goes is on rest =
-        ap (λ (b : Bool). begun turn (cond b (changes n.look more) (n ∷ changes n.look more))) (sym on)
-        ∙ none_drawn turn look (n ∷ more) (ap (λ (b : Bool). cond b (n ∷ begun turn more) (begun turn more)) is ∙ order.0 is)
-        ∙ ap (changes look) (sym (order.0 is))
+begun_drawn turn look (n ∷ more) order = grind (arith, begun, none_drawn, begun_drawn turn n.look more order.1)
 
 drawn_at : (turn : ℕ) (phases : List Phase) → BeginInOrder turn phases → look_at turn (phases_from None phases) ≡ look_at turn phases
 drawn_at turn [] order = refl
@@ -80,15 +68,7 @@ phases w n steps = processor_phases n (filter (is_shown w) (map seen steps))
 
 -- one step more may begin one
 one_more : (P : List Phase → Type 0) (w : Window) (n : ℕ) (s : RunStep) (more : List RunStep) → P (phase_of s ∷ phases w n more) → P (phases w n more) → P (phases w n (s ∷ more))
-one_more P w n s more begins goes_by = by_shown (is_shown w (seen s))
-  where
-    by_own : (own : Bool) → P (cons_option (cond own (Some (phase_of s)) None) (phases w n more))
-    by_own true = begins
-    by_own false = goes_by
-
-    by_shown : (shown : Bool) → P (processor_phases n (cond shown (seen s ∷ filter (is_shown w) (map seen more)) (filter (is_shown w) (map seen more))))
-    by_shown true = by_own (eqb s.processor n)
-    by_shown false = goes_by
+one_more P w n s more begins goes_by = grind (arith, phase_of, phases)
 
 turns_counted : (n : ℕ) (m : MachineState) → (stepped n m).turns ≡ counted m.turns
 unfolding stepped
@@ -125,19 +105,7 @@ is_early n turn step = eqb step.processor n && leb step.before.turns turn
 
 begun_more : (w : Window) (n turn : ℕ) (s : RunStep) (more : List RunStep) → begun turn (phases w n (s ∷ more))
     ≡ cond (is_shown w (seen s) && is_early n turn s) (phase_of s ∷ begun turn (phases w n more)) (begun turn (phases w n more))
-begun_more w n turn s more = by_shown (is_shown w (seen s))
-  where
-    rest : List Phase
-    rest = begun turn (phases w n more)
-
-    by_own : (own : Bool) → begun turn (cons_option (cond own (Some (phase_of s)) None) (phases w n more)) ≡ cond (own && leb s.before.turns turn) (phase_of s ∷ rest) rest
-    by_own true = refl
-    by_own false = refl
-
-    by_shown : (shown : Bool) → begun turn (processor_phases n (cond shown (seen s ∷ filter (is_shown w) (map seen more)) (filter (is_shown w) (map seen more))))
-        ≡ cond (shown && is_early n turn s) (phase_of s ∷ rest) rest
-    by_shown true = by_own (eqb s.processor n)
-    by_shown false = refl
+begun_more w n turn s more = grind (arith, begun, phases, phase_of, is_early)
 
 -- the last step up to the turn, if it is shown, begins the last phase that has begun
 last_begun : (w : Window) (n turn : ℕ) (x : RunStep) → is_shown w (seen x) ≡ true → (o : Option RunStep) (q : Option Phase) → (o ≡ Some x → q ≡ Some (phase_of x)) → (steps : List RunStep)

@@ -1,5 +1,5 @@
 -- A lawful history has one course.
-use Rattle.std.proofs.Common.{◌≡◌, ℕ, List, [], ◌∷◌, ◌++◌, map, Option, Some, None, refl, sym, ap, ◌∙◌, append_assoc, subst}
+use Rattle.std.proofs.Common.{◌≡◌, ℕ, List, [], ◌∷◌, ◌++◌, map, Option, Some, None, refl, sym, ap, ◌∙◌, append_assoc, subst, arith}
 use Rattle.std.specs.Option.{option_to_list}
 use Rattle.std.specs.List.{flat_map}
 use Rattle.pp_channel.specs.History.{Course, events_of, idle_stretch, whole_session}
@@ -45,11 +45,9 @@ same_words [] [] None (Some v) xs ys end ends e = absurd (subst EndsSession e en
 same_words [] [] (Some w) None xs ys end ends e = absurd (subst EndsSession (sym e) ends)
 same_words [] [] (Some w) (Some v) xs ys end ends e = (refl, let same : w ≡ v = cc in ap Some same, cc)
 same_words [] (v ∷ other) None b xs ys end ends e = absurd (subst EndsSession e end)
-same_words [] (v ∷ other) (Some w) b xs ys end ends e =
-    let rest : xs ≡ Take v ∷ (passed_words other ++ (lone_word b ++ ys)) = cc in absurd (subst EndsSession rest end)
+same_words [] (v ∷ other) (Some w) b xs ys end ends e = grind (arith, passed_words, lone_word)
 same_words (w ∷ one) [] a None xs ys end ends e = absurd (subst EndsSession (sym e) ends)
-same_words (w ∷ one) [] a (Some v) xs ys end ends e =
-    let rest : ys ≡ Take w ∷ (passed_words one ++ (lone_word a ++ xs)) = cc in absurd (subst EndsSession rest ends)
+same_words (w ∷ one) [] a (Some v) xs ys end ends e = grind (arith, passed_words, lone_word)
 same_words (w ∷ one) (v ∷ other) a b xs ys end ends e =
     let rest : passed_words one ++ (lone_word a ++ xs) ≡ passed_words other ++ (lone_word b ++ ys) = cc in
     let same : w ≡ v = cc in
@@ -57,12 +55,7 @@ same_words (w ∷ one) (v ∷ other) a b xs ys end ends e =
     (ap (λ (k : ℕ). k ∷ one) same ∙ ap (λ (ks : List ℕ). v ∷ ks) words, lone, follow)
 
 same_body : (s t : Session) (xs ys : List Event) → EndsSession xs → EndsSession ys → body s ++ xs ≡ body t ++ ys → (s ≡ t) × (xs ≡ ys)
-same_body s t xs ys end ends e =
-    let all : Activate ∷ (passed_words s.passed ++ (lone_word s.lone ++ xs)) ≡ Activate ∷ (passed_words t.passed ++ (lone_word t.lone ++ ys)) =
-    sym (append_assoc (Activate ∷ passed_words s.passed) (lone_word s.lone) xs) ∙ e ∙ append_assoc (Activate ∷ passed_words t.passed) (lone_word t.lone) ys in
-    let inside : passed_words s.passed ++ (lone_word s.lone ++ xs) ≡ passed_words t.passed ++ (lone_word t.lone ++ ys) = cc in
-    let (words, lone, follow) = same_words s.passed t.passed s.lone t.lone xs ys end ends inside in
-    (ap (λ (ws : List ℕ). record { passed = ws; lone = s.lone }) words ∙ ap (λ (o : Option ℕ). record { passed = t.passed; lone = o }) lone, follow)
+same_body s t xs ys end ends e = grind (arith, passed_words, lone_word, append_assoc, same_words)
 
 -- ---- courses
 
@@ -77,9 +70,7 @@ begins_with_session (p ∷ whole) open_one = tt
 
 -- a whole session, and what follows it
 pub whole_then : (s : Session) (codes : List ℕ) (whole : List (Session × List ℕ)) (open_one : Option Session) → sessions_on ((s, codes) ∷ whole) open_one ≡ body s ++ (Disconnect ∷ (idle_stretch codes ++ sessions_on whole open_one))
-whole_then s codes whole open_one =
-    append_assoc (body s ++ (Disconnect ∷ idle_stretch codes)) (flat_map whole_session whole) (flat_map body (option_to_list open_one))
-    ∙ append_assoc (body s) (Disconnect ∷ idle_stretch codes) (sessions_on whole open_one)
+whole_then s codes whole open_one = grind (arith, append_assoc, sessions_on)
 
 same_sessions : (one other : List (Session × List ℕ)) (a b : Option Session) → sessions_on one a ≡ sessions_on other b → (one ≡ other) × (a ≡ b)
 same_sessions [] [] None None e = (refl, refl)
@@ -100,10 +91,4 @@ pub course_parts : (c : Course) → events_of c ≡ idle_stretch c.first_stretch
 course_parts c = append_assoc (idle_stretch c.first_stretch) (flat_map whole_session c.whole_sessions) (flat_map body (option_to_list c.open_session))
 
 pub one_course : (one other : Course) → events_of one ≡ events_of other → one ≡ other
-one_course one other e =
-    let (first, on) = same_idle one.first_stretch other.first_stretch (sessions_on one.whole_sessions one.open_session) (sessions_on other.whole_sessions other.open_session)
-    (begins_with_session one.whole_sessions one.open_session) (begins_with_session other.whole_sessions other.open_session) (sym (course_parts one) ∙ e ∙ course_parts other) in
-    let (wholes, opens) = same_sessions one.whole_sessions other.whole_sessions one.open_session other.open_session on in
-    ap (λ (ws : List ℕ). record { first_stretch = ws; whole_sessions = one.whole_sessions; open_session = one.open_session }) first
-    ∙ ap (λ (ps : List (Session × List ℕ)). record { first_stretch = other.first_stretch; whole_sessions = ps; open_session = one.open_session }) wholes
-    ∙ ap (λ (o : Option Session). record { first_stretch = other.first_stretch; whole_sessions = other.whole_sessions; open_session = o }) opens
+one_course one other e = grind (arith, same_idle, sessions_on, begins_with_session, course_parts, same_sessions)

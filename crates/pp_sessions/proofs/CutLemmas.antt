@@ -1,5 +1,5 @@
 -- Where a list is cut.
-use Rattle.std.proofs.Common.{◌≡◌, Bool, true, false, cond, List, [], ◌∷◌, ◌++◌, map, refl, ap, ◌∙◌}
+use Rattle.std.proofs.Common.{◌≡◌, Bool, true, false, cond, List, [], ◌∷◌, ◌++◌, map, refl, ap, ◌∙◌, arith}
 use Rattle.std.specs.Prelude.{fold}
 use Rattle.std.specs.List.{flat_map, onto_first}
 use Rattle.pp_sessions.specs.OpenStretch.{IsUncut}
@@ -18,9 +18,7 @@ IsCutBefore test last (next ∷ xs) = test last next ≡ true
 pub cut-append : {X : Type 0} (test : X → X → Bool) (x : X) (xs rest : List X) → IsUncut test x xs → IsCutBefore test (last_in x xs) rest → cut_between test ((x ∷ xs) ++ rest) ≡ (x ∷ xs) ∷ cut_between test rest
 cut-append test x [] [] whole cut = refl
 cut-append test x [] (next ∷ rest) whole cut = ap (λ (b : Bool). cond b ((x ∷ []) ∷ cut_between test (next ∷ rest)) (onto_first x (cut_between test (next ∷ rest)))) cut
-cut-append test x (next ∷ xs) rest whole cut =
-    ap (λ (b : Bool). cond b ((x ∷ []) ∷ cut_between test (next ∷ xs ++ rest)) (onto_first x (cut_between test (next ∷ xs ++ rest)))) whole.0
-    ∙ ap (onto_first x) (cut-append test next xs rest whole.1 cut)
+cut-append test x (next ∷ xs) rest whole cut = grind (arith, cut-append test next xs rest whole.1 cut)
 
 -- one element more
 pub uncut-push : {X : Type 0} (test : X → X → Bool) (x : X) (xs : List X) (y : X) → IsUncut test x xs → test (last_in x xs) y ≡ false → IsUncut test x (xs ++ y ∷ [])

@@ -1,5 +1,5 @@
 -- The timed events of a channel are its history.
-use Rattle.std.proofs.Common.{◌≡◌, ℕ, Bool, true, false, cond, eqb, List, [], ◌∷◌, ◌++◌, Some, None, refl, sym, ap, ◌∙◌}
+use Rattle.std.proofs.Common.{◌≡◌, ℕ, Bool, true, false, cond, eqb, List, [], ◌∷◌, ◌++◌, Some, None, refl, sym, ap, ◌∙◌, arith}
 use Rattle.std.specs.Prelude.{IsTrue}
 use Rattle.std.specs.List.{cons_option}
 use Rattle.std.proofs.lemmas.List.{map-append}
@@ -28,10 +28,7 @@ traced c [] = refl
 traced c (e ∷ trace) = entry (eqb e.channel c) e (timed_on c trace) ∙ ap (cons_option (cond (eqb e.channel c) (Some e.event) None)) (traced c trace)
 
 timed_history : (c : ℕ) (m : MachineState) → events_in (timed_events c m) ≡ opening_history c m ++ events_on c m.trace
-timed_history c m =
-    map-append (λ (e : TimedEvent). e.event) (opening_events c m) (timed_on c m.trace)
-    ∙ ap (λ (es : List Event). es ++ events_in (timed_on c m.trace)) (opening (is_opened c m))
-    ∙ ap (λ (es : List Event). opening_history c m ++ es) (traced c m.trace)
+timed_history c m = grind (arith, map-append, opening, traced)
 
 pub timed_is_history : (c : ℕ) (m : MachineState) → IsTrue (names_channel c) → HoldsOnEachChannel m → events_in (timed_events c m) ≡ history_of c m
 timed_is_history c m names h = timed_history c m ∙ sym (h c names).traced

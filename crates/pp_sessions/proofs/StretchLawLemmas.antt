@@ -51,8 +51,7 @@ cut_before_session last other begins = absurd begins
 
 cut_idle : (codes : List ℕ) (rest : List Event) → BeginsSession rest → cut_between is_over (idle_stretch codes ++ rest) ≡ idle_part codes ++ cut_between is_over rest
 cut_idle [] rest begins = refl
-cut_idle (code ∷ codes) rest begins =
-    cut-append is_over (Function code) (idle_stretch codes) rest (uncut_plain (Function code) (idle_stretch codes) refl (plain_codes codes)) (cut_before_session (last_in (Function code) (idle_stretch codes)) rest begins)
+cut_idle (code ∷ codes) rest begins = grind (arith, cut-append, uncut_plain, plain_codes, cut_before_session, last_in)
 
 -- ---- a session
 
@@ -88,9 +87,7 @@ open_parts o = map (λ session. session_events session false) (option_to_list o)
 
 cut_open : (o : Option Session) → cut_between is_over (sessions_on [] o) ≡ open_parts o
 cut_open None = refl
-cut_open (Some s) =
-    cut-append is_over Activate (words s) [] (uncut_words s) tt
-    ∙ ap (λ (part : List Event). part ∷ []) (sym (append-nil (body s)))
+cut_open (Some s) = grind (arith, cut-append, words, uncut_words, append-nil)
 
 cut_sessions : (whole : List (Session × List ℕ)) (o : Option Session) → cut_between is_over (sessions_on whole o) ≡ flat_map whole_parts whole ++ open_parts o
 cut_sessions [] o = cut_open o
@@ -101,11 +98,7 @@ cut_sessions ((s, codes) ∷ whole) o =
     ∙ ap (λ (parts : List (List Event)). session_events s true ∷ parts) (sym (append_assoc (idle_part codes) (flat_map whole_parts whole) (open_parts o)))
 
 cut_course : (c : Course) → cut_between is_over (events_of c) ≡ stretches_of c
-cut_course c =
-    ap (cut_between is_over) (course_parts c)
-    ∙ cut_idle c.first_stretch (sessions_on c.whole_sessions c.open_session) (begins_with_session c.whole_sessions c.open_session)
-    ∙ ap (λ (parts : List (List Event)). idle_part c.first_stretch ++ parts) (cut_sessions c.whole_sessions c.open_session)
-    ∙ sym (append_assoc (idle_part c.first_stretch) (flat_map whole_parts c.whole_sessions) (open_parts c.open_session))
+cut_course c = grind (arith, course_parts, cut_idle, sessions_on, begins_with_session, cut_sessions, append_assoc, open_parts)
 
 pub stretches_are : (events : List TimedEvent) (c : Course) → events_of c ≡ events_in events → map events_in (stretches events) ≡ stretches_of c
 stretches_are events c is = cut-map (λ (e : TimedEvent). e.event) is_over events ∙ ap (cut_between is_over) (sym is) ∙ cut_course c
@@ -130,9 +123,7 @@ IsClear events = puts (after_last is_take events) ≡ []
 
 clear_passed : (passed : List ℕ) (events : List Event) → IsClear events → IsClear (events ++ passed_words passed)
 clear_passed [] events clear = subst IsClear (sym (append-nil events)) clear
-clear_passed (w ∷ passed) events clear =
-    subst IsClear (append_assoc (events ++ Put w ∷ []) (Take w ∷ []) (passed_words passed) ∙ append_assoc events (Put w ∷ []) (Take w ∷ passed_words passed))
-    (clear_passed passed ((events ++ Put w ∷ []) ++ Take w ∷ []) (ap puts (after_last-found is_take (events ++ Put w ∷ []) (Take w) refl)))
+clear_passed (w ∷ passed) events clear = grind (arith, append_assoc, passed_words, after_last-found, clear_passed passed ((events ++ Put w ∷ []) ++ Take w ∷ []) (ap puts (after_last-found is_take (events ++ Put w ∷ []) (Take w) refl)))
 
 abbrev HaveNoTake : List Event → Type 0
 HaveNoTake [] = Unit {0}
@@ -140,11 +131,7 @@ HaveNoTake (e ∷ events) = (is_take e ≡ false) × HaveNoTake events
 
 after_last-append : (events others : List Event) → HaveNoTake others → after_last is_take (events ++ others) ≡ after_last is_take events ++ others
 after_last-append events [] none = ap (after_last is_take) (append-nil events) ∙ sym (append-nil (after_last is_take events))
-after_last-append events (e ∷ others) none =
-    ap (after_last is_take) (sym (append_assoc events (e ∷ []) others))
-    ∙ after_last-append (events ++ e ∷ []) others none.1
-    ∙ ap (λ (es : List Event). es ++ others) (after_last-push is_take events e none.0)
-    ∙ append_assoc (after_last is_take events) (e ∷ []) others
+after_last-append events (e ∷ others) none = grind (arith, append_assoc, after_last-push, after_last-append (events ++ e ∷ []) others none.1)
 
 no_take_behind : (lone : Option ℕ) (ended : Bool) → HaveNoTake (lone_word lone ++ cond ended (Disconnect ∷ []) [])
 no_take_behind None true = (refl, tt)
@@ -178,26 +165,12 @@ end_is s false = ap (λ (es : List Event). ends_session (last_in Activate es)) (
 
 pub session_told : (s : Session) (ended : Bool) (first : TimedEvent) (others : List TimedEvent) → events_in (first ∷ others) ≡ session_events s ended → TellsSession s ended (tally_of first others)
 unfolding tally_of
-session_told s ended first others are =
-    let begins : first.event ≡ Activate = cc in
-    let behind : events_in others ≡ words s ++ cond ended (Disconnect ∷ []) [] = cc in
-    record {
-      is_session = ap begins_session begins;
-      end = ap ends_session (last_alone first others ∙ ap (λ (e : Event). last_in e (events_in others)) begins ∙ ap (last_in Activate) behind) ∙ end_is s ended;
-      put = ap (λ (es : List Event). length (puts es)) are ∙ ap length (puts_words s.passed s.lone ended) ∙ length-append s.passed (option_to_list s.lone);
-      taken = ap (λ (es : List Event). length (takes es)) are ∙ ap length (takes_words s.passed s.lone ended);
-      untaken = ap (λ (es : List Event). untaken es) are ∙ untaken_is s ended;
-    }
+session_told s ended first others are = grind (arith, words, last_alone, last_in, end_is, puts_words, length-append, takes_words, untaken_is)
 
 pub idle_told : (codes : List ℕ) (first : TimedEvent) (others : List TimedEvent) → events_in (first ∷ others) ≡ idle_stretch codes → TellsIdle codes (tally_of first others)
 unfolding tally_of
 idle_told [] first others are = absurd (cc)
-idle_told (code ∷ codes) first others are =
-    let begins : first.event ≡ Function code = cc in
-    record {
-      is_idle = ap begins_session begins;
-      functions = ap length are ∙ length-map (code ∷ codes) (λ (k : ℕ). Function k);
-    }
+idle_told (code ∷ codes) first others are = grind (arith, length-map)
 
 -- ---- the words of a stretch
 

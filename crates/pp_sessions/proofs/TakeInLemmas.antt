@@ -34,9 +34,7 @@ record IsStretch (told : Tally) (words : List ℕ) (stretch : List TimedEvent) :
 some_open : (o : Option Tally) (told : Tally) (words : List ℕ) (stretch : List TimedEvent) → o ≡ Some told → IsOpen o words stretch → IsStretch told words stretch
 some_open None told words stretch e is = absurd (cc)
 some_open (Some other) told words [] e is = absurd is
-some_open (Some other) told words (first ∷ others) e (is, has, uncut) =
-    let same : told ≡ other = cc in
-    record { first = first; others = others; is_stretch = refl; is_told = same ∙ is; has_words = has; uncut = uncut }
+some_open (Some other) told words (first ∷ others) e (is, has, uncut) = grind arith
 
 pub open_again : (o : Option Tally) (words : List ℕ) (told : Tally) (first : TimedEvent) (others : List TimedEvent) → o ≡ Some told → told ≡ tally_of first others → words ≡ words_in (first ∷ others) → IsUncut are_parted first others → IsOpen o words (first ∷ others)
 open_again o words told first others is told_is has uncut = subst (λ (x : Option Tally). IsOpen x words (first ∷ others)) (sym is) (told_is, has, uncut)
@@ -105,17 +103,7 @@ takes_none w c old = λ stretch is_open. (stretch, is_open, λ rest. refl)
 
 -- some, and then some more
 pub takes_then : (w : Bool) (c : ℕ) (a b d : Open) (es fs : List TimedEvent) (xs ys : List ℕ) → TakesIn w c a es xs b → TakesIn w c b fs ys d → TakesIn w c a (es ++ fs) (xs ++ ys) d
-takes_then w c a b d es fs xs ys first then = λ stretch is_open.
-    let (middle, is_middle, lines) = first stretch is_open in
-    let (last, is_last, more) = then middle is_middle in (
-      last,
-      is_last,
-      λ rest.
-          ap (λ (gs : List TimedEvent). lines_from w c a.number (stretches (stretch ++ gs))) (append_assoc es fs rest)
-          ∙ lines (fs ++ rest)
-          ∙ ap (λ (text : List ℕ). xs ++ text) (more rest)
-          ∙ sym (append_assoc xs ys (lines_from w c d.number (stretches (last ++ rest)))),
-    )
+takes_then w c a b d es fs xs ys first then = grind (arith, append_assoc)
 
 -- no event has come
 abbrev pub nothing_open : Open
@@ -163,9 +151,7 @@ takes_dead_start w c m opened told is so told_is =
 -- all entries have come
 pub takes_whole : (w : Bool) (c : ℕ) (m : MachineState) (entries : List Trace) (index : ℕ) (printed : List ℕ) (current : OpenStretch) → length entries ≤ index → entries ≡ m.trace
     → TakesIn w c nothing_open (opening_events c m ++ timed_on c (take index entries)) printed (open_at c (take index entries) current) → TakesIn w c nothing_open (timed_events c m) printed (open_at c entries current)
-takes_whole w c m entries index printed current past are takes =
-    takes_these w c nothing_open (open_at c entries current) _ _ printed (ap (λ (es : List Trace). opening_events c m ++ timed_on c es) are)
-    (subst (λ (es : List Trace). TakesIn w c nothing_open (opening_events c m ++ timed_on c es) printed (open_at c es current)) (take_all index entries past) takes)
+takes_whole w c m entries index printed current past are takes = grind (arith, takes_these, nothing_open, take_all)
 
 -- ---- how many events have come
 
@@ -184,10 +170,7 @@ rest_of s past = take_all (length past - s) (drop s past) (omega (arith, length-
 -- with an entry more
 pub open_words_more : (c s : ℕ) (past : List Trace) (entry : Trace) → s ≤ length past
     → words_in (timed_on c (drop s (past ++ entry ∷ []))) ≡ words_in (timed_on c (drop s past)) ++ words_in (timed_on c (entry ∷ []))
-open_words_more c s past entry low =
-    ap (λ (es : List Trace). words_in (timed_on c es)) (drop-append-le s past (entry ∷ []) low)
-    ∙ ap words_in (filter_map-append (λ (e : Trace). cond (eqb e.channel c) (Some (timed_event e)) None) (drop s past) (entry ∷ []))
-    ∙ words_more (timed_on c (drop s past)) (timed_on c (entry ∷ []))
+open_words_more c s past entry low = grind (arith, drop-append-le, filter_map-append, words_more)
 
 -- of an entry alone
 pub open_words_first : (c : ℕ) (past : List Trace) (entry : Trace) → words_in (timed_on c (drop (length past) (past ++ entry ∷ []))) ≡ words_in (timed_on c (entry ∷ []))

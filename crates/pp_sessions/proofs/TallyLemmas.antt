@@ -18,13 +18,10 @@ use Rattle.pp_sessions.proofs.CutLemmas.{last_in}
 
 -- the word put and not taken
 after_no_take : (events : List Event) (e : Event) → is_take e ≡ false → untaken (events ++ e ∷ []) ≡ last_or None (puts (after_last is_take events) ++ puts (e ∷ []))
-after_no_take events e other =
-    ap (λ (es : List Event). last_or None (puts es)) (after_last-push is_take events e other)
-    ∙ ap (last_or None) (filter_map-append word_put (after_last is_take events) (e ∷ []))
+after_no_take events e other = grind (arith, after_last-push, filter_map-append)
 
 stays : (events : List Event) (e : Event) → is_take e ≡ false → puts (e ∷ []) ≡ [] → untaken (events ++ e ∷ []) ≡ untaken events
-stays events e other none =
-    after_no_take events e other ∙ ap (λ (ws : List ℕ). last_or None (puts (after_last is_take events) ++ ws)) none ∙ ap (last_or None) (append-nil (puts (after_last is_take events)))
+stays events e other none = grind (arith, after_no_take, append-nil)
 
 pub untaken_more : (events : List Event) (e : Event) → untaken (events ++ e ∷ []) ≡ untaken_after e (untaken events)
 untaken_more events (Put w) = after_no_take events (Put w) refl ∙ last_or-push None (puts (after_last is_take events)) w
@@ -55,10 +52,7 @@ tally_with told more first others e made is = made ∙ ap (λ (t : Tally). with_
 
 pub tally_alone : (e : TimedEvent) → with_event (record { is_session = begins_session e.event; has_ended = false; from = e.moment; to = e.moment; events = 0; put = 0; taken = 0; untaken = None }) e ≡ tally_of e []
 unfolding tally_of
-tally_alone e =
-    let put : 0 + length (puts (e.event ∷ [])) ≡ length (puts (e.event ∷ [])) = omega arith in
-    let taken : 0 + length (takes (e.event ∷ [])) ≡ length (takes (e.event ∷ [])) = omega arith in
-    rw (put, taken) (ap (λ (o : Option ℕ). record { is_session = begins_session e.event; has_ended = ends_session e.event; from = e.moment; to = e.moment; events = 1; put = length (puts (e.event ∷ [])); taken = length (takes (e.event ∷ [])); untaken = o }) (sym (untaken_more [] e.event)))
+tally_alone e = grind (arith, untaken_more)
 
 last_is : (first : TimedEvent) (others : List TimedEvent) → last_or (Some first) others ≡ Some (last_in first others)
 last_is first [] = refl
@@ -67,7 +61,4 @@ last_is first (next ∷ others) = last_is next others
 -- the turns of a stretch are those of its first event and its last
 pub moments_told : (first : TimedEvent) (others : List TimedEvent) → TellsMoments first others (tally_of first others)
 unfolding tally_of
-moments_told first others = record {
-  from = refl;
-  to = ap (option_map (λ (e : TimedEvent). e.moment)) (sym (last_is first others));
-}
+moments_told first others = grind (arith, last_is)

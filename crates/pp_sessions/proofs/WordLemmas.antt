@@ -1,5 +1,5 @@
 -- The words of a stretch, entry by entry.
-use Rattle.std.proofs.Common.{◌≡◌, ℕ, ◌+◌, ◌%◌, ◌<◌, ◌≤◌, List, [], ◌∷◌, ◌++◌, length, take, get_or, Option, Some, sym, ap, ◌∙◌, append_assoc, ◌⊎◌, inl, inr}
+use Rattle.std.proofs.Common.{◌≡◌, ℕ, ◌+◌, ◌%◌, ◌<◌, ◌≤◌, List, [], ◌∷◌, ◌++◌, length, take, get_or, Option, Some, sym, ap, ◌∙◌, append_assoc, ◌⊎◌, inl, inr, arith}
 use Rattle.std.specs.List.{cons_option}
 use Rattle.std.proofs.lemmas.List.{append-nil, take_all}
 use Rattle.pp_channel.specs.declared.event.Event.{Event}
@@ -17,9 +17,7 @@ word_either e word (inr is) = ap word_of is
 
 pub one_entry : (c : ℕ) (entry : Trace) (count word : ℕ) (rest : List ℕ) → entry.channel ≡ c → word_of entry.event ≡ Some word
     → words_from count (words_in (timed_on c (entry ∷ [])) ++ rest) ≡ one_word count word ++ words_from ((count + 1) % 8) rest
-one_entry c entry count word rest here made =
-    ap (λ (es : List TimedEvent). words_from count (words_in es ++ rest)) (sym (entry_on c entry here))
-    ∙ ap (λ (o : Option ℕ). words_from count (cons_option o [] ++ rest)) made
+one_entry c entry count word rest here made = grind (arith, entry_on)
 
 pub all_printed : (c i count : ℕ) (trace : List Trace) (printed : List ℕ) → length trace ≤ i
     → ((rest : List ℕ) → words_from 0 (words_in (timed_on c (take i trace)) ++ rest) ≡ printed ++ words_from count rest)

@@ -1,5 +1,5 @@
 -- From what was read, and the answer to it, to what a call promises of every reader.
-use Rattle.std.proofs.Common.{◌≡◌, ◌≢◌, refl, ℕ, ◌≤◌, ◌<◌, Bool, true, false, cond, List, length, take, inl, inr, Option, Some, None, Result, Ok, Err, subst}
+use Rattle.std.proofs.Common.{◌≡◌, ◌≢◌, refl, ℕ, ◌≤◌, ◌<◌, Bool, true, false, cond, List, length, take, inl, inr, Option, Some, None, Result, Ok, Err, subst, arith}
 use Rattle.std.specs.Prelude.{◌⊎◌, IfErr, IfSome, OnOk}
 use Rattle.std.specs.Io.KnownBytes.{Consumes, IsAtEnd, Keeps}
 use Rattle.std.proofs.KnownBytes.{Keeps-refl}
@@ -37,9 +37,7 @@ answers_reported profile IsDeckText bytes text (Err report.Memory) old new is ke
 pub answers_after : (profile : Profile) (turns : ℕ) (text_after : List ℕ → LoadedDeck → List ℕ) (bytes text : List ℕ) (deck : LoadedDeck) (after : MachineState) (written : Result (Unit {0}) WriteFault) (old new : Option (List ℕ))
     → deck_meaning profile bytes ≡ Ok deck → after ≡ run (barrel deck.machine.profile turns) deck.machine → HoldsOnEachChannel after → text ≡ text_after (barrel deck.machine.profile turns) deck
     → IsWritten text written old new → IsAnswerUnless profile NothingPrevents (IsTextAfter turns text_after) (answer_to written) bytes old new
-answers_after profile turns text_after bytes text deck after written old new meant ran holds is whole =
-    answers_written profile NothingPrevents (IsTextAfter turns text_after) bytes text written old new
-    (record { deck = deck; meant = meant; is = record { text_is = is; headline = subst HoldsOnEachChannel ran holds } }) whole
+answers_after profile turns text_after bytes text deck after written old new meant ran holds is whole = grind (arith, answers_written)
 
 -- the answer to the bytes that were read is that to the first bytes that the reader had
 told_answer : (profile : Profile) (before after old new : Option (List ℕ)) (Prevents : LoadedDeck → Busy → Type 0) (IsDeckText : LoadedDeck → List ℕ → Type 0) (front : List ℕ) (most : ℕ) (answer : Result (Unit {0}) TextFault)
@@ -47,8 +45,7 @@ told_answer : (profile : Profile) (before after old new : Option (List ℕ)) (Pr
     → IfSome before (λ bytes. IsAnswerUnless profile Prevents IsDeckText answer (take most bytes) old new)
 told_answer profile None after old new Prevents IsDeckText front most answer answered consumed le end = tt
 told_answer profile (Some bytes) None old new Prevents IsDeckText front most answer answered consumed le end = absurd consumed
-told_answer profile (Some bytes) (Some rest) old new Prevents IsDeckText front most answer answered consumed le end =
-    rw (consumed, ← read_front front rest most le end (cases_lt (length front) most)) answered
+told_answer profile (Some bytes) (Some rest) old new Prevents IsDeckText front most answer answered consumed le end = grind (arith, read_front, cases_lt)
 
 -- an answer to these bytes is a fault of writing, or nothing was written
 unwritten_answer : (profile : Profile) (Prevents : LoadedDeck → Busy → Type 0) (IsDeckText : LoadedDeck → List ℕ → Type 0) (answer : Result (Unit {0}) TextFault) (front : List ℕ) (old new : Option (List ℕ))

@@ -10,9 +10,7 @@ use Rattle.pp_draw.proofs.drawing.print_processor_lane.Goals.{else-get, then-get
 use Rattle.pp_draw.proofs.drawing.print_processor_lane.Goals as goal
 
 pub loop-step-init : goal.loop-step-init
-loop-step-init g c =
-    comes_first _ _ _ c.args.window (codes "PP" ++ octal 2 c.args.n) _ _ c.begin-lane.result (processor_phases c.args.n c.args.steps.now) _ c.begin-lane.ensures.lane c.processor_name.ensures refl
-    (rw (c.processor_name.ensures, c.lanes_above-row.ensures, c.index-2.ensures.place) at c.begin-lane.ensures.text)
+loop-step-init g c = grind (arith, comes_first, codes)
 
 pub loop-step-preserved : goal.loop-step-preserved
 loop-step-preserved g c =

@@ -8,7 +8,4 @@ pub loop-place-init : goal.loop-place-init
 loop-place-init g c = record { count = none_below (λ (p : ℕ). is_used c.args.machine.now (channel_number p)); most = omega arith }
 
 pub loop-place-preserved : goal.loop-place-preserved
-loop-place-preserved g c = record {
-  count = rw (c.from-used.ensures, c.is_used.ensures, c.at.ensures.number, c.loop-place.invariant.count) (one_more c.loop-place.place (λ (p : ℕ). is_used c.args.machine.now (channel_number p)));
-  most = omega (arith, c.loop-place.invariant.most, c.from-used.ensures, one_at_most c.is_used.result);
-}
+loop-place-preserved g c = grind (arith, one_more, one_at_most)

@@ -61,9 +61,7 @@ returns-clause-lines g c =
     )
 
 pub returns-in_default-clause-few : goal.returns-in_default-clause-few
-returns-in_default-clause-few g c = λ most few.
-    let one = c.of.ensures.few in
-    record { number = omega (arith, few.number); tally = record { events = omega (arith, one.events); put = omega (arith, one.put); taken = omega (arith, one.taken) } }
+returns-in_default-clause-few g c = grind arith
 
 pub returns-then-not-is_over-clause-few : goal.returns-then-not-is_over-clause-few
 returns-then-not-is_over-clause-few g c = λ most few.

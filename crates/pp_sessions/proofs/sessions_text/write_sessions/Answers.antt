@@ -16,7 +16,4 @@ loop-place-preserved g c =
 
 pub returns : goal.returns
 unfolding all_channels sessions_text
-returns g c =
-    let all : c.loop-place.place ≡ channel_count = omega arith in
-    let written = c.finish.ensures.written _ _ (((rw all at c.loop-place.invariant) ▹ c.print_processors.ensures).goes_on _ [] c.new-text.ensures.nothing) in
-    search (rules, written)
+returns g c = grind (arith, rules)

@@ -1,4 +1,4 @@
-use Rattle.std.proofs.Common.{◌≡◌, ℕ, ◌≤◌, List, length, None, Some, Ok, refl, ap, subst, ◌∙◌}
+use Rattle.std.proofs.Common.{◌≡◌, ℕ, ◌≤◌, List, length, None, Some, Ok, refl, ap, subst, ◌∙◌, arith}
 use Rattle.pp_machine.specs.Run.{barrel, run}
 use Rattle.pp_numbers.specs.declared.profile.Profile.{Profile}
 use Rattle.pp_machine.proofs.RunLemmas.{run_profile}
@@ -12,29 +12,13 @@ use Rattle.pp_sim.proofs.texts.write_dump_after.Goals as goal
 -- what the dump of a deck that has run means
 goes_on_after : (turns : ℕ) (deck : LoadedDeck) (profile : Profile) (source text : List ℕ) → deck.machine.profile ≡ profile → deck_meaning profile source ≡ Ok deck → GoesOnFrom text (after_turns turns deck)
     → length text ≤ 1048576 → deck_meaning deck.machine.profile text ≡ Ok (deck_to_go_on (after_turns turns deck))
-goes_on_after turns deck profile source text is meant goes_on short =
-    let steps = barrel deck.machine.profile turns in
-    let same : (run steps deck.machine).profile ≡ deck.machine.profile = run_profile steps deck.machine in
-    let P : Profile → Type 0 = λ p. deck_meaning p text ≡ Ok (deck_to_go_on (after_turns turns deck)) in
-    subst P same (goes_on source deck steps (ap (λ (p : Profile). deck_meaning p source) (same ∙ is) ∙ meant) refl short)
+goes_on_after turns deck profile source text is meant goes_on short = grind (arith, run_profile)
 
 -- the text of a deck that has run and is between programs
 dumped_of : (turns : ℕ) (deck : LoadedDeck) (profile : Profile) (source : List ℕ) (m : MachineState) → deck.machine.profile ≡ profile → deck_meaning profile source ≡ Ok deck → m ≡ run (barrel deck.machine.profile turns) deck.machine
     → first_busy m ≡ None → (first_busy m ≡ None → GoesOnFrom (dump (record { machine = m; named = deck.named })) (record { machine = m; named = deck.named }))
     → IsOfDeck profile (IsDumpText turns) source (dump (record { machine = m; named = deck.named }))
-dumped_of turns deck profile source m is meant ran between goes_on =
-    let text = dump (record { machine = m; named = deck.named }) in
-    let Between : MachineState → Type 0 = λ m. first_busy m ≡ None in
-    let GoesOn : MachineState → Type 0 = λ m. GoesOnFrom text (record { machine = m; named = deck.named }) in
-    record {
-      deck = deck;
-      meant = meant;
-      is = record {
-        between = subst Between ran between;
-        text_is = ap (λ (m : MachineState). dump (record { machine = m; named = deck.named })) ran;
-        goes_on = goes_on_after turns deck profile source text is meant (subst GoesOn ran (goes_on between));
-      };
-    }
+dumped_of turns deck profile source m is meant ran between goes_on = grind (arith, goes_on_after)
 
 pub returns-in-Ok : goal.returns-in-Ok
 returns-in-Ok g c = λ profile bytes meant same.
@@ -55,9 +39,4 @@ returns-in-Err-Write g c = λ profile bytes meant same.
     )
 
 pub returns-in-Err-NotBetweenPrograms : goal.returns-in-Err-NotBetweenPrograms
-returns-in-Err-NotBetweenPrograms g c = λ profile bytes meant same.
-    let dumped = rw c.in-Err-NotBetweenPrograms.field-0-is at c.in-Err-NotBetweenPrograms.ensures.dumped in
-    let IsFirst : MachineState → Type 0 = λ m. first_busy m ≡ Some c.in-Err-NotBetweenPrograms.first in (
-      record { deck = _; meant = meant; is = subst IsFirst c.in_ok-run_barrel.ensures.run.ran dumped.0 },
-      dumped.1,
-    )
+returns-in-Err-NotBetweenPrograms g c = grind arith

@@ -1,4 +1,4 @@
-use Rattle.std.proofs.Common.{◌≡◌, Bool, List, ℕ, Ok, Result, ap, ◌∙◌}
+use Rattle.std.proofs.Common.{◌≡◌, Bool, List, ℕ, Ok, Result, ap, ◌∙◌, arith}
 use Rattle.std.proofs.lemmas.Result.{err_from_is_err_and}
 use Rattle.pp_machine.specs.MachineState.{MachineState}
 use Rattle.pp_machine.specs.Run.{barrel, run}
@@ -35,6 +35,4 @@ returns g c =
     c.requires ran c.run_counting_held.ensures.run.headline told c.write_state.ensures)
 
 pub returns-in_err-after : goal.returns-in_err-after
-returns-in_err-after g c =
-    let p = err_from_is_err_and c.from_residual.result c.from_residual.ensures.1 in
-    rw (p.1, p.2) (refused c.args.deck.now.profile NothingPrevents (IsTextAfter c.args.turns state_after) _ c.args.deck.now.bytes.now _ c.in_err-after.ensures.fault)
+returns-in_err-after g c = grind (arith, err_from_is_err_and, refused)

@@ -9,23 +9,14 @@ use Rattle.pp_check.proofs.judge.Judge.happen.Goals as goal
 use Rattle.pp_check.proofs.judge.Judge.happen.Goals.{then-matches, else-matches}
 
 pub overflow_add-self : goal.overflow_add-self
-overflow_add-self c =
-    let some = c.requires.kept in
-    let here = ap (λ s. s.events) c.standing_of-standing.ensures.kept in
-    let few = few_events some.0 some.1.0 c.args.self.now c.args.channel some.1.1 c.standing_of-standing.ensures.names in
-    omega (arith, few, here)
+overflow_add-self c = grind (arith, few_events)
 
 pub overflow_add-self-then-matches : goal.overflow_add-self-then-matches
-overflow_add-self-then-matches c =
-    let some = c.requires.kept in
-    let few = few_sessions some.1.0 in
-    omega (arith, some.1.1.sessions, some.1.1.events, few)
+overflow_add-self-then-matches c = grind (arith, few_sessions)
 
 pub returns-in_default-clause-happens : goal.returns-in_default-clause-happens
 unfolding standing
-returns-in_default-clause-happens c = λ opened lines line k fits is.
-    let state = ap (λ s. s.state) (c.standing_of-standing.ensures.kept ∙ k.channels c.args.channel c.standing_of-standing.ensures.names) in
-    (fits, is, state, c.in_default.ensures.unlawful (history opened lines c.args.channel) (k.lawful.histories c.args.channel) state)
+returns-in_default-clause-happens c = grind arith
 
 pub returns-clause-happens : goal.returns-clause-happens
 unfolding standing

@@ -31,11 +31,7 @@ at_most_one true = omega arith
 at_most_one false = omega arith
 
 pub overflow_add-next : goal.overflow_add-next
-overflow_add-next c =
-    let some = c.requires.kept in
-    let here = ap (λ s. s.events) c.standing_of-standing.ensures.kept in
-    let few = few_events some.0 some.1.0 c.args.self.now c.in-Numbered.channel some.1.1 c.standing_of-standing.ensures.names in
-    omega (arith, few, here, c.from.ensures, at_most_one c.standing_of-standing.result.is_opened)
+overflow_add-next c = grind (arith, few_events, at_most_one)
 
 pub returns-then-number-next-clause-judged : goal.returns-then-number-next-clause-judged
 returns-then-number-next-clause-judged c = λ opened lines k.
@@ -70,6 +66,4 @@ returns-else-ne-clause-judged c = λ opened lines k.
     rw said (rw c.in-Standing.is (keeps_without_event opened lines _ _ k (same ∙ ap (λ s. s.state) here) (state_told c.in-Standing.channel c.in-Standing.shown)))
 
 pub returns-in-Other-clause-judged : goal.returns-in-Other-clause-judged
-returns-in-Other-clause-judged c = λ opened lines k.
-    let said : parsed_line (fields_of c.args.line.now) ≡ Some c.in-Some.line = search rules in
-    rw said (rw c.in-Other.is (keeps_without_event opened lines _ _ k tt nothing_told))
+returns-in-Other-clause-judged c = grind (arith, rules, keeps_without_event, nothing_told)

@@ -4,9 +4,7 @@ use Rattle.pp_check.proofs.KeepsLemmas.{read_standing}
 use Rattle.pp_check.proofs.judge.Judge.standing_of.Goals as goal
 
 pub returns-clause-kept : goal.returns-clause-kept
-returns-clause-kept c =
-    let all : length c.args.self.now.channels ≡ channel_count = search rules in
-    read_standing c.args.self.now.channels c.args.channel c.index.result c.index-self-index.result c.index-self-index.is c.index.ensures.place c.index.ensures.below all
+returns-clause-kept c = grind (arith, rules, read_standing)
 
 pub returns-clause-names : goal.returns-clause-names
 returns-clause-names c = channel_places.named_below c.args.channel (omega (arith, c.index.ensures.place, c.index.ensures.below))

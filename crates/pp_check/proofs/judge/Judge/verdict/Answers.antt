@@ -7,9 +7,7 @@ use Rattle.pp_check.proofs.VerdictLemmas.{few_counted, is_told, was_open, told_c
 use Rattle.pp_check.proofs.judge.Judge.verdict.Goals as goal
 
 pub overflow_add-sessions : goal.overflow_add-sessions
-overflow_add-sessions c =
-    let some = c.requires.kept in
-    omega (arith, some.1.1.sessions, some.1.1.events, few_sessions some.1.0, c.loop-standing.invariant.sessions, few_counted was_open c.args.self.now.channels c.loop-standing.standing-index)
+overflow_add-sessions c = grind (arith, few_sessions, few_counted, was_open)
 
 pub returns : goal.returns
 returns c = λ opened lines k.

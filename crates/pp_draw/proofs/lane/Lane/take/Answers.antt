@@ -1,4 +1,4 @@
-use Rattle.std.proofs.Common.{[], ◌∷◌, Option, ap, sym, ◌∙◌}
+use Rattle.std.proofs.Common.{[], ◌∷◌, Option, ap, sym, ◌∙◌, arith}
 use Rattle.pp_text.proofs.PrintingLemmas.{prints_nothing}
 use Rattle.pp_draw.specs.Lane.{still_drawn}
 use Rattle.pp_draw.specs.declared.condition.Phase.{Phase}
@@ -12,9 +12,4 @@ pub returns-then-goes_on : goal.returns-then-goes_on
 returns-then-goes_on g c = ([], prints_nothing _ _, λ rest. goes_by c.args.self.now c.in-Some.current (record { since = c.args.since; look = c.args.look }) rest c.in-Some.is (sym c.goes_on.ensures ∙ c.if-goes_on.true))
 
 pub returns : goal.returns
-returns g c = (
-  _,
-  c.print_part-self.ensures.text,
-  λ rest.
-      comes_next c.args.self.now c.in-Some.current (record { since = c.args.since; look = c.args.look }) c.of-part.result c.print_part-self.result rest c.in-Some.is (sym c.goes_on.ensures ∙ c.if-goes_on.false) c.of-part.ensures.part c.print_part-self.ensures.free,
-)
+returns g c = grind (arith, comes_next)
