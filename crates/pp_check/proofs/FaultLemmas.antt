@@ -5,7 +5,7 @@ use Rattle.std.specs.List.{filter_map, last_or, slice_split}
 use Rattle.std.proofs.Math.Seq.{take-append_seam, take-take}
 use Rattle.std.proofs.lemmas.Bool.{cases_lt, cond-false, cond-true, eq-eqb, le-leb, lt-leb, ne_eqb}
 use Rattle.std.proofs.lemmas.List.{get_or_push, length_push, take-append-drop, take_more, get_or_append_left, take_all, get_or-map, length-map}
-use Rattle.std.proofs.lemmas.List.Elements.{All-get_or, All-take, filter_map-append, All-more, All-nil}
+use Rattle.std.proofs.lemmas.List.Elements.{All-take, filter_map-append, All-more, All-nil}
 use Rattle.pp_channel.specs.Answer.{channel_state}
 use Rattle.pp_channel.specs.History.{IsLawful}
 use Rattle.pp_channel.specs.declared.event.Event.{Event}
@@ -166,10 +166,6 @@ not_before opened text fault other is also early = grind (arith, from_fault, bef
 
 same_line : (opened : List Bool) (text : Text) (fault other : TraceFault) → IsFault opened text fault → IsFault opened text other → fault.line ≡ other.line
 same_line opened text fault other is also = grind (arith, cases_lt, not_before, late)
-
-abbrev FlawAt : List Bool → Text → TraceFlaw → ℕ → Type 0
-FlawAt opened text flaw n =
-    IsFlaw opened (parsed_lines (take (n - 1) text)) (parsed_line (get_or text (n - 1) [])) flaw
 
 pub one_fault : (opened : List Bool) (text : Text) (fault other : TraceFault) → IsFault opened text fault → IsFault opened text other → fault ≡ other
 one_fault opened text fault other is also = grind (arith, same_line, one_flaw)

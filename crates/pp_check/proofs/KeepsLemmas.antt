@@ -10,7 +10,7 @@ use Rattle.pp_channel.specs.Answer.{channel_state}
 use Rattle.pp_channel.specs.History.{IsLawful}
 use Rattle.pp_channel.specs.declared.{channel_state.ChannelState.ChannelState, event.Event.Event}
 use Rattle.pp_channel.specs.declared.event.Event.TheVariants.{Activate}
-use Rattle.pp_check.specs.Judge.{Happens, IsRead, Keeps, KeepsEvents, new_standing, standing, standing_of}
+use Rattle.pp_check.specs.Judge.{Happens, IsRead, Keeps, KeepsEvents, standing, standing_of}
 use Rattle.pp_check.specs.LawfulTrace.{Fits, IsLawfulTrace, event_on, events_on, history, is_opened, last_turn, turn_of}
 use Rattle.pp_check.specs.Verdict.{begins_session, is_activate, tells_event}
 use Rattle.pp_check.specs.declared.{judge.Judge.Judge, standing.Standing.Standing, trace_fault.TraceFlaw.TraceFlaw, trace_line.TraceLine.TraceLine}

@@ -4,9 +4,8 @@ use Rattle.std.specs.Prelude.{◌&&◌, IsTrue, nat_lt, if◌then◌else◌}
 use Rattle.std.proofs.lemmas.Bool.{le-ltb, lt-ltb}
 use Rattle.std.proofs.lemmas.List.{append-nil, get_or-replicate}
 use Rattle.pp_channel.proofs.AnswerLemmas.{lawful_with_event}
-use Rattle.pp_numbers.specs.ChannelNo.{channel_places, channel_count, channel_index, names_channel}
+use Rattle.pp_numbers.specs.ChannelNo.{channel_places, channel_count, names_channel}
 use Rattle.pp_channel.proofs.HistoryLemmas.{lawful_empty}
-use Rattle.pp_channel.specs.Answer.{channel_state}
 use Rattle.pp_channel.specs.History.{IsLawful}
 use Rattle.pp_channel.specs.declared.chan_op.ChanOp.TheVariants as operations
 use Rattle.pp_channel.specs.declared.event.Event.{Event}

@@ -1,9 +1,9 @@
 -- From what clap ensures of a parse to what the words ask for.
-use Rattle.std.proofs.Common.{◌≡◌, ◌∙◌, ℕ, ◌+◌, ◌-◌, ◌<◌, ◌≤◌, add-one, ap₂, arith, drop, drop-cons, fold, get_or, length, map, Bool, true, false, not, IsTrue, List, [], Option, Some, None, option_map, sym, subst, refl, inl, inr, codes}
+use Rattle.std.proofs.Common.{◌≡◌, ◌∙◌, ℕ, ◌+◌, ◌-◌, ◌<◌, ◌≤◌, add-one, arith, drop, drop-cons, fold, get_or, length, map, Bool, true, false, not, IsTrue, List, [], Option, Some, None, option_map, sym, refl, inl, inr, codes}
 use Rattle.std.specs.Prelude.{Box, ◌≢◌, ◌↔◌, is_some}
 use Rattle.std.specs.Bool.{then_some}
 use Rattle.std.specs.Box.{box_value}
-use Rattle.clap.specs.Words.{App, HasKind, IsAmong, Kinds, Text, Row, HasMatchesOf, fault_of, is_simple_and_free, found_of, kind_of, rows_of, subcommand_of, subcommand_rows, subcommand_rows_of, subcommand_name_of}
+use Rattle.clap.specs.Words.{App, HasKind, IsAmong, Kinds, Text, Row, HasMatchesOf, fault_of, is_simple_and_free, kind_of, rows_of, subcommand_of, subcommand_rows, subcommand_rows_of, subcommand_name_of}
 use Rattle.clap.specs.declared.{error.Error.Error, parser.matches.Found.Found, parser.matches.SubCommand.SubCommand, parser.matches.ArgMatches.ArgMatches, parser.matches.ArgMatches.TheViews.out-ArgMatches, parser.matches.ArgMatches.TheViews.out-SubCommand}
 use Rattle.clap.specs.declared.error.kind.ErrorKind.TheVariants.{OutOfMemory}
 use Rattle.pp_numbers.specs.declared.{window.Window.Window, profile.Profile.Profile}

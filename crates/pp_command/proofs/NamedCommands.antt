@@ -7,7 +7,7 @@ use Rattle.std.proofs.lemmas.Slice.Eq.{bytes_eq-Decides}
 use Rattle.clap.specs.Words.{App, Kinds, Row, Rule, Shape, Text, built, fault_of, is_simple, is_simple_and_free, new_app, subcommand_of, with_rule}
 use Rattle.clap.specs.Simple.{built_leaf, entered, help_shape, inherited, is_ready_leaf, is_simple_leaf, label_of, marked_built, new_shape, rows_at, with_leaf_noted}
 use Rattle.clap.specs.Faults.{entered_fault, has_free_rules, level_fault}
-use Rattle.clap.specs.Walk.{Held, Names, Outcome, Step, Waiting, Walk, after_flag, after_step, answers_to, arg_by_index, done, idle, long_or_other, next, nothing_held, option, stop_after, walk_from, plain, plain_word, positional, refused, short_or_plain, subcommand, subcommand_met, subcommand_or_other, to_positional, trailing, value, waits, walked, word_met}
+use Rattle.clap.specs.Walk.{Held, Names, Outcome, Step, Waiting, Walk, after_flag, after_step, answers_to, done, idle, long_or_other, next, nothing_held, option, stop_after, walk_from, plain, plain_word, positional, refused, short_or_plain, subcommand, subcommand_met, subcommand_or_other, trailing, value, waits, walked, word_met}
 use Rattle.clap.specs.Lexer.{long_of, short_of}
 use Rattle.clap.proofs.OnLiterals.{clap_on_literals}
 use Rattle.clap.proofs.WalkLemmas.{both}

@@ -1,5 +1,5 @@
 -- Fields that were printed are read as they stand; printed numbers are such fields, and octal ones are read back.
-use Rattle.std.proofs.Common.{◌≡◌, ℕ, zero, suc, replicate, ◌-◌, ◌<◌, ◌≤◌, Bool, true, false, not, cond, List, [], ◌∷◌, ◌++◌, length, get_or, refl, sym, ap, ◌∙◌, arith, ◌+◌, ◌^◌, Option, Ok, lit<}
+use Rattle.std.proofs.Common.{◌≡◌, ℕ, zero, suc, replicate, ◌-◌, ◌<◌, ◌≤◌, Bool, true, false, not, List, [], ◌∷◌, ◌++◌, length, get_or, refl, sym, ap, ◌∙◌, arith, ◌+◌, ◌^◌, Option, Ok, lit<}
 use Rattle.std.specs.Prelude.{nat_le, filter, slice_index, ◌==◌, ◌&&◌}
 use Rattle.std.specs.List.{list_all, slice_split, onto_first, take_while, All}
 use Rattle.std.proofs.lemmas.Bool.{and_from, and_parts, cond-false, le-leb, leb-true, ne_eqb}

@@ -1,5 +1,5 @@
 -- The words, starts and central words that a deck loads are in range.
-use Rattle.std.proofs.Common.{ℕ, zero, suc, ◌-◌, ◌^◌, ◌<◌, ◌≤◌, Bool, true, false, cond, leb, List, [], ◌∷◌, length, take, get_or, Option, Some, None, Result, Ok, Err, sym, subst, arith, inl, inr}
+use Rattle.std.proofs.Common.{ℕ, zero, suc, ◌-◌, ◌^◌, ◌<◌, ◌≤◌, Bool, true, false, cond, leb, List, [], ◌∷◌, length, take, get_or, Option, Some, None, Result, Ok, Err, arith}
 use Rattle.std.specs.Prelude.{All, Contains, IfSome, IsTrue, filter_map, slice_get, unwrap_or}
 use Rattle.std.specs.List.{AllByRecursion, cons_option, last_or, list_any, range_with_len}
 use Rattle.std.specs.Result.{result_ok}

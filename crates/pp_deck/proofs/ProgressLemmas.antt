@@ -1,6 +1,6 @@
 -- Reading lines one after another leaves what they load all together.
 use Rattle.std.proofs.Common.{◌≡◌, ℕ, ◌<◌, Bool, true, false, cond, eqb, List, [], ◌∷◌, ◌++◌, get_or, replicate, Option, Some, None, refl, sym, ap, ◌∙◌, fold, append_assoc, append-nil, arith}
-use Rattle.std.specs.Prelude.{filter_map, slice_index_or, slice_set, ◌||◌}
+use Rattle.std.specs.Prelude.{filter_map, slice_index_or, slice_set}
 use Rattle.std.specs.List.{list_any}
 use Rattle.std.proofs.lemmas.Bool.{eqb-true}
 use Rattle.std.proofs.lemmas.List.{set-get_or}

@@ -1,12 +1,11 @@
 -- What is known of each line that a deck says: its numbers are in range, and only one with the keyword `PP` begins a section.
-use Rattle.std.proofs.Common.{◌≡◌, ◌∙◌, sym, ap, IsTrue, if◌then◌else◌, ℕ, ◌+◌, ◌-◌, ◌*◌, ◌^◌, ◌<◌, ◌≤◌, Bool, true, false, cond, List, [], ◌∷◌, length, fold, Option, Some, None, Result, Ok, Err, refl, arith, ltb, lit<}
+use Rattle.std.proofs.Common.{◌≡◌, ◌∙◌, sym, ap, IsTrue, if◌then◌else◌, ℕ, ◌+◌, ◌-◌, ◌*◌, ◌^◌, ◌<◌, ◌≤◌, Bool, true, false, cond, List, [], ◌∷◌, length, fold, Option, Some, None, Result, Ok, Err, refl, arith, lit<}
 use Rattle.std.specs.Prelude.{nat_le, nat_lt, ◌&&◌, ◌||◌, All, find, is_some}
 use Rattle.std.specs.List.{list_all}
 use Rattle.std.specs.Option.{ok_or}
 use Rattle.std.proofs.Math.Nat.{mul-le-mul_left, pow-le-pow_right, pow-suc, pow-zero}
 use Rattle.std.proofs.lemmas.Bool.{and_parts, leb-true, ltb-true}
-use Rattle.std.proofs.lemmas.List.Elements.{All-cons, All-nil}
-use Rattle.pp_word.specs.Address.{place_count}
+use Rattle.std.proofs.lemmas.List.Elements.{All-nil}
 use Rattle.pp_word.specs.Numeral.{is_digit, numeral, value_of}
 use Rattle.pp_numbers.specs.Profile.{has_processor}
 use Rattle.pp_numbers.specs.declared.profile.Profile.{Profile}

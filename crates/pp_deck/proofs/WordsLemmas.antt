@@ -1,5 +1,5 @@
 -- The words of a line, taken one by one: `whole` is what the line comes to.
-use Rattle.std.proofs.Common.{sym, ◌∙◌, ◌≡◌, ℕ, ◌+◌, ◌<◌, ◌≤◌, true, false, List, [], ◌∷◌, Result, Ok, Err, refl, ltb, lt-ltb, le-ltb, arith}
+use Rattle.std.proofs.Common.{sym, ◌≡◌, ℕ, ◌+◌, ◌<◌, ◌≤◌, List, [], ◌∷◌, Result, Ok, Err, refl, lt-ltb, le-ltb, arith}
 use Rattle.pp_deck.specs.OctalNumber.{number}
 use Rattle.pp_deck.specs.DeckLine.{words_in, ◌>>=◌}
 use Rattle.pp_deck.specs.Reading.{on_read}

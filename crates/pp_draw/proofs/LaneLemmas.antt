@@ -8,7 +8,7 @@ use Rattle.pp_text.specs.declared.text_writer.TextWriter.{TextWriter}
 use Rattle.pp_draw.specs.Condition.{changes, goes_on, phases_from}
 use Rattle.pp_draw.specs.Lane.{drawn_from, free_after, part_elements, part_of, still_drawn}
 use Rattle.pp_numbers.specs.declared.window.Window.{Window}
-use Rattle.pp_draw.specs.declared.{condition.Look.Look, condition.Phase.Phase, lane.Lane.Lane, lane.Part.Part}
+use Rattle.pp_draw.specs.declared.{condition.Phase.Phase, lane.Lane.Lane, lane.Part.Part}
 use Rattle.pp_draw.proofs.ConditionLemmas.{same_on}
 
 -- ---- a phase comes

@@ -1,7 +1,7 @@
 -- How a lane stands in a turn.
 use Rattle.std.proofs.Common.{◌≡◌, ℕ, ◌+◌, ◌-◌, ◌<◌, ◌≤◌, ◌^◌, ◌&&◌, Bool, true, false, cond, eqb, leb, List, [], ◌∷◌, map, Option, None, Some, refl, sym, ap, ◌∙◌, arith}
 use Rattle.std.specs.Prelude.{◌↔◌, IfSome, IsTrue}
-use Rattle.std.specs.List.{cons_option, filter, last_or}
+use Rattle.std.specs.List.{filter, last_or}
 use Rattle.std.specs.Option.{option_map}
 use Rattle.std.proofs.lemmas.Bool.{cond-false, le-leb, leb-false, leb-true, lt-leb}
 use Rattle.pp_machine.specs.MachineState.{MachineState}

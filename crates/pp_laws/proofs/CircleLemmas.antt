@@ -1,10 +1,9 @@
 -- The circle: its histories are lawful, its logs merge to them, and no order has both logs in it.
-use Rattle.std.proofs.Common.{◌≡◌, ◌≢◌, ℕ, zero, suc, ◌<◌, ◌≤◌, List, [], ◌∷◌, ◌++◌, length, get_or, replicate, refl, sym, ap, ◌∙◌, subst, inl, inr, arith}
+use Rattle.std.proofs.Common.{◌≡◌, ◌≢◌, ℕ, zero, suc, ◌<◌, ◌≤◌, List, [], ◌∷◌, ◌++◌, length, get_or, refl, sym, inl, inr, arith}
 use Rattle.std.specs.Prelude.{None, Some, All}
 use Rattle.std.proofs.lemmas.Bool.{cases_eq, ne_eqb}
 use Rattle.std.proofs.lemmas.List.{length-append}
-use Rattle.std.proofs.lemmas.List.Elements.{All-cons, All-nil, All-replicate}
-use Rattle.std.proofs.lemmas.List.Kept.{AllPairs-cons}
+use Rattle.std.proofs.lemmas.List.Elements.{All-nil}
 use Rattle.pp_numbers.specs.Subsequence.{IsSubsequence}
 use Rattle.pp_numbers.proofs.Subsequences.{stands_after, stands_through, stands_whole}
 use Rattle.pp_numbers.specs.GappedNumbers.{index_of, is_number}

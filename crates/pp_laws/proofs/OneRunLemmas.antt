@@ -6,10 +6,9 @@ use Rattle.std.proofs.lemmas.List.{ext_get_or, get_or_append_left, get_or-append
 use Rattle.std.proofs.lemmas.List.Elements.{All-cons, All-head, All-map, All-nil, All-tail}
 use Rattle.pp_numbers.specs.ChannelNo.{channel_count, channel_number, channel_places}
 use Rattle.pp_channel.specs.History.{history_on}
-use Rattle.pp_report.specs.Types.{Access, Answer, ChanOp, End, Entry, Event, Need, PpState, Report, Worker}
+use Rattle.pp_report.specs.Types.{Access, Answer, ChanOp, End, Entry, Need, PpState, Report, Worker}
 use Rattle.pp_machine.specs.MachineState.{MachineState, history_of, processor_of}
-use Rattle.pp_machine.specs.MachineStep.{answer_to}
-use Rattle.pp_machine.specs.NeedAndEffect.{need, processor_after}
+use Rattle.pp_machine.specs.NeedAndEffect.{need}
 use Rattle.pp_numbers.specs.PpNo.{processor_count, processor_index, processor_number, processor_places}
 use Rattle.pp_machine.specs.Processor.{Processor, IsAtRest, no_processor}
 use Rattle.pp_numbers.specs.Profile.{processors_in}

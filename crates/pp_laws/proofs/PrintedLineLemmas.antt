@@ -1,6 +1,6 @@
 -- Printed lines are read as what they tell.
 use Rattle.std.proofs.Common.{◌≡◌, ◌∙◌, ℕ, ◌^◌, ◌<◌, ◌≤◌, Bool, true, false, List, [], ◌∷◌, ◌++◌, take, codes, Option, Some, None, refl, ap, append_assoc, arith}
-use Rattle.std.specs.Prelude.{IfSome, IsTrue, nat_le, nat_lt}
+use Rattle.std.specs.Prelude.{IfSome, IsTrue, nat_le}
 use Rattle.std.specs.List.{list_all}
 use Rattle.std.specs.Str.{bytes_eq}
 use Rattle.std.proofs.lemmas.Bool.{and_from, and_parts, le-leb, leb-true, ltb-true, ne_eqb}

@@ -12,9 +12,7 @@ use Rattle.pp_numbers.specs.ChannelNo.{all_channels, names_channel}
 use Rattle.pp_channel.specs.History.{IsLawful, history_on}
 use Rattle.pp_line.specs.Merge.{Merges}
 use Rattle.pp_report.specs.Types.{End, Event, Report, Worker}
-use Rattle.pp_channel.specs.declared.event.Event.TheVariants.{Activate}
 use Rattle.pp_deck.specs.DeckText.{lines_of}
-use Rattle.pp_machine.specs.Headline.{opening_history}
 use Rattle.pp_machine.specs.MachineState.{MachineState}
 use Rattle.pp_numbers.specs.PpNo.{all_processors, names_processor, processor_index, processor_number, is_named}
 use Rattle.pp_numbers.specs.Limits.{RunLimits}

@@ -1,7 +1,7 @@
 -- What the barrel prints is read as a lawful trace.
 use Rattle.std.proofs.Common.{All, ◌≡◌, ◌∙◌, ℕ, zero, suc, ◌^◌, ◌<◌, Bool, true, false, List, [], ◌∷◌, ◌++◌, map, get_or, Option, Some, refl, sym, ap, subst, append_assoc, arith}
 use Rattle.std.specs.Prelude.{IsSome, IsTrue, if◌then◌else◌, slice_index_or}
-use Rattle.std.specs.List.{cons_option, filter_map, flat_map, list_all, slice_split}
+use Rattle.std.specs.List.{cons_option, filter_map, flat_map, list_all}
 use Rattle.std.proofs.lemmas.Bool.{and_parts, false_from_ne_true, ne_eqb}
 use Rattle.std.proofs.lemmas.List.{append-nil}
 use Rattle.std.proofs.lemmas.List.Elements.{All-cons, All-head, All-nil, All-tail}

@@ -1,13 +1,13 @@
 -- What a report of a run tells of its ends, and its text of the processors named.
-use Rattle.std.proofs.Common.{◌≡◌, ◌∙◌, ℕ, Bool, true, false, List, [], ◌∷◌, Option, Some, None, All, take, length, refl, sym, ap, inl, inr, arith}
-use Rattle.std.specs.Prelude.{◌&&◌, IsTrue, option_map, slice_index_or, if◌then◌else◌}
+use Rattle.std.proofs.Common.{◌≡◌, ℕ, Bool, true, false, List, [], ◌∷◌, Option, None, All, take, length, refl, sym, arith}
+use Rattle.std.specs.Prelude.{IsTrue, if◌then◌else◌}
 use Rattle.std.proofs.lemmas.Bool.{ltb-true}
 use Rattle.std.proofs.lemmas.Option.{slice_get_cases}
-use Rattle.std.proofs.lemmas.List.Elements.{All-cons, All-nil}
+use Rattle.std.proofs.lemmas.List.Elements.{All-nil}
 use Rattle.std.specs.List.{AllZip}
 use Rattle.pp_machine.specs.MachineState.{MachineState}
 use Rattle.pp_machine.specs.Processor.{Processor}
-use Rattle.pp_numbers.specs.PpNo.{names_processor, processor_index, is_named}
+use Rattle.pp_numbers.specs.PpNo.{is_named}
 use Rattle.pp_numbers.specs.Profile.{processors_in, has_processor}
 use Rattle.pp_numbers.specs.declared.profile.Profile.{Profile}
 use Rattle.pp_deck.specs.DeckLaw.{NamesWithin}
@@ -16,7 +16,7 @@ use Rattle.pp_numbers.specs.Limits.{RunLimits}
 use Rattle.pp_runner.specs.End.{HasEndNumber}
 use Rattle.pp_runner.specs.WorkerReport.{IsWorker}
 use Rattle.pp_runner.specs.declared.{report.Report.Report, worker.Worker.Worker}
-use Rattle.pp_report.specs.ReportLaw.{ShownEnd, end_of, shown_end, shown_of}
+use Rattle.pp_report.specs.ReportLaw.{ShownEnd, end_of, shown_of}
 use Rattle.pp_text.specs.TextLaw.{NameAlike}
 
 each_numbered : {Z : Type 0} (size steps : ℕ) (loads : List Processor) (workers : List (Worker Z))

@@ -8,18 +8,18 @@ use Rattle.std.proofs.lemmas.List.Folds.{list_all-append}
 use Rattle.std.proofs.lemmas.List.Sums.{fold-append}
 use Rattle.pp_word.specs.Numeral.{digit, octal, short_decimal, unpadded}
 use Rattle.pp_word.proofs.NumeralLemmas.{Pass, digits_pass}
-use Rattle.pp_numbers.specs.ChannelNo.{channel_count, channel_index, channel_number}
+use Rattle.pp_numbers.specs.ChannelNo.{channel_index}
 use Rattle.pp_channel.specs.History.{active, waiting}
 use Rattle.pp_channel.specs.declared.event.Event.TheVariants.{Put, Function}
 use Rattle.pp_machine.specs.MachineState.{MachineState, history_of, processor_of}
-use Rattle.pp_numbers.specs.PpNo.{processor_count, processor_index, processor_number}
+use Rattle.pp_numbers.specs.PpNo.{processor_index}
 use Rattle.pp_machine.specs.declared.pp_state.PpState.{PpState}
 use Rattle.pp_machine.specs.declared.pp_state.PpState.TheVariants.{Fault}
 use Rattle.pp_text.specs.PrintedText.{channel_text, each_below, state_text}
 use Rattle.pp_numbers.specs.declared.window.Window.{Window}
-use Rattle.pp_draw.specs.Condition.{channel_phases, face_of, phases_from, processor_phases}
+use Rattle.pp_draw.specs.Condition.{channel_phases, face_of, processor_phases}
 use Rattle.pp_draw.specs.DrawingText.{channel_lane, drawing, is_flagged, is_used, lane_text, lanes_above, processor_lane, used_among}
-use Rattle.pp_draw.specs.Frame.{are_few, foot_text, head_text, legend_text, rectangle_tag, style_text, text_element, text_tag, tick_text, ticks_text}
+use Rattle.pp_draw.specs.Frame.{are_few, foot_text, head_text, legend_text, rectangle_tag, style_text, text_element, text_tag, tick_text}
 use Rattle.pp_draw.specs.Lane.{band_element, drawn_from, free_after, is_visible, label_from, lane_head, part_class, part_of}
 use Rattle.pp_laws.specs.WellFormed.{IsWellFormed, Reader, Sign, before, between, letter, other, quoted, read_at, read_on, sign_of, space}
 use Rattle.pp_draw.specs.declared.condition.Condition.TheVariants.{HeldBy}

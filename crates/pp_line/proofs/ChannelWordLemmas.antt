@@ -5,10 +5,10 @@ use Rattle.std.specs.List.{last_or}
 use Rattle.std.proofs.lemmas.Bool.{eq-eqb, ne_eqb, eqb-false, eqb-true}
 use Rattle.std.proofs.lemmas.List.{length_push}
 use Rattle.pp_line.specs.Types.{ChanOp, Event, Flags, Reply, WordStep}
-use Rattle.pp_channel.specs.Session.{puts, takes, word_put}
+use Rattle.pp_channel.specs.Session.{puts, takes}
 use Rattle.pp_channel.specs.History.{IsLawful, HasTwelveBitWord, HasTwelveBitWords, active, full, waiting, last_stretch}
-use Rattle.pp_channel.specs.Answer.{IsReady, IsAnswer, channel_state, only_looks, reply_shown, event_by, event_of, flags_of, flags_after, reply_made}
-use Rattle.pp_line.specs.ChannelWord.{packed, history_word, number_in, flags_in, register_in, greatest_number, waiting_in, state_in, word_with, step_by, step_from, StepsFrom}
+use Rattle.pp_channel.specs.Answer.{IsReady, IsAnswer, channel_state, only_looks, reply_shown, event_by, event_of, flags_of, reply_made}
+use Rattle.pp_line.specs.ChannelWord.{packed, history_word, number_in, flags_in, register_in, greatest_number, waiting_in, state_in, word_with, step_from, StepsFrom}
 use Rattle.pp_channel.proofs.AnswerLemmas.{acts_where_made, look_makes_none, answered_where_none, ready_of_table, table_of_ready, none_without_ready, lawful_with_event, flags_by_table, word_by_table}
 use Rattle.pp_channel.proofs.HistoryLemmas.{waiting_small}
 

@@ -9,7 +9,7 @@ use Rattle.std.proofs.lemmas.List.Sums.{fold-append}
 use Rattle.pp_line.specs.Types.{Access, Entry, Event, LineView}
 use Rattle.pp_numbers.specs.ChannelNo.{channel_index}
 use Rattle.pp_line.specs.LineState.{LineState, joined, all_joined, lines_of, IsLogBeside, SeesAtLeast, AreClosed, AreInOneOrder}
-use Rattle.pp_line.specs.Order.{ExtendsEach, IsDrawnFrom, FindsWords, AreMade}
+use Rattle.pp_line.specs.Order.{ExtendsEach}
 use Rattle.pp_line.proofs.ListFacts.{All-front, All-back}
 use Rattle.pp_numbers.specs.Subsequence.{IsSubsequence}
 use Rattle.pp_line.specs.LineSteps.{IsLogOf, Tells}

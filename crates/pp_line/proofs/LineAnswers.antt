@@ -1,9 +1,9 @@
 -- What a call of a line answers, from what its steps told.
-use Rattle.std.proofs.Common.{◌≡◌, ℕ, ◌+◌, ◌<◌, ◌≤◌, ◌==◌, List, [], ◌∷◌, ◌++◌, length, take, Some, None, refl, sym, ap, ◌∙◌, subst, arith, append_assoc, inl, inr}
+use Rattle.std.proofs.Common.{◌≡◌, ℕ, ◌+◌, ◌<◌, ◌≤◌, ◌==◌, List, [], ◌∷◌, ◌++◌, length, take, Some, None, refl, sym, ap, ◌∙◌, subst, arith, append_assoc}
 use Rattle.std.specs.Prelude.{Contains, Option, false, if◌then◌else◌, is_some, slice_set}
 use Rattle.std.specs.Option.{option_map, option_or, option_to_list}
 use Rattle.std.proofs.lemmas.List.{append-nil, length_push, length-take-le, take_all, take_at, get_or-set_same, set-set, set-get_or}
-use Rattle.std.proofs.lemmas.List.Elements.{All-weaker, All-contains, Contains-push}
+use Rattle.std.proofs.lemmas.List.Elements.{All-contains, Contains-push}
 use Rattle.std.proofs.lemmas.Bool.{cases_eq, eq-eqb, ne_eqb}
 use Rattle.pp_line.specs.Types.{ChanOp, Entry, Event, LineView, Numbered, Reply, Seen, WordStep}
 use Rattle.pp_channel.specs.declared.event.Event.TheVariants.{Activate, Disconnect, Put, Take, Function}
@@ -13,7 +13,6 @@ use Rattle.pp_channel.specs.Answer.{IsAnswer, IsReady, operation_of, reply_made,
 use Rattle.pp_numbers.specs.ChannelNo.{channel_count, channel_index, channel_places}
 use Rattle.pp_line.specs.ChannelWord.{number_in, flags_in, greatest_number, state_in, step_from}
 use Rattle.pp_channel.specs.History.{IsLawful, HasTwelveBitWords, history_on}
-use Rattle.pp_channel.specs.Law.{KeepsLaw}
 use Rattle.pp_line.specs.LineLog.{LogState, appended, looked, with_seen, event_entry, look_entry, seen_on}
 use Rattle.pp_line.specs.LineState.{LineState, number_after, IsActed, IsWornOut, AreClosed}
 use Rattle.pp_line.specs.LineSteps.{IsLogOf, Tells, IsLoad, IsWonExchange, IsLostExchange}

@@ -4,7 +4,7 @@ use Rattle.std.specs.Prelude.{All, Contains, slice_set, Option, Some, None, IfSo
 use Rattle.std.specs.List.{flat_map}
 use Rattle.std.proofs.lemmas.List.{length-set, length-append, get_or-set_same, take-append-drop}
 use Rattle.std.proofs.lemmas.List.Elements.{All-append, All-push, All-weaker, Contains-append_left, Contains-append_right, Contains-push}
-use Rattle.std.proofs.lemmas.Bool.{MatchBool-at_true, MatchBool-at_false, eq-eqb, ne_eqb}
+use Rattle.std.proofs.lemmas.Bool.{MatchBool-at_true, eq-eqb, ne_eqb}
 use Rattle.pp_line.specs.Types.{Access, Did, Entry, Event, FoundWord, LineView, OnChannel, Read, Saw, Seen, Write}
 use Rattle.pp_numbers.specs.ChannelNo.{channel_count, channel_index, channel_places}
 use Rattle.pp_line.specs.ChannelWord.{number_in, flags_in}

@@ -1,11 +1,9 @@
 -- The numbers seen, by channel, and the greater ones of two lines.
 use Rattle.std.proofs.Common.{◌≡◌, ℕ, zero, suc, ◌<◌, ◌≤◌, max, List, [], ◌∷◌, length, get_or, refl, sym, ◌∙◌, arith}
 use Rattle.std.proofs.lemmas.List.{ext_get_or}
-use Rattle.std.proofs.lemmas.List.Elements.{All-weaker}
 use Rattle.pp_line.specs.declared.entry.Entry.{Entry}
-use Rattle.pp_numbers.specs.ChannelNo.{channel_index}
 use Rattle.pp_line.specs.LineView.{greater_of_each}
-use Rattle.pp_line.specs.LineLog.{known_after, seen_on, IsWithin}
+use Rattle.pp_line.specs.LineLog.{IsWithin}
 
 -- what lies within the numbers seen lies within greater ones
 pub within_more : (xs ys : List ℕ) → ((d : ℕ) → get_or xs d 0 ≤ get_or ys d 0) → (log : List Entry) → IsWithin xs log → IsWithin ys log

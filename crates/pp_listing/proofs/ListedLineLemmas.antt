@@ -1,5 +1,5 @@
 -- A line that was printed has the fields that it was printed from, and is plain text.
-use Rattle.std.proofs.Common.{◌≡◌, ℕ, ◌<◌, true, List, [], ◌∷◌, ◌++◌, length, map, replicate, refl, sym, subst, arith, append_assoc, ◌/◌, ◌%◌, ◌^◌, Bool, false, cond, eqb, ◌∙◌}
+use Rattle.std.proofs.Common.{◌≡◌, ℕ, ◌<◌, true, List, [], ◌∷◌, ◌++◌, length, map, replicate, refl, sym, subst, arith, append_assoc, Bool, false, cond, eqb, ◌∙◌}
 use Rattle.std.specs.Prelude.{codes}
 use Rattle.std.specs.List.{list_all, flat_map}
 use Rattle.std.proofs.lemmas.Bool.{and_from}
@@ -7,11 +7,11 @@ use Rattle.std.proofs.lemmas.List.{append-nil}
 use Rattle.pp_deck.specs.DeckLine.{Line, nothing, central_size, central_words, section, start, words, dead_start}
 use Rattle.pp_deck.specs.DeckText.{fields_in}
 use Rattle.pp_deck.proofs.FieldTextLemmas.{is_ink, IsField, IsTail, tail_none, tail_field, tail_last, tail_comment, no_fields, fields_last, is_plain, octal_is_field, octal_plain, short_is_field, short_plain}
-use Rattle.pp_text.specs.InstructionText.{instruction_text, index_text, operands_of, operands_text}
+use Rattle.pp_text.specs.InstructionText.{instruction_text, index_text, operands_text}
 use Rattle.pp_listing.specs.ListedLine.{ListedLine, bare, one_word, two_words, after_blank, line_text, says, listed_text}
 use Rattle.pp_word.specs.Numeral.{octal, short_octal}
 use Rattle.std.proofs.lemmas.List.Folds.{list_all-append}
-use Rattle.pp_word.specs.Opcode.{opcode_at, row_of}
+use Rattle.pp_word.specs.Opcode.{row_of}
 use Rattle.pp_word.specs.declared.opcode.Opcode.{Opcode}
 use Rattle.pp_word.specs.declared.opcode.Opcode.TheVariants.{PSN}
 use Rattle.pp_word.specs.Address.{relative_to}

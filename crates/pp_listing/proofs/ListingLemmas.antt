@@ -23,9 +23,8 @@ use Rattle.pp_numbers.specs.declared.profile.Profile.{Profile}
 use Rattle.pp_deck.specs.DeckLine.{Line, central_size, central_words, section, dead_start}
 use Rattle.pp_deck.specs.DeckLoad.{processor_loaded, processor_with, central_loaded, asks_dead_start, lines_for, memory_of, start_in}
 use Rattle.pp_deck.specs.DeckLoad as load
-use Rattle.pp_deck.specs.DeckMeaning.{LoadedDeck, set_by, with_dead_start, loaded, deck_meaning, meaning_of_lines, parsed_deck, size_of}
+use Rattle.pp_deck.specs.DeckMeaning.{LoadedDeck, set_by, with_dead_start, loaded, deck_meaning, meaning_of_lines}
 use Rattle.pp_deck.proofs.SectionLemmas.{current_after}
-use Rattle.pp_deck.specs.DeckText.{lines_of}
 use Rattle.pp_deck.proofs.DeadStartLemmas as dead
 use Rattle.pp_deck.proofs.LawLemmas as law
 use Rattle.pp_deck.proofs.DeckLawLemmas.{loaded_is}

@@ -1,7 +1,7 @@
 -- A text of printed lines is read as these lines, one after another.
 use Rattle.std.proofs.Common.{◌≡◌, ℕ, ◌+◌, ◌<◌, ◌≤◌, Bool, true, false, List, [], ◌∷◌, ◌++◌, length, drop, get_or, map, fold, Option, Some, None, Ok, refl, sym, ap, subst, ◌∙◌, arith, append_assoc, ltb, le-ltb, ◌^◌, cond, Result, Err, lt-ltb}
-use Rattle.std.specs.Prelude.{nat_le, position, is_some, IsTrue, nat_eq, All}
-use Rattle.std.specs.List.{list_all, flat_map, slice_split, All}
+use Rattle.std.specs.Prelude.{nat_le, position, is_some, IsTrue, All}
+use Rattle.std.specs.List.{list_all, flat_map, All}
 use Rattle.std.proofs.lemmas.Bool.{and_from, and_parts, cond-false, le-leb, leb-true, ne_eqb}
 use Rattle.std.proofs.lemmas.List.{length-drop}
 use Rattle.std.proofs.lemmas.List.Folds.{list_all-append}
@@ -10,10 +10,10 @@ use Rattle.std.proofs.lemmas.List.Splits.{slice_split_at}
 use Rattle.std.proofs.lemmas.List.Quantifiers.{position-Some}
 use Rattle.pp_numbers.specs.declared.profile.Profile.{Profile}
 use Rattle.pp_deck.specs.DeckLine.{Line, line_after, central_size, central_words, section, start, words, dead_start, keyword_of, words_in, central_line, central_words_line, section_line, start_line, words_line, ◌>>=◌}
-use Rattle.pp_deck.specs.DeckMeaning.{LoadedDeck, deck_meaning, meaning_of_lines, is_foreign, unless_foreign, size_of, loaded, with_dead_start, stated_size}
+use Rattle.pp_deck.specs.DeckMeaning.{LoadedDeck, deck_meaning, meaning_of_lines, is_foreign, size_of, loaded, with_dead_start, stated_size}
 use Rattle.pp_deck.specs.Reading.{Progress, before_lines, after_line, after_lines, deck_so_far, progress_of}
 use Rattle.pp_deck.proofs.SectionLemmas.{after_line_parts, current_after}
-use Rattle.pp_deck.specs.DeckText.{is_line_feed, fields_of, lines_of}
+use Rattle.pp_deck.specs.DeckText.{is_line_feed, lines_of}
 use Rattle.pp_deck.proofs.FieldLemmas.{next_line}
 use Rattle.pp_deck.proofs.ProgressLemmas.{after_lines_is}
 use Rattle.pp_deck.proofs.ReadingLemmas.{ReadTo, read_none, read_more, read_blank, read_all}

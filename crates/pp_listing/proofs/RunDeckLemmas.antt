@@ -1,5 +1,5 @@
 -- What stays of a loaded deck through all steps of its machine.
-use Rattle.std.proofs.Common.{◌≡◌, ◌≢◌, ℕ, ◌^◌, ◌<◌, ◌≤◌, ◌||◌, Bool, true, false, cond, List, [], ◌∷◌, ◌++◌, length, get_or, get_or-set_other, Option, None, Some, Ok, refl, sym, ap, subst, ◌∙◌, arith, inl, inr, append-nil}
+use Rattle.std.proofs.Common.{◌≡◌, ◌≢◌, ℕ, ◌^◌, ◌<◌, ◌≤◌, ◌||◌, Bool, true, false, cond, List, [], ◌∷◌, ◌++◌, length, get_or-set_other, Option, None, Some, Ok, refl, sym, ap, subst, ◌∙◌, arith, inl, inr, append-nil}
 use Rattle.std.specs.Prelude.{All, IsTrue, filter_map, unwrap_or, slice_set, if◌then◌else◌}
 use Rattle.std.specs.Option.{option_to_list}
 use Rattle.std.proofs.lemmas.Bool.{cases_lt, or_parts}
@@ -9,7 +9,7 @@ use Rattle.std.proofs.lemmas.List.Elements.{All-cons, All-nil, All-push, All-rep
 use Rattle.pp_numbers.proofs.GrowingLists.{last_of}
 use Rattle.pp_numbers.specs.Tables.{tabulate}
 use Rattle.pp_numbers.proofs.TableLemmas.{length-tabulate}
-use Rattle.pp_channel.specs.Answer.{channel_state, event_of, event_with, flags_of, flags_shown, history_after, ready_at, reply_by, reply_shown}
+use Rattle.pp_channel.specs.Answer.{event_of, event_with, flags_of, flags_shown, history_after, ready_at, reply_by, reply_shown}
 use Rattle.pp_channel.proofs.AnswerLemmas.{shows_flags}
 use Rattle.pp_numbers.specs.ChannelNo.{channel_count, channel_index, channel_number}
 use Rattle.pp_channel.specs.History.{HasTwelveBitWord, HasTwelveBitWords, waiting}
@@ -38,7 +38,7 @@ use Rattle.pp_numbers.specs.declared.profile.Profile.TheVariants.{Ten}
 use Rattle.pp_machine.proofs.MachineStepLemmas.{stepped_at_rest}
 use Rattle.pp_machine.proofs.MemoryLemmas.{zero_memory}
 use Rattle.pp_deck.specs.DeckLine.{Line}
-use Rattle.pp_deck.specs.DeckLoad.{asks_dead_start, central_loaded, lines_for, memory_of, processor_loaded, processor_with, start_in}
+use Rattle.pp_deck.specs.DeckLoad.{asks_dead_start, lines_for, memory_of, processor_loaded, processor_with, start_in}
 use Rattle.pp_deck.specs.DeckLoad as load
 use Rattle.pp_deck.specs.DeckMeaning.{LoadedDeck, deck_meaning, loaded, set_by, unnamed_in, with_dead_start}
 use Rattle.pp_deck.specs.InUse.{is_in_use}

@@ -1,6 +1,6 @@
 -- A step leaves a processor the widths of its words and registers, and the profile of its machine.
-use Rattle.std.proofs.Common.{ℕ, zero, suc, ◌+◌, ◌-◌, ◌*◌, ◌%◌, ◌/◌, ◌^◌, ◌==◌, ◌<◌, ◌&&◌, not, Bool, true, false, List, [], ◌∷◌, Option, None, Some, if◌then◌else◌, slice_set, get_or, arith, ◌∙◌, ◌≡◌, ◌≤◌, length, map, zip, take, drop, replicate, refl, lit<, length-append, length-take}
-use Rattle.std.specs.Prelude.{slice_index_or, min, nat_lt, if◌then◌else◌, ◌&&◌}
+use Rattle.std.proofs.Common.{ℕ, zero, suc, ◌+◌, ◌-◌, ◌*◌, ◌%◌, ◌/◌, ◌^◌, ◌==◌, ◌<◌, ◌&&◌, not, Bool, true, false, List, [], ◌∷◌, Option, None, Some, if◌then◌else◌, slice_set, get_or, arith, ◌≡◌, ◌≤◌, length, map, zip, lit<, length-append, length-take}
+use Rattle.std.specs.Prelude.{slice_index_or, nat_lt, if◌then◌else◌, ◌&&◌}
 use Rattle.std.proofs.lemmas.List.{length-set, length-drop, length-map, length-replicate}
 use Rattle.std.proofs.lemmas.List.Elements.{All-from_recursion}
 use Rattle.pp_word.specs.Address.{place_after, place_count, next_place, relative_to, indexed}
@@ -13,13 +13,12 @@ use Rattle.pp_channel.specs.declared.{chan_op.ChanOp.ChanOp, flags.Flags.Flags, 
 use Rattle.pp_channel.specs.declared.chan_op.ChanOp.TheVariants as operations
 use Rattle.pp_channel.specs.declared.reply.Reply.TheVariants as replies
 use Rattle.pp_machine.specs.Block.{stored_from, receives, central_from, held, cut_short, block_word, starts, ends, counts_down, counts_up, stores_at}
-use Rattle.pp_machine.specs.Effect.{goes_on, goes_to, faults, jumps_where, branches_where, leads_to_itself, is_negative, low_of, loads, loads_word, replaces}
-use Rattle.pp_machine.specs.InstructionTable.{row, works_on_channel, memory_operations, operand_places}
+use Rattle.pp_machine.specs.Effect.{goes_on, goes_to, jumps_where, branches_where, leads_to_itself, is_negative, low_of, loads, loads_word, replaces}
+use Rattle.pp_machine.specs.InstructionTable.{row, memory_operations, operand_places}
 use Rattle.pp_machine.specs.NeedAndEffect.{answered, step_of, next_step, processor_after, if_running}
-use Rattle.pp_machine.specs.Operand.{operation, lower_six, second_word, index, constant}
+use Rattle.pp_machine.specs.Operand.{operation, second_word, index, constant}
 use Rattle.pp_machine.specs.PpMemory.{IsMemory}
 use Rattle.pp_machine.specs.Processor.{Processor, IsProcessor, word_at}
-use Rattle.pp_numbers.specs.Profile.{has_channel}
 use Rattle.pp_machine.specs.Step.{Step, local, probes, takes, does, reads, writes}
 use Rattle.pp_machine.specs.declared.{answer.Answer.Answer, block.Block.Block, block.BlockKind.BlockKind, pp_state.PpState.PpState}
 use Rattle.pp_machine.specs.declared.answer.Answer.TheVariants as answers
@@ -29,7 +28,7 @@ use Rattle.pp_machine.specs.declared.pp_state.PpState.TheVariants.{Running, Stop
 use Rattle.std.proofs.Math.Nat.{pow-le-pow_right, pow-suc, pow-zero}
 use Rattle.std.proofs.lemmas.Slice.Zip.{length-zip}
 use Rattle.std.proofs.lemmas.Bool.{ltb-true}
-use Rattle.pp_word.specs.Bits.{number_of, bits_of, rotation, right_shift, shift, complement, combination, logical_product, logical_difference, selective_clear}
+use Rattle.pp_word.specs.Bits.{number_of, bits_of, shift, complement, combination, logical_product, logical_difference, selective_clear}
 use Rattle.pp_word.proofs.BitsLemmas.{length-lowest_bits}
 
 one_more : (r power : ℕ) → r < power → 1 + 2 * r < power * 2

@@ -24,7 +24,7 @@ use Rattle.pp_machine.specs.declared.need.Need.TheVariants as needs
 use Rattle.pp_machine.specs.declared.pp_state.PpState.TheVariants.{Running}
 use Rattle.pp_numbers.specs.declared.profile.Profile.{Profile}
 use Rattle.pp_machine.proofs.BlockLemmas.{idle, position, over, inputs, input_closed, input_need, outputs, output_cut, output_need, centrals_in, central_in_need, centrals_out, central_out_need, address_of-some}
-use Rattle.pp_machine.proofs.ReplayLemmas.{Gives, Gives-cons, Gives-append, Gives-to, replayed-Gives, given_count-Gives}
+use Rattle.pp_machine.proofs.ReplayLemmas.{Gives, Gives-append, Gives-to, replayed-Gives, given_count-Gives}
 use Rattle.pp_machine.proofs.StoredLemmas.{stored, stored-append, stored-cons, stored-nil, BringsWords-stored, parts_of_all, length-parts_of_all, slice_index-parts_of_all}
 
 -- CRM: the start, and these central words

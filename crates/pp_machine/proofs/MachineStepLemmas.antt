@@ -1,22 +1,20 @@
 -- A step of a processor at rest, a step that needs nothing from outside, and what is true of each step.
-use Rattle.std.proofs.Common.{◌≡◌, ◌≢◌, ℕ, ◌<◌, List, [], ◌++◌, length, map, append-nil, slice_set, refl, sym, ap, ◌∙◌, subst, arith}
+use Rattle.std.proofs.Common.{◌≡◌, ◌≢◌, ℕ, ◌<◌, length, append-nil, refl, sym, ap, ◌∙◌, arith}
 use Rattle.std.specs.Prelude.{None, Option, Some, Result, Ok, Err, OnOk, OnErr, IfOk}
-use Rattle.std.specs.Option.{option_to_list}
 use Rattle.std.proofs.lemmas.List.{set-get_or, get_or-set_same}
-use Rattle.pp_channel.specs.Answer.{channel_state, event_of, reply_by, reply_to, flags_of}
-use Rattle.pp_numbers.specs.ChannelNo.{channel_index}
+use Rattle.pp_channel.specs.Answer.{event_of, reply_by, flags_of}
 use Rattle.pp_channel.specs.declared.{chan_op.ChanOp.ChanOp, channel_state.ChannelState.ChannelState, event.Event.Event, flags.Flags.Flags, reply.Reply.Reply}
 use Rattle.pp_channel.specs.declared.chan_op.ChanOp.TheVariants.{Probe}
 use Rattle.pp_channel.specs.declared.event.Event.TheVariants as events
 use Rattle.pp_channel.specs.declared.reply.Reply.TheVariants as replies
 use Rattle.pp_machine.specs.MachineState.{MachineState, processor_of, history_of}
 use Rattle.pp_machine.specs.MachineStep.{answer_to, counted, event_for, served, taken, stepped, step_event, step_outcome}
-use Rattle.pp_machine.specs.NeedAndEffect.{need, processor_after, outcome, IsHeldAnswer, if_running, next_step}
-use Rattle.pp_machine.specs.Processor.{Processor, no_processor, IsAtRest, IsAtFault, KeepsMemoryAndRegisters}
+use Rattle.pp_machine.specs.NeedAndEffect.{need, outcome, if_running, next_step}
+use Rattle.pp_machine.specs.Processor.{Processor, IsAtRest, IsAtFault, KeepsMemoryAndRegisters}
 use Rattle.pp_machine.specs.Step.{need_of}
 use Rattle.pp_numbers.specs.PpNo.{processor_index}
 use Rattle.pp_machine.specs.declared.answer.Answer.TheVariants as answers
-use Rattle.pp_machine.specs.declared.{need.Need.Need, outcome.Outcome.Outcome, trace.Trace.Trace, pp_state.PpState.PpState}
+use Rattle.pp_machine.specs.declared.{need.Need.Need, outcome.Outcome.Outcome, pp_state.PpState.PpState}
 use Rattle.pp_machine.specs.declared.need.Need.TheVariants.{Nothing, Local, Channel, Read, Write}
 use Rattle.pp_machine.specs.declared.outcome.Outcome.TheVariants.{AtRest, Held, Moved}
 use Rattle.pp_machine.specs.declared.pp_state.PpState.TheVariants.{Running, Stopped, Fault}

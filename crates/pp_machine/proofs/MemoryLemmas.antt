@@ -1,4 +1,4 @@
-use Rattle.std.proofs.Common.{◌≡◌, ℕ, zero, suc, replicate, slice_index, refl, arith, ◌∙◌}
+use Rattle.std.proofs.Common.{◌≡◌, ℕ, zero, suc, replicate, slice_index, refl, arith}
 use Rattle.std.proofs.lemmas.List.{length-replicate}
 use Rattle.pp_word.specs.Address.{place_count}
 use Rattle.pp_machine.specs.PpMemory.{IsMemory}

@@ -1,16 +1,14 @@
 -- Quiet steps of different processors: whole rounds of them are as many steps of each processor by itself.
-use Rattle.std.proofs.Common.{◌≡◌, ◌≢◌, ℕ, zero, suc, ◌+◌, ◌*◌, ◌-◌, ◌^◌, ◌<◌, ◌≤◌, List, [], length, ◌++◌, append-nil, slice_set, get_or, refl, sym, ap, subst, ◌∙◌, arith, inl, inr, get_or-set_same, get_or-set_other}
-use Rattle.std.specs.Prelude.{min, map, Bool, IsTrue, false, Option, Some, None, is_none}
+use Rattle.std.proofs.Common.{◌≡◌, ◌≢◌, ℕ, zero, suc, ◌+◌, ◌*◌, ◌-◌, ◌^◌, ◌<◌, ◌≤◌, List, length, append-nil, slice_set, get_or, refl, sym, ap, subst, ◌∙◌, arith, inl, inr, get_or-set_same, get_or-set_other}
+use Rattle.std.specs.Prelude.{min, Bool, IsTrue, false, Option, Some, None, is_none}
 use Rattle.std.proofs.lemmas.Bool.{false≢true}
 use Rattle.std.proofs.lemmas.Bool.Decides.{eqb_tells, leb_tells}
 use Rattle.std.proofs.lemmas.List.{set-get_or, length-set, ext_get_or}
 use Rattle.pp_channel.specs.Answer.{event_of, reply_to, flags_of}
-use Rattle.pp_numbers.specs.ChannelNo.{channel_index}
 use Rattle.pp_channel.specs.declared.{chan_op.ChanOp.ChanOp, event.Event.Event, flags.Flags.Flags, reply.Reply.Reply}
 use Rattle.pp_channel.specs.declared.chan_op.ChanOp.TheVariants.{Probe}
 use Rattle.pp_channel.specs.declared.reply.Reply.TheVariants as replies
-use Rattle.pp_machine.specs.declared.{trace.Trace.Trace, need.Need.Need}
-use Rattle.std.specs.Option.{option_to_list}
+use Rattle.pp_machine.specs.declared.{need.Need.Need}
 use Rattle.pp_machine.specs.MachineState.{MachineState, processor_of, history_of}
 use Rattle.pp_machine.specs.MachineStep.{answer_to, counted, served, taken, stepped}
 use Rattle.pp_machine.specs.NeedAndEffect.{need, processor_after}

@@ -1,5 +1,5 @@
 -- Which answers fit, answers that are all given, and replays, an answer at a time.
-use Rattle.std.proofs.Common.{◌≡◌, ℕ, Bool, true, false, Option, None, Some, refl, suc, ◌+◌, List, [], ◌∷◌, ◌++◌, length, if◌then◌else◌, ap, ◌∙◌, sym, arith, append_assoc, append-nil, ◌<◌, ◌≤◌, drop, get_or}
+use Rattle.std.proofs.Common.{◌≡◌, ℕ, Bool, true, false, Option, None, Some, refl, suc, ◌+◌, List, [], ◌∷◌, ◌++◌, length, if◌then◌else◌, ap, ◌∙◌, arith, append_assoc, append-nil, ◌<◌, ◌≤◌, drop, get_or}
 use Rattle.std.specs.Prelude.{if◌then◌else◌}
 use Rattle.pp_channel.specs.Answer.{event_with, only_looks, operation_of, ready_at, reply_by, reply_made, reply_shown, seen_answered, state_reply}
 use Rattle.pp_channel.specs.declared.{chan_op.ChanOp.ChanOp, channel_state.ChannelState.ChannelState, seen.Seen.Seen, event.Event.Event, flags.Flags.Flags, reply.Reply.Reply}

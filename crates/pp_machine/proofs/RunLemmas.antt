@@ -1,13 +1,13 @@
 -- A run with one more step; a step keeps what holds of every channel, and so does a list of steps;
 -- what a refused step says.
-use Rattle.std.proofs.Common.{◌≡◌, ℕ, zero, suc, ◌+◌, ◌<◌, List, [], ◌∷◌, ◌++◌, take, length, get_or, refl, ap, ◌∙◌, arith, get_or-set_same, ◌≢◌, ◌≤◌, ◌==◌, Bool, true, false, IsTrue, map, append-nil, slice_set, sym, subst}
+use Rattle.std.proofs.Common.{◌≡◌, ℕ, zero, suc, ◌+◌, ◌<◌, List, [], ◌∷◌, ◌++◌, take, length, get_or, refl, ap, ◌∙◌, arith, get_or-set_same, ◌≢◌, ◌≤◌, Bool, true, false, IsTrue, map, append-nil, slice_set, sym, subst}
 use Rattle.std.proofs.lemmas.List.{take_more, length_push, set-get_or, length-set, set_past}
 use Rattle.pp_machine.specs.MachineState.{MachineState, processor_of, history_of}
 use Rattle.pp_machine.specs.MachineStep.{stepped, answer_to, served, taken}
 use Rattle.pp_numbers.specs.Profile.{processor_in_turn}
 use Rattle.pp_machine.specs.Run.{run, barrel}
 use Rattle.pp_numbers.specs.declared.profile.Profile.{Profile}
-use Rattle.std.specs.Prelude.{if◌then◌else◌, Option, Some, None, Result, Ok, Err, IsNone, IsSome, IsOk, IsErr, OnOk}
+use Rattle.std.specs.Prelude.{Option, Some, None, Result, Ok, Err, IsNone, IsSome, IsOk, IsErr, OnOk}
 use Rattle.std.specs.Option.{option_to_list}
 use Rattle.std.specs.Result.{is_err}
 use Rattle.std.proofs.lemmas.Bool.{ne_eqb}

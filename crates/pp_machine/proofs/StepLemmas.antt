@@ -1,5 +1,5 @@
 -- What is true of each step, whatever the instruction.
-use Rattle.std.proofs.Common.{◌≡◌, ◌≢◌, ℕ, ◌-◌, ◌==◌, ◌&&◌, not, Bool, true, false, Option, None, Some, if◌then◌else◌, refl, ◌↔◌, arith}
+use Rattle.std.proofs.Common.{◌≡◌, ◌≢◌, ℕ, ◌-◌, ◌==◌, not, Bool, true, false, Option, None, Some, if◌then◌else◌, refl, ◌↔◌, arith}
 use Rattle.pp_word.specs.Address.{relative_to}
 use Rattle.pp_word.specs.OnesComplement.{difference}
 use Rattle.pp_word.specs.declared.opcode.Opcode.{Opcode}
@@ -8,11 +8,9 @@ use Rattle.pp_channel.specs.declared.flags.Flags.{Flags}
 use Rattle.pp_channel.specs.declared.reply.Reply.TheVariants as replies
 use Rattle.pp_machine.specs.Block.{held, cut_short, block_word, starts, counts_down, counts_up, receives, stores_at}
 use Rattle.pp_machine.specs.Effect.{faults, stops, goes_to, jumps_where, branches_where, leads_to_itself, is_negative}
-use Rattle.pp_machine.specs.InstructionTable.{row, works_on_channel}
+use Rattle.pp_machine.specs.InstructionTable.{row}
 use Rattle.pp_machine.specs.NeedAndEffect.{answered, step_of, next_step, is_held, need, processor_after, outcome, IsHeldAnswer, if_running}
-use Rattle.pp_machine.specs.Operand.{operation, lower_six}
 use Rattle.pp_machine.specs.Processor.{Processor, IsAtRest, IsAtFault, KeepsMemoryAndRegisters}
-use Rattle.pp_numbers.specs.Profile.{has_channel}
 use Rattle.pp_machine.specs.Step.{Step, need_of, local, probes, takes, does, reads, writes}
 use Rattle.pp_machine.specs.declared.{answer.Answer.Answer, block.Block.Block, block.BlockKind.BlockKind, pp_state.PpState.PpState}
 use Rattle.pp_machine.specs.declared.answer.Answer.TheVariants as answers

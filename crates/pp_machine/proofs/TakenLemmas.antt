@@ -1,5 +1,5 @@
 -- A step of a machine, put together from what its parts left in the machine's fields.
-use Rattle.std.proofs.Common.{◌≡◌, ℕ, ◌-◌, ◌<◌, List, [], ◌∷◌, ◌++◌, length, length-append, take, get_or, slice_set, Option, None, Some, false, not, ◌&&◌, refl, sym, ap, subst, ◌∙◌, arith, rules}
+use Rattle.std.proofs.Common.{◌≡◌, ℕ, ◌-◌, ◌<◌, List, [], ◌∷◌, ◌++◌, length, length-append, take, get_or, slice_set, Option, None, Some, false, refl, ap, ◌∙◌, arith, rules}
 use Rattle.std.proofs.Math.Seq.{take-append_seam}
 use Rattle.std.specs.Prelude.{Bool, true, IsNone, IsSome, IsTrue, ◌↔◌, if◌then◌else◌}
 use Rattle.std.proofs.lemmas.List.{get_or_read, set-get_or}
@@ -9,15 +9,12 @@ use Rattle.pp_machine.specs.Headline.{IsMachine}
 use Rattle.pp_machine.specs.MachineState.{MachineState, history_of, processor_of}
 use Rattle.pp_machine.specs.MachineStep.{answer_to, counted, served, taken, stepped, step_outcome}
 use Rattle.pp_word.specs.declared.opcode.Opcode.{Opcode}
-use Rattle.pp_numbers.specs.Profile.{has_channel}
-use Rattle.pp_machine.specs.Effect.{faults}
-use Rattle.pp_machine.specs.InstructionTable.{instruction, row, works_on_channel}
-use Rattle.pp_machine.specs.NeedAndEffect.{need, processor_after, outcome, is_held, if_running, answered, next_step, step_of}
+use Rattle.pp_machine.specs.InstructionTable.{row}
+use Rattle.pp_machine.specs.NeedAndEffect.{need, processor_after, outcome, is_held, if_running, answered}
 use Rattle.pp_machine.specs.NextStep.{IsAtInstruction}
-use Rattle.pp_machine.specs.Operand.{lower_six}
 use Rattle.pp_machine.specs.Replay.{fits}
-use Rattle.pp_machine.specs.Step.{Step, need_of, local}
-use Rattle.pp_machine.specs.Processor.{Processor, no_processor, no_such_channel}
+use Rattle.pp_machine.specs.Step.{Step, need_of}
+use Rattle.pp_machine.specs.Processor.{Processor}
 use Rattle.pp_numbers.specs.PpNo.{processor_index}
 use Rattle.pp_machine.specs.declared.{answer.Answer.Answer, block.Block.Block, need.Need.Need}
 use Rattle.pp_machine.specs.declared.answer.Answer.TheVariants.{Local}

@@ -1,6 +1,6 @@
 -- The last element of a list, and what comes after the last element that passes a test, with one
 -- more element.
-use Rattle.std.proofs.Common.{◌≡◌, ◌+◌, ◌-◌, Bool, true, false, not, cond, List, [], ◌∷◌, ◌++◌, length, drop, Option, Some, None, refl, ap, ◌∙◌, arith}
+use Rattle.std.proofs.Common.{◌≡◌, ◌+◌, ◌-◌, Bool, true, false, cond, List, [], ◌∷◌, ◌++◌, length, Option, Some, None, refl, ap, ◌∙◌, arith}
 use Rattle.std.specs.List.{slice_get, last_or, after_last, suffix_len, prefix_len}
 use Rattle.std.proofs.lemmas.List.{reverse-append, drop-append-le, drop_all, length_push}
 

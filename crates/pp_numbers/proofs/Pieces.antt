@@ -1,5 +1,5 @@
 -- A list of numbers cut where a test passes, piece by piece.
-use Rattle.std.proofs.Common.{◌≡◌, ℕ, ◌+◌, ◌≤◌, Bool, true, false, cond, List, ◌∷◌, [], length, take, drop, Some, None, sym, ap, ◌∙◌, arith, refl}
+use Rattle.std.proofs.Common.{◌≡◌, ℕ, ◌+◌, ◌≤◌, Bool, true, false, cond, List, ◌∷◌, [], length, take, drop, Some, None, arith}
 use Rattle.std.specs.Prelude.{position, nat_lt}
 use Rattle.std.specs.List.{position_or_len, slice_split}
 use Rattle.std.proofs.lemmas.Bool.{ltb-false}

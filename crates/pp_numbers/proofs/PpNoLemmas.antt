@@ -1,7 +1,5 @@
 -- Numbers of processors and their places: all that proofs know of them.
-use Rattle.std.proofs.Common.{◌≡◌, ◌≢◌, ℕ, ◌<◌, eqb, ⊎_elim, sym, ap, ◌∙◌, arith, List, []}
-use mathlib.Core.Logic.{dite}
-use native.Mathlib.Decide.{dec_lt}
+use Rattle.std.proofs.Common.{◌≡◌, ℕ, ◌<◌, eqb, arith, List, []}
 use Rattle.std.specs.Prelude.{IsTrue}
 use Rattle.std.specs.List.{flat_map, range_with_len}
 use Rattle.std.proofs.lemmas.Bool.{cases_eq, eq-eqb, ne_eqb}

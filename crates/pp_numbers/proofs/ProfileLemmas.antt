@@ -1,5 +1,5 @@
 -- The processors and channels of a profile, their places, and whole rounds of its barrel.
-use Rattle.std.proofs.Common.{◌≡◌, ℕ, ◌%◌, ◌<◌, ◌≤◌, Bool, true, false, ap, sym, ◌∙◌, refl, arith, suc, ◌+◌, ◌*◌, ◌/◌}
+use Rattle.std.proofs.Common.{◌≡◌, ℕ, ◌%◌, ◌<◌, ◌≤◌, false, ap, arith, suc, ◌+◌, ◌*◌, ◌/◌}
 use Rattle.std.specs.Prelude.{IsTrue, nat_lt, ◌↔◌}
 use Rattle.std.proofs.lemmas.Bool.{false≢true}
 use Rattle.pp_numbers.specs.PpNo.{processor_count, processor_number, names_processor, processor_index, processor_places}

@@ -1,11 +1,11 @@
 -- An answer that moved its processor: it is local, or a channel gives it at the moment that its sight tells.
-use Rattle.std.proofs.Common.{◌≡◌, ◌≢◌, ℕ, ◌<◌, ◌≤◌, Bool, true, false, List, [], ◌∷◌, ◌++◌, Option, Some, None, refl, sym, ap, ◌∙◌, subst, inl, inr, arith}
+use Rattle.std.proofs.Common.{◌≡◌, ◌≢◌, ℕ, ◌<◌, ◌≤◌, true, false, List, [], ◌∷◌, ◌++◌, Option, Some, None, refl, sym, ap, ◌∙◌, subst, inl, inr, arith}
 use Rattle.std.specs.Prelude.{◌⊎◌, if◌then◌else◌, map}
 use Rattle.std.specs.Option.{option_to_list}
 use Rattle.std.proofs.lemmas.Bool.{cases_lt}
-use Rattle.pp_channel.specs.Answer.{event_of, event_with, flags_of, channel_state, operation_of, ready_at, reply_made, reply_by, reply_to, seen_answered}
+use Rattle.pp_channel.specs.Answer.{event_of, flags_of, channel_state, operation_of, ready_at, reply_made, reply_by, reply_to, seen_answered}
 use Rattle.pp_channel.proofs.AnswerLemmas.{held_at, table_of_ready}
-use Rattle.pp_channel.specs.History.{IsLawful, waiting}
+use Rattle.pp_channel.specs.History.{IsLawful}
 use Rattle.pp_report.specs.Types.{Access, Answer, ChanOp, Did, Entry, Event, Flags, Need, Outcome, PpState, Reply, Saw, Seen}
 use Rattle.pp_machine.specs.Block.{block_word}
 use Rattle.pp_machine.proofs.ReplayLemmas.{acts_where_held, tells_where_fits}

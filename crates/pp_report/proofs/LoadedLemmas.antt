@@ -1,16 +1,15 @@
 -- A loaded deck before its first step.
-use Rattle.std.proofs.Common.{◌≡◌, ℕ, ◌<◌, ◌≤◌, List, length, sym, ap, ◌∙◌, ⊎_elim, arith}
-use Rattle.std.specs.Prelude.{IsTrue, slice_index_or}
+use Rattle.std.proofs.Common.{◌≡◌, ℕ, ◌<◌, ◌≤◌, List, length, arith}
+use Rattle.std.specs.Prelude.{IsTrue}
 use Rattle.std.proofs.lemmas.Bool.{cases_lt}
 use Rattle.std.proofs.lemmas.List.{get_or_default, get_or_past}
 use Rattle.pp_machine.specs.MachineState.{MachineState, processor_of}
-use Rattle.pp_numbers.specs.PpNo.{processor_count, processor_index, processor_places}
-use Rattle.pp_machine.specs.Processor.{Processor, IsAtRest, no_processor}
+use Rattle.pp_numbers.specs.PpNo.{processor_index, processor_places}
+use Rattle.pp_machine.specs.Processor.{Processor, IsAtRest}
 use Rattle.pp_numbers.specs.Profile.{has_processor, processors_in}
-use Rattle.pp_machine.specs.declared.pp_state.PpState.TheVariants.{Running, Stopped}
 use Rattle.pp_numbers.specs.declared.profile.Profile.{Profile}
-use Rattle.pp_deck.specs.DeckLaw.{IsFor, KeepsDeckLaw, NamesWithin, Registers, Starts, at_rest, line_of, registers_of}
-use Rattle.pp_deck.specs.DeckLine.{Line, nothing, section}
+use Rattle.pp_deck.specs.DeckLaw.{KeepsDeckLaw, NamesWithin, at_rest, registers_of}
+use Rattle.pp_deck.specs.DeckLine.{Line}
 use Rattle.pp_deck.specs.DeckMeaning.{LoadedDeck}
 use Rattle.pp_report.specs.Serial.{HasNotRun}
 

@@ -1,15 +1,14 @@
 -- Steps of a machine, by its processors and its histories.
-use Rattle.std.proofs.Common.{append_assoc, cond, eqb, false, true, ◌≤◌, ◌≡◌, ◌≢◌, ℕ, ◌+◌, ◌<◌, List, [], ◌∷◌, ◌++◌, length, get_or, set, Option, Some, None, refl, sym, ap, ◌∙◌, subst, inl, inr, arith}
-use Rattle.std.specs.Prelude.{IsTrue, All, slice_get, slice_index, slice_set}
+use Rattle.std.proofs.Common.{append_assoc, cond, eqb, false, true, ◌≤◌, ◌≡◌, ◌≢◌, ℕ, ◌+◌, ◌<◌, List, [], ◌∷◌, ◌++◌, length, get_or, set, Some, None, refl, sym, ap, ◌∙◌, subst, arith}
+use Rattle.std.specs.Prelude.{IsTrue, All, slice_index, slice_set}
 use Rattle.std.specs.List.{sum_by}
-use Rattle.std.specs.Option.{option_to_list}
 use Rattle.std.proofs.lemmas.Bool.{le-ltb, cases_eq, lt-ltb}
 use Rattle.std.proofs.lemmas.Option.{slice_get_past, slice_get-get_or}
 use Rattle.std.proofs.lemmas.List.{append-nil, length-append, length-set, set-get_or, set_past, get_or-set_same, get_or-set_other}
 use Rattle.std.proofs.lemmas.List.Elements.{All-append, All-cons, All-nil}
 use Rattle.std.proofs.lemmas.List.Sums.{fold-append}
 use Rattle.pp_channel.specs.Answer.{event_of, reply_to}
-use Rattle.pp_numbers.specs.ChannelNo.{channel_count, channel_index, names_channel, channel_places}
+use Rattle.pp_numbers.specs.ChannelNo.{channel_count, names_channel, channel_places}
 use Rattle.pp_channel.specs.History.{history_on}
 use Rattle.pp_report.specs.Types.{Answer, ChanOp, Event, Moved, Need, Profile, Reply}
 use Rattle.pp_machine.specs.MachineState.{MachineState, processor_of, history_of}

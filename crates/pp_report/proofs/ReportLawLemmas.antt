@@ -1,6 +1,6 @@
 -- The text of a report tells its events, its workers' ends and its channels.
 use Rattle.std.proofs.Common.{◌≡◌, ◌∙◌, ◌≢◌, All, ℕ, zero, suc, ◌+◌, ◌^◌, ◌/◌, ◌%◌, ◌<◌, ◌≤◌, ◌-◌, ◌*◌, ◌⊎◌, inl, inr, length, Bool, true, false, List, [], ◌∷◌, ◌++◌, Option, Some, None, map, take, drop, refl, sym, ap, subst, arith, append_assoc, codes}
-use Rattle.std.specs.Prelude.{◌==◌, ◌&&◌, ◌↔◌, nat_lt, get_or, option_map, slice_get, slice_index_or, IfSome, IsTrue, if◌then◌else◌}
+use Rattle.std.specs.Prelude.{◌==◌, ◌↔◌, nat_lt, get_or, option_map, slice_get, slice_index_or, IfSome, IsTrue, if◌then◌else◌}
 use Rattle.std.specs.List.{cons_option, enumerate_from, filter, filter_map, flat_map}
 use Rattle.std.proofs.lemmas.Bool.{cases_lt, eq-eqb, false_from_ne_true, le-ltb, lt-ltb, ne_eqb}
 use Rattle.std.proofs.lemmas.List.{append-nil, same_from_push}
@@ -8,13 +8,13 @@ use Rattle.std.proofs.lemmas.List.Elements.{All-append, All-cons, All-head, All-
 use Rattle.std.proofs.Math.Seq.{drop-append_seam, drop-nil}
 use Rattle.pp_numbers.specs.ChannelNo.{names_channel}
 use Rattle.pp_numbers.proofs.ChannelNoLemmas.{channel_fits}
-use Rattle.pp_channel.specs.History.{IsLawful, active, waiting, history_on}
+use Rattle.pp_channel.specs.History.{IsLawful, history_on}
 use Rattle.pp_line.specs.Merge.{Merges}
 use Rattle.pp_report.specs.Types.{End, Event, Report, Worker}
 use Rattle.pp_channel.proofs.EachHistory.{lawful_on}
 use Rattle.pp_machine.specs.Headline.{opening_history}
 use Rattle.pp_machine.specs.MachineState.{MachineState, is_opened}
-use Rattle.pp_numbers.specs.PpNo.{names_processor, processor_index, processor_number, is_named}
+use Rattle.pp_numbers.specs.PpNo.{names_processor, processor_number}
 use Rattle.pp_numbers.proofs.PpNoLemmas.{processor_fits}
 use Rattle.pp_runner.specs.End.{HasEndNumber}
 use Rattle.pp_runner.specs.declared.end.End.TheVariants.{Stopped, Fault, Steps, Patience, Memory, Worn}
@@ -23,7 +23,7 @@ use Rattle.pp_word.specs.Numeral.{decimal, digits, octal, unpadded}
 use Rattle.pp_report.specs.PrintedReport.{author_place, channel_events, end_text, line_by, named_worker_line, numbered_event_line, printed_report, worker_line}
 use Rattle.pp_text.specs.PrintedText.{channel_text, event_text, line_end, processor_line, used_channel_line}
 use Rattle.pp_text.proofs.PrintingLemmas.{channels_by_number, numbered_channel_line, processors_by_number}
-use Rattle.pp_report.specs.ReportLaw.{AgreeOnReport, FitsItsEnd, FitsItsLine, FitsItsReport, ShownEnd, PrintedEvent, end_of, shown_end, shown_of, printed_by, printed_events, printed_on}
+use Rattle.pp_report.specs.ReportLaw.{AgreeOnReport, FitsItsEnd, FitsItsLine, FitsItsReport, ShownEnd, PrintedEvent, shown_end, shown_of, printed_by, printed_events, printed_on}
 use Rattle.pp_text.specs.TextLaw.{HistoryFits, ShowSameChannel}
 use Rattle.pp_report.proofs.AuthorLawLemmas.{only_openings}
 use Rattle.pp_report.proofs.EventLineLemmas.{enumerate_more}

@@ -32,7 +32,7 @@ use Rattle.pp_machine.specs.Run.{run}
 use Rattle.pp_machine.specs.Replay.{OfChannel, fits, contribution, replayed, collected_along, events_given}
 use Rattle.pp_machine.proofs.ReplayLemmas.{Gives, Gives-counted, Gives-to}
 use Rattle.pp_runner.proofs.LabourLemmas.{events_by}
-use Rattle.pp_runner.specs.Accesses.{accesses_by, AreAccessesOf, HasAccessed, HaveAccessed}
+use Rattle.pp_runner.specs.Accesses.{AreAccessesOf, HasAccessed, HaveAccessed}
 use Rattle.pp_numbers.specs.Limits.{RunLimits}
 use Rattle.pp_runner.specs.Report.{IsReportOf}
 use Rattle.pp_runner.specs.WorkerReport.{OfEachAnswer, AllMoved, AllBySize, IsBySize, AreWorkers, IsWorker, event_in, events_in}

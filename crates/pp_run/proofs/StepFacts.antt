@@ -1,6 +1,6 @@
 -- What one step leaves of each processor, of each history and of central memory.
-use Rattle.std.proofs.Common.{◌≡◌, ◌≢◌, ℕ, true, false, IsTrue, List, [], ◌∷◌, ◌++◌, length, append-nil, slice_set, map, get_or, Option, Some, None, refl, sym, ap, ◌∙◌, subst, inl, inr, arith}
-use Rattle.std.specs.Prelude.{◌⊎◌, ◌==◌, if◌then◌else◌}
+use Rattle.std.proofs.Common.{◌≡◌, ◌≢◌, ℕ, IsTrue, List, [], ◌∷◌, ◌++◌, length, append-nil, slice_set, map, get_or, Option, Some, None, refl, sym, ap, ◌∙◌, subst, inl, inr, arith}
+use Rattle.std.specs.Prelude.{◌⊎◌}
 use Rattle.std.specs.Option.{option_to_list}
 use Rattle.std.proofs.lemmas.Bool.{cases_eq, cases_lt, eq-eqb, ne_eqb}
 use Rattle.std.proofs.lemmas.List.{set-get_or, get_or-set_same, get_or-set_other, length-set, set_past, get_or_past, length_push}
@@ -15,7 +15,7 @@ use Rattle.pp_machine.specs.Processor.{Processor, no_processor}
 use Rattle.pp_numbers.specs.PpNo.{processor_count, processor_index, processor_places}
 use Rattle.pp_machine.specs.declared.{answer.Answer.Answer, need.Need.Need, trace.Trace.Trace}
 use Rattle.pp_run.specs.Determinacy.{made_on}
-use Rattle.pp_machine.specs.declared.need.Need.TheVariants.{Nothing, Local, Channel, Read, Write}
+use Rattle.pp_machine.specs.declared.need.Need.TheVariants.{Channel, Write}
 
 pub processors_by : (n : ℕ) (m : MachineState) → (stepped n m).processors ≡ slice_set m.processors (processor_index n) (processor_after (processor_of n m) (answer_to (need (processor_of n m)) m))
 unfolding stepped

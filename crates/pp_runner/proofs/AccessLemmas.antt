@@ -12,11 +12,11 @@ use Rattle.pp_channel.proofs.FrontLemmas.{twelve_bits_take}
 use Rattle.pp_channel.proofs.EachHistory.{bits_on}
 use Rattle.pp_line.proofs.LineAnswers.{answers_as_made}
 use Rattle.pp_line.proofs.OrderLemmas.{entries_more}
-use Rattle.pp_channel.specs.Answer.{IsAnswer, channel_state, event_answered, flags_of, flags_shown, seen_answered}
+use Rattle.pp_channel.specs.Answer.{IsAnswer, event_answered, flags_of, flags_shown, seen_answered}
 use Rattle.pp_channel.proofs.AnswerLemmas.{shows_flags}
 use Rattle.pp_line.specs.ChannelWord.{number_in, flags_in}
 use Rattle.pp_channel.specs.History.{HasTwelveBitWords, history_on}
-use Rattle.pp_line.specs.LineLog.{LogState, IsMonotone, event_entry, look_entry}
+use Rattle.pp_line.specs.LineLog.{event_entry, look_entry}
 use Rattle.pp_line.specs.LineState.{LineState, IsActed, IsAnsweredBy, number_after}
 use Rattle.pp_line.specs.LineView.{look_by, reads, writes}
 use Rattle.pp_line.specs.Order.{entries_among, extended, on_channels, write_number, writes_among}
@@ -27,7 +27,7 @@ use Rattle.pp_machine.specs.Processor.{Processor}
 use Rattle.pp_machine.specs.Replay.{OfChannel, contribution, fits, given_count, replayed}
 use Rattle.pp_machine.proofs.ReplayLemmas.{Gives, Gives-counted}
 use Rattle.pp_runner.specs.Accesses.{accesses_by, AreAccessesOf}
-use Rattle.pp_runner.specs.Labour.{HasMade, HasLooked, IsAnswered, IsNoted}
+use Rattle.pp_runner.specs.Labour.{HasMade, HasLooked, IsAnswered}
 use Rattle.pp_runner.specs.WorkerReport.{IsBySize}
 
 -- the word that an operation found last has the number of its answer

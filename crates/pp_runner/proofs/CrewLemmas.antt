@@ -1,6 +1,6 @@
 -- A worker and its line more.
 use Rattle.std.proofs.Common.{◌≡◌, ℕ, ◌+◌, ◌-◌, ◌*◌, ◌<◌, ◌≤◌, List, [], ◌∷◌, ◌++◌, length, take, sym, ap, ◌∙◌, subst, arith}
-use Rattle.std.specs.Prelude.{Some, All, slice_index_or}
+use Rattle.std.specs.Prelude.{Some, All}
 use Rattle.std.proofs.lemmas.List.{take_more, length-append}
 use Rattle.std.proofs.lemmas.List.Elements.{All-pop, All-push, All-weaker}
 use Rattle.pp_numbers.specs.Subsequence.{IsSubsequence}
@@ -9,11 +9,9 @@ use Rattle.pp_line.specs.LineState.{LineState, IsSplitFrom}
 use Rattle.pp_line.specs.Order.{entries_among}
 use Rattle.pp_line.specs.LineView.{parent_view}
 use Rattle.pp_line.specs.LineLog.{IsMonotone, seen_on}
-use Rattle.pp_line.specs.Merge.{IsOpeningLog}
 use Rattle.pp_runner.specs.Types.{End, Ended, Entry}
-use Rattle.pp_machine.specs.Headline.{opening_history}
 use Rattle.pp_machine.specs.MachineState.{MachineState, processor_of}
-use Rattle.pp_machine.specs.Processor.{Processor, no_processor}
+use Rattle.pp_machine.specs.Processor.{Processor}
 use Rattle.pp_numbers.specs.PpNo.{processor_count, processor_index}
 use Rattle.pp_machine.specs.Replay.{looks_and_events}
 use Rattle.pp_runner.proofs.LabourLemmas.{work_begun}

@@ -1,11 +1,10 @@
 -- Replies of a line: each goes with its operation, and the log tells what it did or saw.
 use Rattle.pp_runner.specs.Types.{Answer, ChanOp, Event, Need, Numbered, Reply, Seen}
-use Rattle.std.proofs.Common.{◌≡◌, ℕ, true, List, [], ◌∷◌, ◌++◌, map, Some, refl, sym, ap, ◌∙◌, subst, inl, inr, arith}
+use Rattle.std.proofs.Common.{◌≡◌, ℕ, true, List, [], ◌∷◌, ◌++◌, Some, refl, sym, ap, ◌∙◌, subst, inl, inr, arith}
 use Rattle.std.specs.Prelude.{take}
-use Rattle.std.specs.Option.{option_to_list}
 use Rattle.std.proofs.lemmas.Bool.{cases_eq}
 use Rattle.std.proofs.lemmas.List.{append-nil}
-use Rattle.pp_channel.specs.Answer.{IsAnswer, channel_state, seen_answered, flags_of}
+use Rattle.pp_channel.specs.Answer.{IsAnswer, seen_answered, flags_of}
 use Rattle.pp_line.specs.LineLog.{LogState, with_seen, IsMonotone}
 use Rattle.pp_line.specs.LineState.{LineState, IsActed, IsAnsweredBy, IsLost}
 use Rattle.pp_channel.specs.History.{history_on}

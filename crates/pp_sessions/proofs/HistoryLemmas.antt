@@ -7,11 +7,11 @@ use Rattle.pp_numbers.specs.ChannelNo.{names_channel}
 use Rattle.pp_channel.specs.declared.event.Event.{Event}
 use Rattle.pp_channel.specs.declared.event.Event.TheVariants.{Activate}
 use Rattle.pp_machine.specs.Headline.{HoldsOnEachChannel, events_on, opening_history}
-use Rattle.pp_machine.specs.MachineState.{MachineState, history_of, is_opened}
+use Rattle.pp_machine.specs.MachineState.{MachineState, history_of}
 use Rattle.pp_machine.specs.declared.trace.Trace.{Trace}
 use Rattle.pp_sessions.specs.SessionsText.{channel_lines, lines_from}
 use Rattle.pp_sessions.specs.Stretches.{stretches}
-use Rattle.pp_sessions.specs.TimedEvents.{events_in, opening_events, timed_event, timed_events, timed_on}
+use Rattle.pp_sessions.specs.TimedEvents.{events_in, timed_event, timed_events, timed_on}
 use Rattle.pp_sessions.specs.declared.tally.TimedEvent.{TimedEvent}
 use Rattle.pp_sessions.proofs.TakeInLemmas.{dead_start_event}
 

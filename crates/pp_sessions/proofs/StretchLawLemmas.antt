@@ -1,6 +1,6 @@
 -- The stretches of a channel are those of its course.
 use Rattle.std.proofs.lemmas.Bool.{or_from, or_right}
-use Rattle.std.proofs.Common.{◌≡◌, ℕ, ◌+◌, Bool, true, false, cond, List, [], ◌∷◌, ◌++◌, length, map, Option, Some, None, refl, sym, ap, subst, ◌∙◌, append_assoc, arith}
+use Rattle.std.proofs.Common.{◌≡◌, ℕ, ◌+◌, Bool, true, false, cond, List, [], ◌∷◌, ◌++◌, map, Option, Some, None, refl, sym, ap, subst, ◌∙◌, append_assoc, arith}
 use Rattle.std.specs.Prelude.{count_by}
 use Rattle.std.specs.Option.{option_to_list}
 use Rattle.std.specs.List.{after_last, cons_option, filter_map, flat_map, last_or}
@@ -10,7 +10,7 @@ use Rattle.std.proofs.lemmas.List.Sums.{fold_push, sum_by-cons}
 use Rattle.pp_channel.specs.History.{Course, events_of, idle_stretch}
 use Rattle.pp_channel.specs.Session.{Session, body, puts, takes, word_put}
 use Rattle.pp_channel.specs.declared.event.Event.{Event}
-use Rattle.pp_channel.specs.declared.event.Event.TheVariants.{Activate, Disconnect, Put, Take, Function}
+use Rattle.pp_channel.specs.declared.event.Event.TheVariants.{Activate, Disconnect, Put, Take}
 use Rattle.pp_numbers.proofs.LastElements.{after_last-found, after_last-push}
 use Rattle.pp_sessions.specs.OpenStretch.{IsUncut}
 use Rattle.pp_sessions.specs.SessionsLaw.{TellsIdle, TellsSession, idle_part, session_events, stretches_of, whole_parts}

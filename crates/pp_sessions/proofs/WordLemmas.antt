@@ -1,6 +1,5 @@
 -- The words of a stretch, entry by entry.
-use Rattle.std.proofs.Common.{◌≡◌, ℕ, ◌+◌, ◌%◌, ◌<◌, ◌≤◌, List, [], ◌∷◌, ◌++◌, length, take, get_or, Option, Some, sym, ap, ◌∙◌, append_assoc, ◌⊎◌, inl, inr, arith}
-use Rattle.std.specs.List.{cons_option}
+use Rattle.std.proofs.Common.{◌≡◌, ℕ, ◌+◌, ◌%◌, ◌<◌, ◌≤◌, List, [], ◌∷◌, ◌++◌, length, take, get_or, Some, sym, ap, ◌∙◌, append_assoc, ◌⊎◌, inl, inr, arith}
 use Rattle.std.proofs.lemmas.List.{append-nil, take_all}
 use Rattle.pp_channel.specs.declared.event.Event.{Event}
 use Rattle.pp_channel.specs.declared.event.Event.TheVariants.{Function, Put}
@@ -8,7 +7,6 @@ use Rattle.pp_machine.specs.declared.trace.Trace.{Trace}
 use Rattle.pp_sessions.specs.SessionsText.{one_word, words_from}
 use Rattle.pp_sessions.specs.Stretches.{word_of, words_in}
 use Rattle.pp_sessions.specs.TimedEvents.{timed_on}
-use Rattle.pp_sessions.specs.declared.tally.TimedEvent.{TimedEvent}
 use Rattle.pp_sessions.proofs.TakeInLemmas.{entry_on, timed_more, words_more}
 
 pub word_either : (e : Event) (word : ℕ) → (e ≡ Put word) ⊎ (e ≡ Function word) → word_of e ≡ Some word

@@ -8,7 +8,7 @@ use Rattle.std.proofs.lemmas.List.Concat.{flat_map-append}
 use Rattle.std.proofs.Math.Seq.{set-append_seam}
 use Rattle.pp_word.specs.Address.{place_count}
 use Rattle.pp_machine.specs.MachineState.{MachineState, processor_of}
-use Rattle.pp_deck.specs.DeckLine.{Line, central_words, section, words}
+use Rattle.pp_deck.specs.DeckLine.{central_words, section, words}
 use Rattle.pp_text.specs.Differences.{differs, places}
 use Rattle.pp_state.specs.Changes.{begins_line, central_line, changed_lines, changed_section, has_changes, line_from, neighbours, position_on_line}
 use Rattle.pp_state.specs.StateLaw.{AreMemories, IsNew, overwritten, placed, words_set}

@@ -2,7 +2,7 @@
 use Rattle.std.proofs.Common.{All, ◌≡◌, ◌∙◌, ℕ, zero, suc, ◌+◌, ◌-◌, ◌*◌, ◌/◌, ◌%◌, ◌^◌, ◌<◌, ◌≤◌, Bool, true, false, List, [], ◌∷◌, ◌++◌, length, refl, sym, ap, subst, append_assoc, arith, codes, inl, inr, ◌⊎◌, length-append}
 use Rattle.std.specs.Prelude.{◌&&◌, ◌==◌, not, nat_lt, slice_index, if◌then◌else◌}
 use Rattle.std.specs.Char.{is_ascii_whitespace}
-use Rattle.std.specs.List.{list_all, range_with_len, suffix_len}
+use Rattle.std.specs.List.{list_all, suffix_len}
 use Rattle.std.proofs.lemmas.Bool.{both_ways, cases_lt, eq-eqb, eqb-true, false_from_ne_true, le-leb, ltb-true, ne_eqb, not-false}
 use Rattle.std.proofs.lemmas.List.Sums.{AllPass-from_list_all}
 use Rattle.std.proofs.lemmas.List.{append-nil}

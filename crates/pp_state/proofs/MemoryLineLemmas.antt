@@ -1,11 +1,11 @@
 -- Numbers read off the columns of a line, also where spaces at its end are dropped; the lines of a text, and those of them that pass a test.
-use Rattle.std.proofs.Common.{All, ◌≡◌, ◌≢◌, ◌∙◌, ℕ, zero, suc, ◌-◌, ◌<◌, ◌≤◌, Bool, true, false, List, [], ◌∷◌, ◌++◌, length, get_or, refl, sym, ap, arith, inl, inr, ◌⊎◌, append_assoc, reverse, ◌+◌, ◌/◌, ◌%◌, ◌^◌, cond, take, lit<, length-append}
+use Rattle.std.proofs.Common.{All, ◌≡◌, ◌≢◌, ◌∙◌, ℕ, zero, suc, ◌-◌, ◌<◌, ◌≤◌, Bool, true, false, List, [], ◌∷◌, ◌++◌, length, refl, sym, ap, arith, inl, inr, ◌⊎◌, append_assoc, reverse, ◌+◌, ◌/◌, ◌%◌, ◌^◌, cond, take, lit<, length-append}
 use Rattle.std.specs.Prelude.{◌==◌, if◌then◌else◌}
 use Rattle.std.specs.List.{filter, slice_split, prefix_len, suffix_len}
 use Rattle.std.specs.Str.Lines.{lines, lines_of_parts, strip_carriage_return}
 use Rattle.std.proofs.lemmas.Bool.{cases_lt, ne_eqb}
 use Rattle.std.proofs.lemmas.List.{append-nil, drop_at, reverse-append, take_at}
-use Rattle.std.proofs.lemmas.List.Elements.{All-append, All-cons, All-get_or, All-head, All-nil, All-tail, All-weaker, filter-append}
+use Rattle.std.proofs.lemmas.List.Elements.{All-append, All-cons, All-head, All-nil, All-tail, filter-append}
 use Rattle.std.proofs.lemmas.List.Splits.{slice_split_at}
 use Rattle.pp_text.specs.PrintedText.{each_below, line_end}
 use Rattle.pp_text.proofs.TextLawLemmas.{kept, left_out, lines_below, none_below, one_line, said_in_lines, unlines}
@@ -14,7 +14,7 @@ use Rattle.std.proofs.Math.Seq.{take-append-add}
 use Rattle.std.proofs.Math.Nat.{mod-eq_of_lt}
 use Rattle.std.proofs.lemmas.Bool.Decides.{nat_tests}
 use Rattle.std.proofs.lemmas.List.Sums.{suffix_len-le-length}
-use Rattle.pp_word.specs.Numeral.{octal, value_of}
+use Rattle.pp_word.specs.Numeral.{octal}
 use Rattle.pp_word.proofs.NumeralLemmas.{digits_value, length_digits}
 use Rattle.pp_state.specs.MemoryText.{trimmed}
 use Rattle.pp_state.specs.MemoryReading.{number_in}

@@ -15,11 +15,10 @@ use Rattle.pp_machine.specs.Run.{run}
 use Rattle.pp_machine.specs.declared.{answer.Answer.Answer, need.Need.Need, outcome.Outcome.Outcome, trace.Trace.Trace}
 use Rattle.pp_machine.specs.declared.need.Need.TheVariants.{Channel}
 use Rattle.pp_machine.specs.declared.outcome.Outcome.TheVariants as outcomes
-use Rattle.pp_run.specs.RunSteps.{RunStep, run_steps, seen_of}
+use Rattle.pp_run.specs.RunSteps.{RunStep, run_steps}
 use Rattle.pp_text.proofs.HeldLemmas.{moves_where_made}
 use Rattle.pp_run.specs.BareMachine.{progress, progress_by}
 use Rattle.pp_steps.specs.Choice.{chooses_channel, chooses_need, chooses_turn, chosen_steps, is_chosen}
-use Rattle.pp_steps.specs.HeldRuns.{last_of, progress_of}
 use Rattle.pp_steps.specs.StepsLaw.{entry_of, event_on, is_chosen_event, line_event}
 use Rattle.pp_steps.specs.StepsText.{line_kind, lines_from, with_line, with_lines}
 use Rattle.pp_steps.specs.declared.{choice.Choice.Choice, cursor.LineKind.LineKind}

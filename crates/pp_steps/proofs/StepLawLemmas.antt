@@ -1,5 +1,5 @@
 -- The steps on the lines of a processor are all its steps while it ran.
-use Rattle.std.proofs.Common.{◌≡◌, ◌≢◌, ℕ, ◌+◌, ◌⊎◌, inl, inr, suc, Bool, true, false, cond, eqb, List, [], ◌∷◌, ◌++◌, drop, refl, sym, ap, subst, ◌∙◌, arith}
+use Rattle.std.proofs.Common.{◌≡◌, ◌≢◌, ℕ, ◌+◌, ◌⊎◌, inl, inr, suc, Bool, true, false, cond, List, [], ◌∷◌, ◌++◌, drop, refl, sym, ap, ◌∙◌, arith}
 use Rattle.std.specs.Prelude.{replicate}
 use Rattle.std.specs.List.{filter, flat_map, prefix_len}
 use Rattle.std.proofs.lemmas.Bool.{cases_eq, cond-false, cond-true, eq-eqb, ne_eqb}
@@ -8,7 +8,7 @@ use Rattle.pp_run.specs.RunSteps.{RunStep, seen_of}
 use Rattle.pp_run.proofs.RunStepLemmas.{seen_other}
 use Rattle.pp_steps.specs.HeldRuns.{is_held_with, last_of, progress_of}
 use Rattle.pp_steps.specs.StepsLaw.{is_by, is_running, line_steps, steps_on}
-use Rattle.pp_steps.specs.StepsText.{line_kind, lines_from, with_line, with_lines}
+use Rattle.pp_steps.specs.StepsText.{line_kind, lines_from, with_lines}
 use Rattle.pp_steps.specs.declared.cursor.LineKind.TheVariants.{HeldSteps, NoLine}
 use Rattle.pp_run.specs.declared.progress.Progress.{Progress}
 use Rattle.pp_run.specs.declared.progress.Progress.TheVariants.{AtRest, Moved, Held}

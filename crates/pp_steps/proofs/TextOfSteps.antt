@@ -1,11 +1,10 @@
 -- The text of some steps, one after another.
-use Rattle.std.proofs.Common.{◌≡◌, ◌≢◌, ℕ, ◌<◌, get_or, Bool, true, false, cond, eqb, List, [], ◌∷◌, ◌++◌, refl, sym, ap, ◌∙◌, append_assoc, append-nil, arith}
-use Rattle.std.specs.Prelude.{map}
-use Rattle.std.specs.List.{filter, flat_map, fold}
+use Rattle.std.proofs.Common.{◌≡◌, ◌≢◌, ℕ, ◌<◌, get_or, Bool, true, false, cond, List, [], ◌∷◌, ◌++◌, refl, sym, ap, ◌∙◌, append_assoc, append-nil, arith}
+use Rattle.std.specs.List.{flat_map, fold}
 use Rattle.std.proofs.lemmas.Bool.{cond-false, cond-true, eq-eqb, ne_eqb}
 use Rattle.std.proofs.lemmas.List.Sums.{fold-append}
 use Rattle.pp_numbers.specs.PpNo.{processor_count, processor_index}
-use Rattle.pp_run.specs.RunSteps.{RunStep, is_of, seen_of}
+use Rattle.pp_run.specs.RunSteps.{RunStep, seen_of}
 use Rattle.pp_run.proofs.RunStepLemmas.{seen-append, seen_more}
 use Rattle.pp_steps.specs.Cursor.{each_cursor, line_at, no_cursor, past_step}
 use Rattle.pp_steps.specs.HeldRuns.{HeldSpells, each_spells, last_of, no_spells, progress_of, with_step}
@@ -13,7 +12,6 @@ use Rattle.pp_steps.specs.StepsText.{kind_text, line_kind, line_text, lines_from
 use Rattle.pp_steps.specs.declared.{cursor.Cursor.Cursor, cursor.LineKind.LineKind}
 use Rattle.pp_steps.specs.declared.cursor.LineKind.TheVariants.{NoLine}
 use Rattle.pp_run.specs.declared.progress.Progress.{Progress}
-use Rattle.pp_run.specs.declared.progress.Progress.TheVariants.{AtRest}
 use Rattle.pp_steps.proofs.CountedRuns.{made_at}
 use Rattle.pp_steps.proofs.RunCountLemmas.{line_is}
 

@@ -1,5 +1,5 @@
 -- What shifts and logic do to each bit.
-use Rattle.std.proofs.Common.{◌≡◌, ℕ, zero, suc, ◌+◌, ◌-◌, ◌*◌, ◌/◌, ◌%◌, ◌<◌, ◌≤◌, Bool, true, false, not, List, [], ◌∷◌, ◌++◌, map, zip, take, drop, replicate, min, length, get_or, refl, sym, ap, ◌∙◌, arith, if◌then◌else◌, ◌⊎◌, inl, inr, nat_lt, lt-ltb, le-ltb}
+use Rattle.std.proofs.Common.{◌≡◌, ℕ, zero, suc, ◌+◌, ◌-◌, ◌%◌, ◌<◌, ◌≤◌, Bool, true, false, not, List, [], ◌∷◌, ◌++◌, map, zip, take, drop, replicate, min, length, get_or, refl, sym, ◌∙◌, arith, ◌⊎◌, inl, inr, nat_lt, lt-ltb, le-ltb}
 use Rattle.std.proofs.lemmas.List.{get_or_append_left, get_or-append_right, get_or-drop, get_or-take, get_or-map, get_or_past, length-drop, length-take, length-replicate, length-map}
 use Rattle.std.proofs.Math.ListN.{length-append}
 use Rattle.pp_word.specs.Bits.{lowest_bits, number_of, bits_of, bit, shift, rotation, right_shift, combination, complement}

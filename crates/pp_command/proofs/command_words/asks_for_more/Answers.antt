@@ -1,5 +1,4 @@
 use Rattle.std.proofs.Common.{rules, arith}
-use Rattle.pp_command.specs.CommandLine.{value_in}
 use Rattle.pp_command.proofs.CommandLemmas.{no_fit}
 use Rattle.pp_command.proofs.command_words.asks_for_more.Goals as goal
 

@@ -1,9 +1,8 @@
-use Rattle.pp_word.specs.Numeral.{octal}
 use Rattle.std.proofs.lemmas.Bool.{eq-eqb, ne_eqb}
-use Rattle.std.proofs.Common.{◌≡◌, ◌++◌, codes, sym, true, refl, ◌∙◌, arith}
+use Rattle.std.proofs.Common.{◌≡◌, codes, sym, true, ◌∙◌, arith}
 use Rattle.pp_numbers.specs.PpNo.{processor_index}
 use Rattle.pp_text.proofs.PrintingLemmas.{◌▹◌}
-use Rattle.pp_draw.specs.Condition.{phase_for, processor_phases}
+use Rattle.pp_draw.specs.Condition.{phase_for}
 use Rattle.pp_draw.specs.DrawingText.{is_flagged, lane_text, processor_lane}
 use Rattle.pp_draw.proofs.LaneLemmas.{comes_first, comes_to_end, next_left, takes}
 use Rattle.pp_draw.proofs.drawing.print_processor_lane.Goals.{else-get, then-get}

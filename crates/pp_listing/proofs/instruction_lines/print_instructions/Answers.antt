@@ -1,6 +1,5 @@
-use Rattle.std.proofs.Common.{[], refl, arith, rules, subst}
+use Rattle.std.proofs.Common.{[], refl, arith, rules}
 use Rattle.pp_text.proofs.PrintingLemmas.{prints_nothing, prints_then}
-use Rattle.pp_text.specs.TextWriter.{Prints}
 use Rattle.pp_listing.proofs.TextLemmas.{before_first, zero_step, one_step, two_step, all_passed}
 use Rattle.pp_listing.proofs.instruction_lines.print_instructions.Goals as goal
 use Rattle.pp_listing.proofs.instruction_lines.print_instructions.Goals.{else-is_long-via-then-is_long+else-place-lt-PLACES, else-is_long-via-else-is_long}

@@ -1,4 +1,4 @@
-use Rattle.std.proofs.Common.{◌<◌, ◌^◌, ◌∙◌, arith, length, rules, subst, sym}
+use Rattle.std.proofs.Common.{◌<◌, ◌^◌, ◌∙◌, arith, rules, subst, sym}
 use Rattle.pp_text.proofs.PrintingLemmas.{prints_all, prints_more, prints_nothing}
 use Rattle.pp_text.specs.TextWriter.{Prints}
 use Rattle.pp_listing.specs.ListedLine.{text_line}

@@ -1,11 +1,9 @@
-use Rattle.std.proofs.Common.{◌≡◌, ◌∙◌, Bool, true, false, ℕ, [], ◌∷◌, ap, arith, refl, rules, sym}
+use Rattle.std.proofs.Common.{◌≡◌, Bool, true, false, arith, refl, rules}
 use Rattle.std.specs.Prelude.{◌||◌}
-use Rattle.std.specs.List.{list_any}
 use Rattle.std.proofs.lemmas.List.Folds.{list_any-append}
 use Rattle.pp_numbers.specs.Tables.{tabulate}
 use Rattle.pp_numbers.proofs.GrowingLists.{tabulate_more}
-use Rattle.pp_numbers.specs.ChannelNo.{all_channels, channel_count, channel_number}
-use Rattle.pp_machine.specs.MachineState.{is_opened}
+use Rattle.pp_numbers.specs.ChannelNo.{all_channels, channel_count}
 use Rattle.pp_listing.proofs.listed_deck.print_dead_start.Goals as goal
 
 no_more : (b : Bool) → (b || false) ≡ b

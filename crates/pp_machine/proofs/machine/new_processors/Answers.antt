@@ -1,4 +1,4 @@
-use Rattle.std.proofs.Common.{◌≡◌, arith, length, replicate, ap, sym, ◌∙◌}
+use Rattle.std.proofs.Common.{◌≡◌, arith, length, replicate, ap, ◌∙◌}
 use Rattle.std.proofs.lemmas.List.{length-replicate}
 use Rattle.std.proofs.lemmas.Grind.{replicate_next}
 use Rattle.pp_numbers.specs.PpNo.{processor_count}

@@ -1,8 +1,8 @@
-use Rattle.std.proofs.Common.{◌≡◌, ℕ, ◌<◌, true, false, Some, None, rules, ap, subst, sym, arith, below_more}
+use Rattle.std.proofs.Common.{◌≡◌, ℕ, true, false, Some, None, rules, ap, subst, sym, arith, below_more}
 use Rattle.std.proofs.lemmas.Bool.{and_parts}
 use Rattle.std.proofs.lemmas.Option.{slice_get-get_or, slice_get_past}
 use Rattle.std.specs.Prelude.{IfSome, IsTrue, option_map, slice_get}
-use Rattle.pp_numbers.specs.PpNo.{all_processors, is_named, names_processor, processor_count, processor_index, processor_number, processor_places}
+use Rattle.pp_numbers.specs.PpNo.{all_processors, is_named, processor_index, processor_number, processor_places}
 use Rattle.pp_report.specs.PrintedReport.{named_worker_line}
 use Rattle.pp_report.specs.ReportLaw.{FitsItsEnd, shown_end}
 use Rattle.pp_text.proofs.PrintingLemmas.{prints_nothing, prints_on, walk_zero, walk_more}

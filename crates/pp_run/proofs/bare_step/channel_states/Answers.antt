@@ -1,6 +1,5 @@
-use Rattle.std.proofs.Common.{ℕ, ◌∙◌, [], get_or, ap, arith, refl, rules}
+use Rattle.std.proofs.Common.{arith, rules}
 use Rattle.pp_numbers.specs.ChannelNo.{channel_places}
-use Rattle.pp_channel.specs.Answer.{channel_state}
 use Rattle.pp_run.proofs.BareLemmas.{states_more}
 use Rattle.pp_run.proofs.bare_step.channel_states.Goals as goal
 

@@ -1,6 +1,5 @@
-use Rattle.std.proofs.Common.{◌<◌, length, arith}
+use Rattle.std.proofs.Common.{arith}
 use Rattle.std.proofs.lemmas.List.{take_more}
-use Rattle.pp_machine.specs.Processor.{no_processor}
 use Rattle.pp_run.proofs.bare_step.copied_processors.Goals as goal
 
 pub loop-place-preserved : goal.loop-place-preserved

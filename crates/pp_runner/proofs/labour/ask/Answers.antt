@@ -1,8 +1,8 @@
-use Rattle.std.proofs.Common.{ℕ, length, sym, ap, subst, arith}
+use Rattle.std.proofs.Common.{ℕ, length, sym, subst, arith}
 use Rattle.pp_runner.proofs.AccessLemmas.{local_answer, read_answer, write_answer}
 use Rattle.pp_runner.proofs.LineLemmas.{operated_acted, operated_worn, same_line_acted}
 use Rattle.pp_runner.proofs.ReplyLemmas.{acted_answer}
-use Rattle.pp_runner.specs.Labour.{HasOperated, IsAnswered, operations}
+use Rattle.pp_runner.specs.Labour.{IsAnswered}
 use Rattle.pp_runner.specs.Types.{Answer, Need}
 use Rattle.pp_runner.proofs.labour.ask.Goals as goal
 

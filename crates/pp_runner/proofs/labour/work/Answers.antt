@@ -1,4 +1,4 @@
-use Rattle.std.proofs.Common.{length, ap, subst, sym, ◌∙◌, arith}
+use Rattle.std.proofs.Common.{subst, sym, ◌∙◌, arith}
 use Rattle.pp_line.specs.LineLog.{seen_on}
 use Rattle.pp_runner.proofs.CrewLemmas.{ended_since, gave_up, not_given_up}
 use Rattle.pp_runner.proofs.EndLemmas.{end_at_last, worn_at_rest, worn_at_last, patience_at_rest, patience_at_last}

@@ -1,7 +1,7 @@
-use Rattle.std.proofs.Common.{◌≡◌, [], arith, rules}
+use Rattle.std.proofs.Common.{arith, rules}
 use Rattle.pp_numbers.specs.Tables.{tabulate}
-use Rattle.pp_numbers.specs.ChannelNo.{all_channels, channel_count, channel_number}
-use Rattle.pp_text.proofs.PrintingLemmas.{◌▹◌, prints_nothing, prints_on, walk_more}
+use Rattle.pp_numbers.specs.ChannelNo.{all_channels, channel_number}
+use Rattle.pp_text.proofs.PrintingLemmas.{prints_nothing, prints_on, walk_more}
 use Rattle.pp_sessions.specs.SessionsText.{channel_lines, sessions_text}
 use Rattle.pp_sessions.proofs.sessions_text.write_sessions.Goals as goal
 

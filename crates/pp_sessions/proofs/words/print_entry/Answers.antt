@@ -1,6 +1,4 @@
-use Rattle.std.proofs.Common.{◌≡◌, Some, sym, ◌∙◌, arith}
-use Rattle.pp_sessions.specs.SessionsText.{one_word}
-use Rattle.pp_sessions.specs.Stretches.{word_of}
+use Rattle.std.proofs.Common.{arith}
 use Rattle.pp_sessions.proofs.WordLemmas.{one_entry, word_either}
 use Rattle.pp_sessions.proofs.words.print_entry.Goals as goal
 use Rattle.pp_sessions.proofs.words.print_entry.Goals.{in-Put, in-Put-2}

@@ -1,7 +1,6 @@
 use Rattle.std.proofs.Common.{rules, arith}
 use Rattle.pp_sim.proofs.AnswerLemmas.{answers_reported}
 use Rattle.pp_sim.proofs.texts.write_chosen_steps.Goals as goal
-use Rattle.pp_sim.specs.TextOf.{IsStepsText}
 
 pub returns : goal.returns
 returns g c = grind (arith, answers_reported, rules)

@@ -9,8 +9,6 @@ use Rattle.pp_state.specs.HeldSteps.{each_held_steps}
 use Rattle.pp_state.specs.StateText.{state_after, state_text}
 use Rattle.pp_sim.proofs.AnswerLemmas.{answers_after, refused}
 use Rattle.pp_sim.proofs.texts.write_state_after.Goals as goal
-use Rattle.pp_sim.specs.TextOf.{IsTextAfter}
-use Rattle.pp_sim.specs.TextAnswer.{NothingPrevents}
 
 -- a text that is read twice means one deck
 one_deck : {E : Type 0} (meaning : Result LoadedDeck E) (one other : LoadedDeck) → meaning ≡ Ok one → meaning ≡ Ok other → one ≡ other

@@ -1,4 +1,4 @@
-use Rattle.std.proofs.Common.{◌≡◌, ◌∙◌, ap, length, arith, subst, sym}
+use Rattle.std.proofs.Common.{◌≡◌, ◌∙◌, ap, arith, subst, sym}
 use Rattle.std.specs.Prelude.{slice_index}
 use Rattle.pp_text.proofs.PrintingLemmas.{prints_all, prints_more, prints_nothing}
 use Rattle.pp_listing.specs.ListedLine.{deck_line}

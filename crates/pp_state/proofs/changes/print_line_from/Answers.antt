@@ -1,4 +1,4 @@
-use Rattle.std.proofs.Common.{◌≡◌, ◌+◌, ◌%◌, sym, ap, subst, ◌∙◌, ℕ, arith}
+use Rattle.std.proofs.Common.{◌≡◌, sym, subst, ◌∙◌, arith}
 use Rattle.pp_text.proofs.PrintingLemmas.{◌▹◌, prints_nothing}
 use Rattle.pp_text.specs.TextWriter.{Prints}
 use Rattle.pp_state.proofs.ChangeLemmas.{in_front_of_same, in_front_of_next, line_begins, no_line_of_same, no_line_within}

@@ -1,5 +1,4 @@
-use Rattle.std.proofs.Common.{◌∙◌, All, ap, length, refl, subst, sym, arith}
-use Rattle.std.specs.List.{range_with_len}
+use Rattle.std.proofs.Common.{◌∙◌, All, ap, subst, sym, arith}
 use Rattle.pp_word.specs.Address.{place_count}
 use Rattle.pp_machine.specs.MachineState.{processor_of}
 use Rattle.pp_state.specs.StateLaw.{IsNew, overwritten}

@@ -1,4 +1,4 @@
-use Rattle.std.proofs.Common.{List, ℕ, ◌∷◌, ap, arith}
+use Rattle.std.proofs.Common.{arith}
 use Rattle.pp_state.proofs.MemoryTextLemmas.{eight_words}
 use Rattle.pp_state.proofs.memory_text.displayed_field.Goals as goal
 

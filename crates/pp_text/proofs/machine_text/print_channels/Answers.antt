@@ -1,5 +1,5 @@
-use Rattle.std.proofs.Common.{◌≡◌, ℕ, ◌<◌, subst, arith, below_more}
-use Rattle.pp_numbers.specs.ChannelNo.{all_channels, channel_count, channel_index, channel_number, channel_places}
+use Rattle.std.proofs.Common.{◌≡◌, ℕ, arith, below_more}
+use Rattle.pp_numbers.specs.ChannelNo.{all_channels, channel_count, channel_number, channel_places}
 use Rattle.pp_channel.specs.History.{history_on}
 use Rattle.pp_text.specs.TextLaw.{HistoryFits}
 use Rattle.pp_text.specs.PrintedText.{used_channel_line}

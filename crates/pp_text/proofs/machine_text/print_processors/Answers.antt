@@ -1,8 +1,8 @@
-use Rattle.std.proofs.Common.{◌≡◌, ℕ, ◌<◌, true, false, rules, subst, sym, arith, below_more}
+use Rattle.std.proofs.Common.{◌≡◌, ℕ, true, false, rules, arith, below_more}
 use Rattle.std.proofs.lemmas.Bool.{and_parts}
 use Rattle.std.specs.Prelude.{IsTrue}
 use Rattle.pp_machine.specs.MachineState.{processor_of}
-use Rattle.pp_numbers.specs.PpNo.{all_processors, is_named, names_processor, processor_count, processor_index, processor_number, processor_places}
+use Rattle.pp_numbers.specs.PpNo.{all_processors, is_named, processor_count, processor_number, processor_places}
 use Rattle.pp_text.specs.TextLaw.{ProcessorFits}
 use Rattle.pp_text.specs.PrintedText.{named_processor_line}
 use Rattle.pp_text.proofs.PrintingLemmas.{prints_nothing, prints_on, walk_zero, walk_more}

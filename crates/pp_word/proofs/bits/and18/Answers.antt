@@ -1,4 +1,4 @@
-use Rattle.std.proofs.Common.{◌^◌, ◌<◌, ap, ◌∙◌, arith, ◌&&◌}
+use Rattle.std.proofs.Common.{ap, ◌∙◌, arith, ◌&&◌}
 use Rattle.pp_word.specs.Bits.{bit}
 use Rattle.pp_word.proofs.EachBit.{bit-combination}
 use Rattle.pp_word.proofs.LogicLemmas.{logical_product_is}

@@ -1,4 +1,4 @@
-use Rattle.std.proofs.Common.{◌^◌, ◌<◌, ap, ◌∙◌, arith, not, ◌&&◌}
+use Rattle.std.proofs.Common.{ap, ◌∙◌, arith, not, ◌&&◌}
 use Rattle.pp_word.specs.Bits.{bit}
 use Rattle.pp_word.proofs.EachBit.{bit-combination}
 use Rattle.pp_word.proofs.LogicLemmas.{selective_clear_is}

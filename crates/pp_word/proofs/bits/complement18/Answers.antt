@@ -1,4 +1,4 @@
-use Rattle.std.proofs.Common.{◌^◌, ◌<◌, ap, ◌∙◌, arith}
+use Rattle.std.proofs.Common.{ap, ◌∙◌, arith}
 use Rattle.pp_word.specs.Bits.{bit}
 use Rattle.pp_word.proofs.EachBit.{bit-complement}
 use Rattle.pp_word.proofs.ShiftLemmas.{complemented_is}

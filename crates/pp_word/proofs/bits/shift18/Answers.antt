@@ -1,4 +1,4 @@
-use Rattle.std.proofs.Common.{◌^◌, ◌<◌, ◌≤◌, arith}
+use Rattle.std.proofs.Common.{arith}
 use Rattle.pp_word.proofs.EachBit.{bits_of_left_shift, bits_of_right_shift}
 use Rattle.pp_word.proofs.ShiftLemmas.{left_shift_is, right_shift_is}
 use Rattle.pp_word.proofs.bits.shift18.Goals as goal

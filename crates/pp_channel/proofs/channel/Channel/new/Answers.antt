@@ -1,6 +1,4 @@
-use Rattle.std.proofs.Common.{refl, arith}
-use Rattle.std.proofs.lemmas.List.Elements.{All-nil}
-use Rattle.pp_channel.specs.History.{HasTwelveBitWord}
+use Rattle.std.proofs.Common.{arith}
 use Rattle.pp_channel.proofs.HistoryLemmas.{lawful_empty}
 use Rattle.pp_channel.proofs.channel.Channel.new.Goals as goal
 

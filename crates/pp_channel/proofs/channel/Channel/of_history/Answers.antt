@@ -1,5 +1,4 @@
-use Rattle.std.proofs.Common.{sym, ap, ◌∙◌, arith}
-use Rattle.std.specs.Option.{option_copied}
+use Rattle.std.proofs.Common.{arith}
 use Rattle.pp_channel.proofs.KeptLemmas.{kept_by_last, kept_by_none}
 use Rattle.pp_channel.proofs.channel.Channel.of_history.Goals as goal
 use Rattle.pp_channel.proofs.channel.Channel.of_history.Goals.{in-Some, in_default}

@@ -1,4 +1,4 @@
-use Rattle.std.proofs.Common.{sym, ◌∙◌, arith}
+use Rattle.std.proofs.Common.{arith}
 use Rattle.pp_channel.proofs.ChannelStateLemmas.{state_after}
 use Rattle.pp_channel.proofs.channel_state.ChannelState.act.Goals as goal
 

@@ -1,5 +1,5 @@
-use Rattle.std.proofs.Common.{◌≡◌, arith, length, rules}
-use Rattle.pp_numbers.specs.ChannelNo.{channel_count, channel_places}
+use Rattle.std.proofs.Common.{arith, rules}
+use Rattle.pp_numbers.specs.ChannelNo.{channel_places}
 use Rattle.pp_check.proofs.KeepsLemmas.{read_standing}
 use Rattle.pp_check.proofs.judge.Judge.standing_of.Goals as goal
 

@@ -1,6 +1,4 @@
-use Rattle.std.proofs.Common.{subst, sym, arith}
-use Rattle.pp_machine.specs.DeadStart.{IsBeforeFirstTurn}
-use Rattle.pp_deck.specs.Reading.{Progress}
+use Rattle.std.proofs.Common.{arith}
 use Rattle.pp_deck.proofs.DeadStartLemmas.{unnamed_within}
 use Rattle.pp_deck.proofs.reading.Reading.wait_unnamed.Goals as goal
 

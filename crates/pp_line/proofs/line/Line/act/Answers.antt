@@ -4,7 +4,6 @@ use Rattle.pp_channel.specs.Answer.{reply_shown}
 use Rattle.pp_line.specs.ChannelWord.{number_in, flags_in, greatest_number}
 use Rattle.pp_line.specs.LineLog.{LogState, event_entry, look_entry, appended, looked, IsMonotone, IsWithin}
 use Rattle.pp_line.specs.LineState.{LineState, IsActed}
-use Rattle.pp_line.specs.LineSteps.{IsLogOf}
 use Rattle.pp_line.proofs.ChannelWordLemmas.{next_word, stays_either}
 use Rattle.pp_line.proofs.LineAnswers.{acted_shown, worn_by_load, acted_made, acted_lost, number_later}
 use Rattle.pp_line.proofs.MonotoneLemmas.{rising_answer}

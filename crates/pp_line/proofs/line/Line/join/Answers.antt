@@ -1,8 +1,6 @@
 use Rattle.std.proofs.Common.{◌+◌, sym, ap, ◌∙◌, subst, arith}
 use Rattle.pp_line.specs.declared.rule.LineView.{LineView}
-use Rattle.pp_numbers.specs.ChannelNo.{channel_index}
-use Rattle.pp_line.specs.LineLog.{LogState, seen_on}
-use Rattle.pp_line.specs.LineState.{LineState}
+use Rattle.pp_line.specs.LineLog.{LogState}
 use Rattle.pp_line.specs.LineSteps.{IsLogOf}
 use Rattle.pp_line.specs.LineView.{greater_of_each, joined_view, with_unrecorded_load}
 use Rattle.pp_line.proofs.LineKeeping.{log_of_same, log_of_joined}

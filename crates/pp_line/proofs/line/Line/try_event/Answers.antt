@@ -1,10 +1,10 @@
 use Rattle.std.proofs.Common.{◌≡◌, ℕ, ◌+◌, sym, ap, ◌∙◌, subst, arith}
 use Rattle.std.specs.Prelude.{slice_set}
 use Rattle.pp_line.specs.declared.rule.LineView.{LineView}
-use Rattle.pp_line.specs.ChannelWord.{number_in, flags_in}
-use Rattle.pp_line.specs.LineLog.{LogState, appended, event_entry, look_entry, looked}
+use Rattle.pp_line.specs.ChannelWord.{number_in}
+use Rattle.pp_line.specs.LineLog.{LogState, appended, event_entry}
 use Rattle.pp_line.specs.LineState.{LineState}
-use Rattle.pp_line.specs.LineSteps.{IsLogOf, IsWonExchange, IsLostExchange}
+use Rattle.pp_line.specs.LineSteps.{IsLogOf, IsWonExchange}
 use Rattle.pp_line.proofs.LineKeeping.{exchange_won, exchange_lost, fields_of_load, log_of_event}
 use Rattle.pp_line.proofs.line.Line.try_event.Goals as goal
 

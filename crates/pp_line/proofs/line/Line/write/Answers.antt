@@ -1,7 +1,4 @@
-use Rattle.std.proofs.Common.{◌≡◌, ℕ, ap, ◌∙◌, subst, arith}
-use Rattle.std.specs.Prelude.{MatchBool}
-use Rattle.pp_line.specs.LineState.{LineState}
-use Rattle.pp_line.specs.LineView.{writes}
+use Rattle.std.proofs.Common.{arith}
 use Rattle.pp_line.proofs.LineKeeping.{fields_of_write, line_written}
 use Rattle.pp_line.proofs.line.Line.write.Goals as goal
 

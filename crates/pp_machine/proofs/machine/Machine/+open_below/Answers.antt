@@ -1,7 +1,4 @@
-use Rattle.std.proofs.Common.{◌≡◌, ◌∙◌, ℕ, ◌+◌, ◌-◌, ◌<◌, take, sym, ap, get_or, true, false, arith}
-use Rattle.pp_machine.specs.DeadStart.{dead_started, with_waiting}
-use Rattle.pp_machine.specs.MachineState.{history_of}
-use Rattle.pp_numbers.specs.PpNo.{processor_count, processor_number}
+use Rattle.std.proofs.Common.{◌-◌, arith}
 use Rattle.pp_machine.proofs.DeadStartLemmas.{none_started, one_more, still_unused}
 use Rattle.pp_machine.proofs.machine.Machine.+open_below.Goals as goal
 

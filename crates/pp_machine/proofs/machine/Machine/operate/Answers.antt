@@ -1,5 +1,5 @@
 use Rattle.std.proofs.Common.{◌≡◌, List, Option, map, ◌++◌, ◌∷◌, [], arith, ℕ, get_or, get_or-set_same, slice_set, refl, ap, sym, subst, ◌∙◌, rules}
-use Rattle.std.specs.Prelude.{None, Some, length, IsTrue, ◌<◌}
+use Rattle.std.specs.Prelude.{Some, length, IsTrue, ◌<◌}
 use Rattle.std.specs.Option.{option_to_list}
 use Rattle.std.proofs.lemmas.Grind.{common_steps}
 use Rattle.std.proofs.lemmas.List.{get_or_read, set-get_or}

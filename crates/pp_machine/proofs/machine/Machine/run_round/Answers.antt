@@ -1,7 +1,6 @@
-use Rattle.std.proofs.Common.{arith, refl, ◌≡◌, ap, sym, subst, ◌∙◌, get_or}
-use Rattle.std.specs.Prelude.{IsSome}
+use Rattle.std.proofs.Common.{arith, ◌≡◌, ap, sym, subst, ◌∙◌, get_or}
 use Rattle.pp_machine.specs.MachineState.{MachineState}
-use Rattle.pp_machine.specs.MachineStep.{stepped, step_event}
+use Rattle.pp_machine.specs.MachineStep.{stepped}
 use Rattle.pp_numbers.specs.Profile.{processor_in_turn}
 use Rattle.pp_machine.specs.Rounds.{PassesOverRest}
 use Rattle.pp_machine.specs.Run.{run, barrel}

@@ -1,6 +1,5 @@
-use Rattle.std.proofs.Common.{◌≡◌, ◌<◌, length, get_or, sym, ap, ◌∙◌, arith}
+use Rattle.std.proofs.Common.{arith}
 use Rattle.std.proofs.lemmas.List.{get_or_read}
-use Rattle.pp_machine.specs.MachineStep.{stepped}
 use Rattle.pp_machine.proofs.RunLemmas.{run_more, if_made}
 use Rattle.pp_machine.proofs.machine.Machine.run_turns.Goals as goal
 

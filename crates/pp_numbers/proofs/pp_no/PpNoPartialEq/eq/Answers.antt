@@ -1,5 +1,5 @@
-use Rattle.std.proofs.Common.{◌≡◌, ◌∙◌, sym, ap, nat_eq, arith}
-use Rattle.pp_numbers.specs.PpNo.{processor_index, processor_places}
+use Rattle.std.proofs.Common.{nat_eq, arith}
+use Rattle.pp_numbers.specs.PpNo.{processor_places}
 use Rattle.pp_numbers.proofs.pp_no.PpNoPartialEq.eq.Goals as goal
 
 pub returns : goal.returns

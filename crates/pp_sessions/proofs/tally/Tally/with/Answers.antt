@@ -1,6 +1,4 @@
-use Rattle.std.proofs.Common.{◌≡◌, [], ◌∷◌, length, inl, inr, arith}
-use Rattle.pp_channel.specs.Session.{puts, takes}
-use Rattle.pp_sessions.specs.OpenStretch.{untaken_after}
+use Rattle.std.proofs.Common.{arith}
 use Rattle.pp_sessions.proofs.tally.Tally.with.Goals as goal
 use Rattle.pp_sessions.proofs.tally.Tally.with.Goals.{in-Put, in-Take, in-Activate}
 

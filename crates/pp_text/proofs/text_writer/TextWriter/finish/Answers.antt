@@ -1,4 +1,4 @@
-use Rattle.std.proofs.Common.{◌≡◌, ◌++◌, sym, ap, ◌∙◌, arith}
+use Rattle.std.proofs.Common.{arith}
 use Rattle.std.proofs.lemmas.List.{append-nil}
 use Rattle.pp_text.proofs.WriteLemmas.{flushed}
 use Rattle.pp_text.proofs.text_writer.TextWriter.finish.Goals as goal
