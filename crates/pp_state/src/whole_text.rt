@@ -1,11 +1,12 @@
 //! The whole text of how things stand.
 
 ghost use Rattle.std.specs.List.{flat_map};
+ghost use Rattle.pp_numbers.specs.PpNo.{all_processors};
 ghost use Rattle.pp_text.specs.TextWriter.{Prints};
 ghost use Rattle.pp_text.specs.Written.{IsWritten};
 ghost use Rattle.pp_listing.specs.ListedLine.{deck_line};
 ghost use Rattle.pp_state.specs.Changes.{changed_sections};
-ghost use Rattle.pp_state.specs.StateText.{state_text};
+ghost use Rattle.pp_state.specs.StateText.{standing_line, state_text};
 
 use crate::changes::{has_changes, print_changed_central, print_section};
 use pp_machine::{Machine, PROCESSORS, PpNo};
@@ -20,6 +21,7 @@ use std::io::Write;
 /// each processor, in the order of the barrel, the count of its last steps in a row that were held
 /// (decimal; all else is octal). The text goes out in pieces, and takes no memory. If the writer
 /// fails, the rest of the text is lost.
+#[tactic(auto, unfolding(crate::specs::StateText::state_text))]
 pub fn write_state<A: Allocator, W: Write>(
     writer: &mut W,
     shown: &[bool; PROCESSORS],
@@ -31,18 +33,31 @@ pub fn write_state<A: Allocator, W: Write>(
         (W.contents writer.old) (W.contents writer.new) }
 {
     let mut text = TextWriter::new(writer);
-    for place in 0..PROCESSORS {
-        if shown[place] {
-            let n = PpNo::at(place);
-            text.print(&processor_heading(n, after.pp(n)));
-            print_standing(&mut text, after, n, held[place]);
-            text.print(b"\n");
-        }
-    }
+    print_processors(&mut text, shown, after, held);
     print_memories(&mut text, before, after);
     print_changed_central(&mut text, before.central(), after.central());
     print_channels(&mut text, after);
     text.finish()
+}
+
+/// Prints the lines of all processors shown, in order of number.
+fn print_processors<A: Allocator, W: Write>(
+    text: &mut TextWriter<W>,
+    shown: &[bool; PROCESSORS],
+    after: &Machine<A>,
+    held: &[u32; PROCESSORS],
+)
+    ensures { Prints W.contents text.old text.new
+        (flat_map (standing_line shown.now after.now held.now) all_processors) }
+{
+    for place in 0..PROCESSORS {
+        if shown[place] {
+            let n = PpNo::at(place);
+            text.print(&processor_heading(n, after.pp(n)));
+            print_standing(text, after, n, held[place]);
+            text.print(b"\n");
+        }
+    }
 }
 
 /// Prints the lines of all words of processors that differ from the load.

@@ -1,12 +1,12 @@
-use Rattle.std.proofs.Common.{◌≡◌, true, [], arith, rules}
+use Rattle.std.proofs.Common.{◌≡◌, true, arith}
 use Rattle.pp_numbers.specs.Tables.{tabulate}
 use Rattle.pp_numbers.specs.PpNo.{all_processors, names_processor, processor_count, processor_index, processor_number, processor_places}
 use Rattle.pp_text.proofs.PrintingLemmas.{◌▹◌, prints_nothing, prints_on, walk_more}
 use Rattle.pp_text.specs.PrintedText.{processor_line}
 use Rattle.pp_text.specs.TextWriter.{Prints}
-use Rattle.pp_state.specs.StateText.{standing_line, state_text}
-use Rattle.pp_state.proofs.whole_text.write_state.Goals as goal
-use Rattle.pp_state.proofs.whole_text.write_state.Goals.{then-shown-place, else-shown-place}
+use Rattle.pp_state.specs.StateText.{standing_line}
+use Rattle.pp_state.proofs.whole_text.print_processors.Goals as goal
+use Rattle.pp_state.proofs.whole_text.print_processors.Goals.{then-shown-place, else-shown-place}
 
 pub loop-place-init : goal.loop-place-init
 unfolding tabulate
@@ -28,9 +28,5 @@ loop-place-preserved g c =
     (walk_more (standing_line c.args.shown.now c.args.after.now c.args.held.now) processor_number c.loop-place.place)
 
 pub returns : goal.returns
-unfolding all_processors state_text
-returns g c =
-    let all : c.loop-place.place ≡ processor_count = omega arith in
-    let printed = (rw all at c.loop-place.invariant) ▹ c.print_memories.ensures ▹ (rw (c.central.ensures, c.central-2.ensures) at c.print_changed_central.ensures) ▹ c.print_channels.ensures.text in
-    let written = c.finish.ensures.written _ _ (printed.goes_on _ [] c.new-text.ensures.nothing) in
-    search (rules, written)
+unfolding all_processors
+returns g c = let all : c.loop-place.place ≡ processor_count = omega arith in rw all at c.loop-place.invariant
