@@ -10,4 +10,3 @@ returns-in_default c text k =
 
 pub returns-in_err-turns : goal.returns-in_err-turns
 returns-in_err-turns c = rw c.from_residual.ensures (no_turns c.args.name.now (value_in c.args.matches.now) c.args.profile c.requires.list c.in_err-turns.ensures)
-
