@@ -45,14 +45,16 @@ turns lines = filter_map turn_of lines
 unfoldable pub last_turn : List TraceLine → Option ℕ
 last_turn lines = last_or None (turns lines)
 
--- a line fits those before it: a later turn; the number of events before; the state that they leave
+-- A line fits those before it: its turn is greater than the last; its number counts the events of
+-- its channel before it; its channel's state is the one that the events before it leave.
 abbrev pub Fits : List Bool → List TraceLine → TraceLine → Type 0
 Fits opened before (AtTurn turn c e) = IfSome (last_turn before) (λ last. last < turn)
 Fits opened before (Numbered number c e) = number ≡ length (history opened before c)
 Fits opened before (Standing c state) = state ≡ channel_state (history opened before c)
 Fits opened before Other = Unit {0}
 
--- each channel's events, in order, are a lawful history over its opening, and each line fits
+-- A trace is lawful if on each channel its events, in order, are a lawful history over the opening
+-- of the channel, and each line fits those before it.
 pub record IsLawfulTrace (opened : List Bool) (lines : List TraceLine) : Type 0 where
   pub histories : (c : ℕ) → IsLawful (history opened lines c)
   pub each_fits : (k : ℕ) → k < length lines

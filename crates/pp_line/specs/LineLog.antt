@@ -44,7 +44,8 @@ looked log entry = if ends_in_look_at entry.channel log
     then record log { entries = slice_set log.entries (length log.entries - 1) entry; kept = false }
     else appended log entry
 
--- The log after an operation on channel c saw or did this: a look may take the place of another.
+-- The log after an operation on channel c saw or did this: an event gets an entry of its own, a
+-- look may take the place of another.
 abbrev pub with_seen : LogState → ℕ → ℕ → Option Seen → LogState
 with_seen log c number None = log
 with_seen log c number (Some (Seen.Did e)) = appended log (event_entry c number e)

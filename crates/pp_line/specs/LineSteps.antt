@@ -88,7 +88,8 @@ announced c expected (some e) before word after = IsExchange c expected e before
 abbrev pub exchanges : Step Event → Me Event LineView → ℕ → Me Event LineView → Type 0
 exchanges step = OnChannel (λ c. announced c step.first step.said) step
 
--- The same of a step on a word of central memory, which it finds or writes.
+-- A step on a word of central memory relates the line's view, the word that it finds or writes and
+-- the view after it so; the line's slots stay.
 abbrev pub OnCentral : (ℕ → LineView → ℕ → LineView → Type 0) → Step Event → Me Event LineView
     → ℕ → Me Event LineView → Type 0
 OnCentral Does step before word after = (after.1 ≡ before.1)

@@ -17,7 +17,8 @@ made_at c channel (Seen.Saw f) = None
 abbrev pub made_on : ℕ → List Entry → List Event
 made_on c entries = filter_map (λ entry. made_at c entry.channel entry.what) entries
 
--- An entry comes right after these events of its channel; a look shows the flags after them.
+-- An entry comes right after these events of its channel: it has their number, and a look shows the
+-- flags after them.
 abbrev pub ComesAfter : List Event → ℕ → Seen → Type 0
 ComesAfter before number (Seen.Did e) = number ≡ length before
 ComesAfter before number (Seen.Saw f) = (number ≡ length before) × (f ≡ flags_of before)

@@ -13,7 +13,8 @@ use Rattle.pp_machine.specs.declared.block.BlockKind.TheVariants.{Input}
 use Rattle.pp_machine.specs.declared.pp_state.PpState.TheVariants.{Running}
 use Rattle.pp_numbers.specs.declared.profile.Profile.{Profile}
 
--- a processor that waits for its program: a block input from channel c to the places from 0000 on
+-- a processor that waits for its program: a block input from channel c, with places from 0000 on, P
+-- 0000 and A 010000
 abbrev pub waiting_on : ℕ → Processor → Processor
 waiting_on c pp = record pp {
   a = 0o10000;
@@ -56,7 +57,8 @@ histories_started waits m =
 unfoldable pub opened_where : (ℕ → Bool) → List Bool
 opened_where waits = map (λ place. waits (channel_number place)) (range_with_len 0 channel_count)
 
--- A machine in which processors wait whose numbers pass a test, each on the channel of its number.
+-- A machine in which the processors wait whose numbers pass a test, each on the channel of its own
+-- number, which is active and empty. Central memory, turns and trace stay.
 abbrev pub started : (ℕ → Bool) → MachineState → MachineState
 started waits m = record m {
   processors = processors_started waits m;

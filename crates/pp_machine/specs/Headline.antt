@@ -18,7 +18,8 @@ events_on c trace =
 abbrev pub opening_history : ℕ → MachineState → List Event
 opening_history c m = if is_opened c m then Event.Activate ∷ [] else []
 
--- a history is the opening one and then these events; it is lawful, and keeps the law of sessions
+-- the history of a channel is its opening history and then the events of the trace on it; it is
+-- lawful, and keeps the law of sessions
 pub record HoldsOnChannel (opening events history : List Event) : Type 0 where
   pub traced : history ≡ opening ++ events
   pub lawful : IsLawful history

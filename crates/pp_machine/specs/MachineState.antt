@@ -9,8 +9,9 @@ use Rattle.pp_numbers.specs.PpNo.{processor_count, processor_index}
 use Rattle.pp_numbers.specs.declared.profile.Profile.{Profile}
 use Rattle.pp_machine.specs.declared.trace.Trace.{Trace}
 
--- the processors in the order of the barrel, the history of each channel, the central words by
--- address, the turns counted, the events in order of steps, and which channels dead start opened
+-- its profile, the processors in the order of the barrel, the history of each channel, the central
+-- words by address, the turns counted, the events in the order in which steps made them, and of
+-- each channel whether dead start opened it
 pub record MachineState : Type 0 where
   pub profile : Profile
   pub processors : List Processor

@@ -69,7 +69,8 @@ step_outcome n m = outcome (processor_of n m) (answer_to (need (processor_of n m
 unfoldable pub step_event : ℕ → MachineState → Option Event
 step_event n m = event_for (need (processor_of n m)) m
 
--- a step of processor n that was made, or for which memory was refused; only an event takes any
+-- a step of processor n that was made, or for which memory was refused: then the machine is as it
+-- was; and only a step that makes an event takes memory
 pub record IsStep (n : ℕ) (answer : Result Outcome Memory) (old new : MachineState) : Type 0 where
   pub ok : OnOk answer (new ≡ stepped n old)
   pub outcome : IfOk answer (λ o. o ≡ step_outcome n old)

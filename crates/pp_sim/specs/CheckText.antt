@@ -33,14 +33,16 @@ IsAtEndIfJudged (Err TextFault.Write) after = IsAtEnd after
 IsAtEndIfJudged (Err (TextFault.Trace f)) after = IsAtEnd after
 IsAtEndIfJudged (Err other) after = Unit {0}
 
--- one call over any reader: its answer is that to the bytes consumed, which were all if it judged
+-- One call, whatever its reader is: these bytes were consumed; the answer is that to the trace that
+-- they spell; and if it was judged, they were all that the reader had.
 pub record Checks (opened : List Bool) (answer : Result (Unit {0}) TextFault)
     (before after old new : Option (List ℕ)) (bytes : List ℕ) : Type 0 where
   pub consumed : Consumes before after bytes
   pub answered : IsCheck opened answer bytes old new
   pub whole : IsAtEndIfJudged answer after
 
--- THE PROMISE of a call that checks a trace: to every reader, and to one that knows its bytes
+-- THE PROMISE of a call that checks a trace: how it answers every reader, whatever that knows of
+-- its bytes; and one that knows which bytes it has
 pub record AnswersTrace (opened : List Bool) (answer : Result (Unit {0}) TextFault)
     (before after old new : Option (List ℕ)) : Type 0 where
   pub every_reader : (bytes : List ℕ) × Checks opened answer before after old new bytes

@@ -24,10 +24,12 @@ IsDone Z (Work.Check opened) = AnswersTrace opened
 -- the status of a work that was done, or failed: by what was read, a device, or want of memory
 abbrev pub status_of : Result (Unit {0}) TextFault → ℕ
 status_of (Ok done) = 0
+status_of (Err (TextFault.Deck f)) = 1
+status_of (Err (TextFault.NotBetweenPrograms going_on)) = 1
+status_of (Err (TextFault.Trace f)) = 1
 status_of (Err TextFault.Read) = 3
 status_of (Err TextFault.Write) = 3
 status_of (Err TextFault.Memory) = 4
-status_of (Err what_was_read) = 1
 
 -- the work was done or failed, and the status is that of its answer
 pub record IsDoneWith (Z : Type 0) (work : Work) (status : ℕ)
@@ -71,10 +73,11 @@ IsPrinted text status old new = ((status ≡ 0) × Appends old new text)
 -- the status of a refusal: that of printing if help was asked for; else nothing is printed
 abbrev pub IsReported : LineFault → ℕ → Option (List ℕ) → Option (List ℕ) → Type 0
 IsReported LineFault.Memory status old new = (status ≡ 4) × Keeps old new
+IsReported LineFault.Number status old new = (status ≡ 2) × Keeps old new
+IsReported LineFault.Picture status old new = (status ≡ 2) × Keeps old new
 IsReported (LineFault.Refused error) status old new =
     (IsHelp error × ((text : List ℕ) × IsPrinted text status old new))
     ⊎ (¬ IsHelp error × (status ≡ 2) × Keeps old new)
-IsReported other status old new = (status ≡ 2) × Keeps old new
 
 -- the words are refused, nothing is read, and the status says why
 pub record HasRefused (words : List Text) (status : ℕ) (before after old new : Option (List ℕ)) :

@@ -43,7 +43,8 @@ IsAnswerUnless profile Prevents IsDeckText (Err (TextFault.Trace f)) bytes old n
 IsAnswerUnless profile Prevents IsDeckText (Err TextFault.Read) bytes old new = Keeps old new
 IsAnswerUnless profile Prevents IsDeckText (Err TextFault.Memory) bytes old new = Keeps old new
 
--- one call over any reader: its answer is that to the bytes consumed, which were all if it is Ok
+-- One call, whatever its reader is: these bytes were consumed; the answer is that to the deck that
+-- they spell; and if it is Ok, they were all that the reader had.
 pub record AnswersUnless (profile : Profile) (Prevents : LoadedDeck → Busy → Type 0)
     (IsDeckText : LoadedDeck → List ℕ → Type 0) (answer : Result (Unit {0}) TextFault)
     (before after old new : Option (List ℕ)) (bytes : List ℕ) : Type 0 where

@@ -35,7 +35,8 @@ pub record IsBarrelText (turns : ℕ) (deck : LoadedDeck) (text : List ℕ) : Ty
   pub headline : HoldsOnEachChannel (run (barrel deck.machine.profile turns) deck.machine)
   pub fits : FitsItsText deck.named (run (barrel deck.machine.profile turns) deck.machine)
 
--- its listing, which means the same deck for its profile, if it is no longer than a deck may be
+-- the text of a loaded deck: its listing, which means the same deck for a machine of the same
+-- profile, if it is no longer than a deck may be
 pub record IsListText (deck : LoadedDeck) (text : List ℕ) : Type 0 where
   pub text_is : text ≡ listing deck
   pub reads_back : length text ≤ 1048576 → deck_meaning deck.machine.profile text ≡ Ok deck
@@ -44,7 +45,8 @@ pub record IsListText (deck : LoadedDeck) (text : List ℕ) : Type 0 where
 abbrev pub after_turns : ℕ → LoadedDeck → LoadedDeck
 after_turns turns deck = after (barrel deck.machine.profile turns) deck
 
--- its dump, between programs, which means the deck to go on from if no longer than a deck may be
+-- its text: the machine is between programs; the text is its dump, which means the deck to go on
+-- from, for a machine of the same profile, if it is no longer than a deck may be
 pub record IsDumpText (turns : ℕ) (deck : LoadedDeck) (text : List ℕ) : Type 0 where
   pub between : first_busy (after_turns turns deck).machine ≡ None
   pub text_is : text ≡ dump (after_turns turns deck)
@@ -81,7 +83,8 @@ pub record IsEndsText (turns : ℕ) (deck : LoadedDeck) (text : List ℕ) : Type
   pub looped : AreLoops loops ending deck.machine
   pub text_is : text ≡ ends_text_of (in_use deck) ending turns deck.machine loops
 
--- its text after N turns of the barrel, of a whole machine; if nothing is found, it is determinate
+-- the text of a loaded deck that has run in the barrel for N turns; its machine is a whole one, and
+-- if nothing is found the run is determinate
 pub record IsRacesText (turns : ℕ) (deck : LoadedDeck) (text : List ℕ) : Type 0 where
   pub text_is : text ≡ races_text (barrel deck.machine.profile turns) deck.machine
   pub machine : IsMachine deck.machine

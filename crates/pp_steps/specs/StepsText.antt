@@ -12,7 +12,8 @@ use Rattle.pp_steps.specs.declared.cursor.LineKind.TheVariants.{NoLine, OneStep,
 use Rattle.pp_run.specs.declared.progress.Progress.{Progress}
 use Rattle.pp_run.specs.declared.progress.Progress.TheVariants.{AtRest, Moved, Held}
 
--- the line of a step, by its processor's last before and those after: none at rest, or held like it
+-- which line a step has, by the last step of its processor before it and by those after it: none
+-- where it is at rest, or held like the last
 abbrev pub line_kind : Progress → Progress → List Progress → LineKind
 line_kind last AtRest steps = NoLine
 line_kind last Moved steps = OneStep

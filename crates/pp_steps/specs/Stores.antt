@@ -9,8 +9,8 @@ use Rattle.pp_machine.specs.Operand.{index, lower_six, operation}
 use Rattle.pp_machine.specs.Processor.{Processor, word_at}
 use Rattle.pp_machine.specs.declared.{answer.Answer.Answer, block.Block.Block}
 
--- the first place of an instruction: of a return address, an operand, the parts of a central word;
--- and 0000, where the start of a block stores a word, and the others none
+-- the first place that an instruction stores to: of a return address, an operand, or the parts of a
+-- central word; else 0000, where the start of a block stores a word, and the others store nothing
 abbrev pub first_of : Opcode → Processor → ℕ → ℕ
 first_of RJM pp d = index pp d
 first_of STD pp d = d

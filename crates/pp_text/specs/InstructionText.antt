@@ -48,7 +48,8 @@ block_text (Output channel) = codes "OAM " ++ octal 2 channel
 block_text (CentralIn left) = codes "CRM"
 block_text (CentralOut left) = codes "CWM"
 
--- of what runs: the block in progress, whose words may be overwritten, else the word at a place
+-- the text of the instruction that runs: of the block in progress, whose words may have been
+-- overwritten, else of the word at a place
 abbrev pub running_text : Option Block → ℕ → ℕ → ℕ → List ℕ
 running_text None place word m = instruction_text place word m
 running_text (Some block) place word m = block_text block.kind

@@ -26,7 +26,8 @@ flags_text flags = if flags.active
 abbrev pub count_text : ℕ → List ℕ
 count_text count = if count == 0 then [] else codes " x" ++ unpadded 10 count
 
--- ` HELD CH01 ACTIVE EMPTY x376`: by channel c at these flags, in this many last steps in a row
+-- ` HELD CH01 ACTIVE EMPTY x376`: channel c at these flags holds a processor; this many of its last
+-- steps in a row were held
 abbrev pub channel_held_text : ℕ → Flags → ℕ → List ℕ
 channel_held_text c flags count =
     codes " HELD CH" ++ octal 2 c ++ codes " " ++ flags_text flags ++ count_text count

@@ -46,7 +46,9 @@ pub record ShowSameChannel (h other : List Event) : Type 0 where
 abbrev pub NameAlike : List Bool → List Bool → Type 0
 NameAlike named others = (n : ℕ) → is_named named n ≡ is_named others n
 
--- two machines show the same: processors named, events in order, registers and states, channels
+-- the same processors named; the same events in the same order; of each processor named the same P,
+-- A and state; and of each channel whether anything has happened, whether it is active, and the
+-- word that waits
 pub record AgreeOnText (named others : List Bool) (one other : MachineState) : Type 0 where
   pub names : NameAlike named others
   pub trace : one.trace ≡ other.trace
