@@ -1,7 +1,7 @@
 //! Which text of a deck is asked for, and how a command line asks for it.
 
 ghost use Rattle.std.specs.Prelude.{◌≢◌, codes};
-ghost use Rattle.pp_command.specs.CommandLine.{AsksForText, Finds, value_in};
+ghost use Rattle.pp_command.specs.CommandLine.{AsksForText, Finds, ReadsTurns, value_in};
 
 use crate::option_values::{
     bounds_of, channels_of, fits_a_picture, is_flagged, processor_of, processors_of, turn_of,
@@ -123,15 +123,21 @@ fn run_text_of(name: &str, matches: &ArgMatches<'_>, profile: Profile) -> Option
             turns,
             bounds: bounds_of(matches, MOST_CENTRAL_WORDS)?,
         }),
-        "steps" => {
-            let chosen = ChosenSteps {
-                processors: processors_of(matches, profile)?,
-                channels: channels_of(matches, "ch")?,
-                from: turn_of(matches, "from", 0)?,
-                to: turn_of(matches, "to", turns)?,
-            };
-            Some(TextOf::Steps { turns, chosen })
-        }
+        "steps" => steps_text_of(matches, profile, turns),
         _ => None,
     }
+}
+
+/// The text of a deck that `steps` asks for, of a run of this many turns.
+fn steps_text_of(matches: &ArgMatches<'_>, profile: Profile, turns: u32) -> Option<TextOf>
+    requires { ReadsTurns (value_in matches.now) turns }
+    ensures { Finds (AsksForText (codes "steps") (value_in matches.now) profile) result }
+{
+    let chosen = ChosenSteps {
+        processors: processors_of(matches, profile)?,
+        channels: channels_of(matches, "ch")?,
+        from: turn_of(matches, "from", 0)?,
+        to: turn_of(matches, "to", turns)?,
+    };
+    Some(TextOf::Steps { turns, chosen })
 }
