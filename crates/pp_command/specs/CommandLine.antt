@@ -216,8 +216,9 @@ Name words file =
     IsSomeAnd (subcommand_of ppsim words) (λ s. ReadsFile (first_of (codes "file") s.1) file)
 
 -- what each refusal says of the words: `Memory` nothing; `Refused` that its kind is among those
--- that clap may give to them; the others that they are a command line and ask for no work within
--- the ranges: `Picture` if they ask for more turns than a picture has, else `Number`
+-- that clap may give to them, and not want of memory; the others that they are a command line and
+-- ask for no work within the ranges: `Picture` if they ask for more turns than a picture has, else
+-- `Number`
 abbrev pub IsRefused : List Text → LineFault → Type 0
 IsRefused words LineFault.Memory = Unit {0}
 IsRefused words (LineFault.Refused error) =

@@ -53,7 +53,7 @@ joined_view v w = record v {
 abbrev pub look_by : ℕ → ℕ → Entry
 look_by c word = look_entry c (number_in word) (flags_in word)
 
--- the view after a word was found on channel c, and after an event was made there
+-- the view after a word was found on channel c
 abbrev pub finds : LineView → ℕ → ℕ → LineView
 finds v c word = record v {
   found = v.found ++ record { channel = c; word = word } ∷ [];
@@ -61,6 +61,7 @@ finds v c word = record v {
   program_orders = extended v.program_orders (Access.OnChannel (look_by c word) ∷ []);
 }
 
+-- the view after an event was made on channel c
 abbrev pub makes : LineView → ℕ → ℕ → Event → LineView
 makes v c number e = record v {
   events = v.events ++ event_entry c number e ∷ [];
@@ -68,11 +69,12 @@ makes v c number e = record v {
   program_orders = extended v.program_orders (Access.OnChannel (event_entry c number e) ∷ []);
 }
 
--- the view after a central read, and after a central write, `number` writes of all lines before it
+-- the view after a word was found in central memory
 abbrev pub reads : LineView → ℕ → ℕ → LineView
 reads v address word =
     record v { program_orders = extended v.program_orders (Access.Read address word ∷ []) }
 
+-- the view after a word was written there, `number` writes of all lines having come before
 abbrev pub writes : LineView → ℕ → ℕ → ℕ → LineView
 writes v address word number = record v {
   written = v.written ++ number ∷ [];

@@ -49,8 +49,9 @@ on_channels entries = map Access.OnChannel entries
 
 -- the words of central memory after an access to these
 abbrev pub words_after : List ℕ → Access → List ℕ
+words_after words (Access.OnChannel entry) = words
+words_after words (Access.Read address word) = words
 words_after words (Access.Write address word number) = slice_set words address word
-words_after words access = words
 
 abbrev pub left_by : List ℕ → List Access → List ℕ
 left_by words accesses = fold words_after words accesses
@@ -73,8 +74,9 @@ pub record AreMade (made : List ℕ) (order : List Access) : Type 0 where
 
 -- a read finds the word that stands at its address
 abbrev pub FindsWord : List ℕ → Access → Type 0
+FindsWord words (Access.OnChannel entry) = Unit {0}
 FindsWord words (Access.Read address word) = slice_index words address ≡ word
-FindsWord words access = Unit {0}
+FindsWord words (Access.Write address word number) = Unit {0}
 
 -- each read finds what the accesses before it left
 abbrev pub FindsWords : List ℕ → List Access → Type 0

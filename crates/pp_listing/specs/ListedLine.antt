@@ -25,7 +25,8 @@ line_text dead_start = codes "DEAD"
 abbrev pub deck_line : Line → List ℕ
 deck_line line = line_text line ++ line_end
 
--- a line of a deck as it stands, or an instruction of one word or two: place, word and next word
+-- a line of a deck as it stands, or an instruction: its place, its word and the next word, of which
+-- the first or both stand on the line
 pub data ListedLine : Type 0 where
   bare : Line → ListedLine
   one_word : ℕ → ℕ → ℕ → ListedLine

@@ -12,7 +12,8 @@ use Rattle.pp_deck.specs.DeckMeaning.{LoadedDeck, deck_meaning}
 use Rattle.pp_text.specs.InstructionText.{is_long}
 use Rattle.pp_listing.specs.ListedLine.{ListedLine, bare, one_word, two_words, text_of}
 
--- the instructions in words from a place on, with that at 0000 after the last; 0 begins no line
+-- the instructions in words from a place on; after the last comes `first`, the word at 0000. A word
+-- 0 begins no line
 abbrev pub instruction_lines : ℕ → ℕ → List ℕ → List ListedLine
 instruction_lines first place [] = []
 instruction_lines first place (w ∷ []) = if w == 0 then [] else one_word place w first ∷ []

@@ -12,10 +12,11 @@ use Rattle.pp_machine.specs.declared.{answer.Answer.Answer, need.Need.Need, outc
 
 -- what the channels and central memory answer to a need
 abbrev pub answer_to : Need → MachineState → Answer
+answer_to Need.Nothing m = Answer.Local
+answer_to Need.Local m = Answer.Local
 answer_to (Need.Channel c op) m = Answer.Channel (reply_to op (history_of c m))
 answer_to (Need.Read a) m = Answer.Read (slice_get m.central a)
 answer_to (Need.Write a w) m = Answer.Wrote (nat_lt a (length m.central))
-answer_to _ m = Answer.Local
 
 abbrev pub event_for : Need → MachineState → Option Event
 event_for (Need.Channel c op) m = event_of op (history_of c m)

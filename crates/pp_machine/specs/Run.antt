@@ -23,7 +23,7 @@ pub record IsRunOf {X : Type 0} (turns : ℕ) (answer : Result X Cut) (old new :
   pub cut : IfErr answer (λ c. new ≡ run (barrel old.profile c.done) old)
   pub headline : HoldsOnEachChannel new
 
--- a run of `turns` turns was cut after `done` of them, at a step whose event is kept in the trace
+-- a run of `turns` turns was cut after `done` of them, before a step that makes an event
 abbrev pub IsCutAtEvent : ℕ → MachineState → ℕ → Type 0
 IsCutAtEvent turns m done = (done < turns)
     × IsSome (step_event (processor_in_turn m.profile done) (run (barrel m.profile done) m))

@@ -1,6 +1,6 @@
 -- The numbers of the data channels, and the place of each in a list of all. A number and its place
 -- are two things: proofs know of them what `channel_places` says. (Manual 60100000, data channels:
--- twelve, numbered 0 to 13 (octal). A machine of twenty processors has twelve more, 20 to 33.)
+-- twelve, numbered 0 to 13 (octal).) The twenty-four of this project go on with 20 to 33.
 use Rattle.std.specs.Prelude.{ℕ, Bool, List}
 use Rattle.pp_numbers.specs.GappedNumbers.{ArePlaces, is_number, index_of, number_of, places}
 use Rattle.pp_numbers.specs.Tables.{tabulate}

@@ -1,6 +1,7 @@
 -- The numbers of the peripheral processors, and the place of each in a list of all. A number and
 -- its place are two things: proofs know what `processor_places` says. (Manual 60100000, peripheral
--- processors: ten, 0 to 11 (octal), take turns in a barrel; in one of twenty, 20 to 31 follow.)
+-- processors: ten, 0 to 11 (octal), take turns in a barrel.) The twenty of this project go on with
+-- 20 to 31.
 use Rattle.std.specs.Prelude.{ℕ, ◌&&◌, Bool, false, List, slice_index_or}
 use Rattle.pp_numbers.specs.GappedNumbers.{ArePlaces, is_number, index_of, number_of, places}
 use Rattle.pp_numbers.specs.Tables.{tabulate}

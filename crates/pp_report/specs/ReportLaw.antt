@@ -64,8 +64,9 @@ pub record FitsItsReport {Z : Type 0} (named : List Bool) (report : Report Z) : 
 abbrev pub shown_of : {Z : Type 0} → List Bool → ℕ → Report Z → Option ShownEnd
 shown_of named n report = if is_named named n then end_of n report else None
 
--- The same events on each channel, with number and author; the same processors, with P, A and end;
--- and of each channel whether anything has happened, whether it is active, and the word that waits.
+-- The same events on each channel, with number and author; the same processors shown, with P, A and
+-- end; and of each channel whether anything has happened, whether it is active, and the word that
+-- waits.
 pub record AgreeOnReport {Y Z : Type 0} (named others : List Bool) (one : Report Y)
     (other : Report Z) : Type 0 where
   pub events : (c : ℕ) → IsTrue (names_channel c) → printed_on c one ≡ printed_on c other

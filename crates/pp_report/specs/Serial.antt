@@ -13,7 +13,8 @@ use Rattle.pp_numbers.specs.Profile.{processors_in, has_processor}
 use Rattle.pp_machine.specs.MachineStep.{answer_to, step_outcome, stepped}
 use Rattle.pp_machine.specs.Run.{run}
 
--- a machine that has not run: it has all processors and channels; dead start at most opened some
+-- a machine that has not run: it has all processors and channels, and on these nothing has happened
+-- but that dead start opened some
 pub record HasNotRun (m : MachineState) : Type 0 where
   pub processors : length m.processors ≡ processor_count
   pub channels : length m.histories ≡ channel_count

@@ -24,8 +24,9 @@ AreStates states histories = (c : ℕ) → IsTrue (names_channel c)
 -- a step by its outcome and by the answer that it got: a held one with the flags that held it
 abbrev pub progress_by : Outcome → Answer → Progress
 progress_by outcome.AtRest answer = AtRest
+progress_by outcome.Moved answer = Moved
 progress_by outcome.Held (Channel (reply.Held flags)) = Held flags
-progress_by _ answer = Moved
+progress_by outcome.Held answer = Moved
 
 -- what the next step of processor n does
 unfoldable pub progress : ℕ → MachineState → Progress

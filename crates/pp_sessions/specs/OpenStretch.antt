@@ -52,7 +52,7 @@ untaken_after (Put w) word = Some w
 untaken_after (Take w) word = None
 untaken_after event word = word
 
--- what the line of a stretch says, with an event more
+-- `tally_of` of a stretch with an event more, by what it was before
 abbrev pub with_event : Tally → TimedEvent → Tally
 with_event told e = record {
   is_session = told.is_session;

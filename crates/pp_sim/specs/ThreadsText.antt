@@ -9,8 +9,9 @@ use Rattle.pp_runner.specs.declared.report.Report.{Report}
 use Rattle.pp_report.specs.PrintedReport.{printed_report}
 use Rattle.pp_report.specs.ReportLaw.{FitsItsReport}
 
--- a text of a loaded deck, which ran with one thread per processor within these limits: that of a
--- report of the run; all that the report shows fits its lines, so that the text shows it
+-- a text of a loaded deck, which names no processor that its machine lacks, and ran with one thread
+-- per processor within these limits: that of a report of the run, of which the headline holds; and
+-- all that the report shows fits its lines, so that the text shows it
 pub record IsThreadsText (Z : Type 0) (limits : RunLimits) (deck : LoadedDeck) (text : List ℕ) :
     Type 0 where
   pub report : Report Z

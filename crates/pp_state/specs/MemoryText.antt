@@ -1,4 +1,4 @@
--- The words of a processor's memory, eight a line, in octal and in display code, as ASCII codes.
+-- The words of a processor's memory, eight a line, in octal and in display code.
 use Rattle.std.specs.Prelude.{ℕ, ◌+◌, ◌-◌, ◌*◌, ◌==◌, ◌&&◌, Bool, not, List, [], ◌++◌, codes, length, take, if◌then◌else◌}
 use Rattle.std.specs.Char.{is_ascii_whitespace}
 use Rattle.std.specs.List.{list_any, range_with_len, suffix_len}

@@ -19,7 +19,7 @@ abbrev pub standing_line : List Bool → MachineState → List ℕ → ℕ → L
 standing_line shown m held n = if is_named shown n then processor_line n (processor_of n m)
     (standing n m (slice_index held (processor_index n))) else []
 
--- the text of two machines, before and after a run. Numbers have two octal digits
+-- the text of two machines, before and after a run
 unfoldable pub state_text : List Bool → MachineState → MachineState → List ℕ → List ℕ
 state_text shown before after held = flat_map (standing_line shown after held) all_processors
     ++ flat_map deck_line (changed_sections before after)

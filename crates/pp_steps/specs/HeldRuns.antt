@@ -26,7 +26,8 @@ goes_on last step = false
 abbrev pub last_of : List Progress → Progress
 last_of steps = fold (λ last step. step) AtRest steps
 
--- a processor's times so far: the steps of each that is over, those of the last, and the last step
+-- the times that a processor was held so far: how many steps each took that is over, how many the
+-- last, and the last step
 pub record HeldSpells : Type 0 where
   pub counts : List ℕ
   pub current : ℕ

@@ -1,4 +1,4 @@
--- The places that a step may store to: five, one behind another, and 0000 follows 7777 (octal).
+-- Five places, one after another (0000 after 7777, octal), outside of which a step stores nothing.
 -- (Private contracts alone cite this.)
 use Rattle.std.specs.Prelude.{◌≡◌, ◌≢◌, ℕ, ◌+◌, ◌<◌, ◌%◌, Option, None, Some, slice_index}
 use Rattle.pp_word.specs.Address.{place_count}
