@@ -19,7 +19,7 @@ use std::sync::Wait;
 use std::thread::Threads;
 
 /// The pages whose commands are run. Links at the top of the repository lead to the first four.
-const PAGES: [&str; 23] = [
+const PAGES: [&str; 24] = [
     "README.md",
     "TUTORIAL.md",
     "VIEWS.md",
@@ -35,6 +35,7 @@ const PAGES: [&str; 23] = [
     "cases/memory.md",
     "cases/sessions.md",
     "cases/draw.md",
+    "cases/order.md",
     "cases/races.md",
     "cases/races_by_chance.md",
     "cases/check.md",

@@ -1,3 +1,4 @@
 mod CommandLemmas
 mod NamedCommands
 mod NumberListLemmas
+mod OrderListLemmas

@@ -1,8 +1,11 @@
 -- Lists of numbers, number by number.
-use Rattle.std.proofs.Common.{◌≡◌, ℕ, ◌==◌, ◌<◌, add-one, drop-cons, get_or, Bool, true, false, List, [], ◌∷◌, ◌++◌, length, drop, None, Some, refl, sym, ap, ◌∙◌, subst, arith}
-use Rattle.std.specs.Prelude.{◌&&◌, ◌||◌, All, IsSome, IsTrue, slice_index_or, slice_set}
+use Rattle.std.proofs.Common.{◌≡◌, ℕ, ◌+◌, ◌==◌, ◌<◌, ◌≤◌, add-one, drop-cons, get_or, Bool, true, false, List, [], ◌∷◌, ◌++◌, length, drop, None, Some, refl, sym, ap, ◌∙◌, subst, arith}
+use Rattle.std.specs.Prelude.{◌&&◌, ◌||◌, All, IsSome, IsTrue, position, slice_index_or, slice_set, take}
 use Rattle.std.proofs.lemmas.Bool.{cases_eq, eq-eqb, false≢true, ne_eqb}
-use Rattle.std.specs.List.{slice_split}
+use Rattle.std.specs.List.{position_or_len, slice_split}
+use Rattle.std.proofs.lemmas.Grind.{common_steps}
+use Rattle.std.proofs.lemmas.List.Splits.{slice_split_first, slice_split_none}
+use Rattle.std.proofs.lemmas.List.Sums.{fails_before_first}
 use Rattle.std.proofs.lemmas.List.{drop_all, length-append, get_or-set_other, get_or-set_same, length-set}
 use Rattle.std.proofs.lemmas.List.Elements.{All-cons, All-head, All-tail}
 use Rattle.pp_numbers.specs.ChannelNo.{channel_count, channel_index, names_channel, channel_places}
@@ -19,6 +22,21 @@ next_number text number passed here lt e = drop-cons (slice_split is_comma text)
 pub no_number : (text : List ℕ) (i : ℕ) → i ≡ length (slice_split is_comma text) → drop i (numbers_of text) ≡ []
 unfolding numbers_of
 no_number text i e = drop_all i (slice_split is_comma text) (omega (arith, e))
+
+-- the first number ends at the first comma
+pub parted : (text : List ℕ) (place : ℕ) → position is_comma text ≡ Some place → numbers_of text ≡ take place text ∷ numbers_of (drop (place + 1) text)
+unfolding numbers_of
+parted text place at =
+    let place_is : position_or_len is_comma text ≡ place = grind (arith, common_steps) in
+    let within : position_or_len is_comma text < length text = grind (arith, common_steps) in
+    let first : slice_split is_comma text ≡ take (position_or_len is_comma text) text ∷ slice_split is_comma (drop (position_or_len is_comma text + 1) text) = slice_split_first is_comma text 0 within in
+    rw place_is at first
+
+pub one_number : (text : List ℕ) → position is_comma text ≡ None → numbers_of text ≡ text ∷ []
+unfolding numbers_of
+one_number text at =
+    let long : length text ≤ position_or_len is_comma text = grind (arith, common_steps) in
+    slice_split_none is_comma text (λ k d below. fails_before_first is_comma text k d (omega (arith, long, below)))
 
 -- ---- flags of the numbers so far
 

@@ -8,6 +8,7 @@ use Rattle.clap.specs.declared.{error.Error.Error, parser.matches.ArgMatches.Arg
 use Rattle.clap.specs.declared.error.kind.ErrorKind.TheVariants.{OutOfMemory}
 use Rattle.pp_numbers.specs.ChannelNo.{channel_count}
 use Rattle.pp_command.specs.ChannelList.{AreListed}
+use Rattle.pp_command.specs.OrderList.{listed_steps}
 use Rattle.pp_command.specs.ProcessorList.{AreProcessorsListed}
 use Rattle.pp_numbers.specs.declared.{window.Window.Window, bounds.Bounds.Bounds, profile.Profile.Profile}
 use Rattle.pp_numbers.specs.Profile.{has_processor, processors_in}
@@ -44,7 +45,18 @@ Command = Text × List Rule
 abbrev pub app_of_command : Command → App
 app_of_command command = with_rule (fold with_rule (new_app command.0) command.1) file_argument
 
--- a command that makes a run of some turns, with these options besides
+-- the option that lists the processors of the first steps
+abbrev pub order_option : Rule
+order_option = optional_value (codes "order")
+
+-- a command that makes a run of some steps in any order, with these options besides
+abbrev pub steps : Text → List Rule → Command
+steps name options = (
+  name,
+  number_option (codes "turns") ∷ options ++ order_option ∷ processors_option ∷ [],
+)
+
+-- a command that makes a run of some turns of the barrel, with these options besides
 abbrev pub turns : Text → List Rule → Command
 turns name options = (name, number_option (codes "turns") ∷ options ++ processors_option ∷ [])
 
@@ -60,20 +72,20 @@ with_commands app commands = fold (λ app command. with_subcommand app command.t
 
 -- the commands, in the order in which help lists them
 abbrev pub commands : List Command
-commands = turns (codes "barrel") []
+commands = steps (codes "barrel") []
     ∷ (
       codes "threads",
       number_option (codes "steps") ∷ number_option (codes "patience") ∷ processors_option ∷ [],
     )
-    ∷ (codes "list", processors_option ∷ []) ∷ turns (codes "dump") []
-    ∷ turns (codes "steps") (optional_value (codes "pp") ∷ optional_value (codes "ch")
+    ∷ (codes "list", processors_option ∷ []) ∷ steps (codes "dump") []
+    ∷ steps (codes "steps") (optional_value (codes "pp") ∷ optional_value (codes "ch")
     ∷ optional_value (codes "from") ∷ optional_value (codes "to") ∷ [])
-    ∷ turns (codes "state") [] ∷ turns (codes "ends") []
-    ∷ turns (codes "memory") (number_option (codes "pp") ∷ optional_value (codes "first")
+    ∷ steps (codes "state") [] ∷ turns (codes "ends") []
+    ∷ steps (codes "memory") (number_option (codes "pp") ∷ optional_value (codes "first")
     ∷ optional_value (codes "last") ∷ [])
-    ∷ turns (codes "central") (optional_value (codes "first") ∷ optional_value (codes "last") ∷ [])
-    ∷ turns (codes "sessions") (flag_option (codes "words") ∷ []) ∷ turns (codes "races") []
-    ∷ turns (codes "draw") (optional_value (codes "from") ∷ optional_value (codes "to") ∷ [])
+    ∷ steps (codes "central") (optional_value (codes "first") ∷ optional_value (codes "last") ∷ [])
+    ∷ steps (codes "sessions") (flag_option (codes "words") ∷ []) ∷ steps (codes "races") []
+    ∷ steps (codes "draw") (optional_value (codes "from") ∷ optional_value (codes "to") ∷ [])
     ∷ (codes "check", optional_value (codes "opened") ∷ []) ∷ []
 
 unfoldable pub ppsim : App
@@ -138,6 +150,13 @@ ReadsWindow value_of w = (turns : ℕ) × ReadsTurns value_of turns
     × ReadsEnd turns (value_of (codes "to")) w.to × ReadsTurn 0 (value_of (codes "from")) w.from
     × (w.from ≤ w.to)
 
+-- the processors of the first steps, of a machine with as many processors as the first text says;
+-- none if none are given
+abbrev pub ReadsOrder : Option Text → Option Text → List ℕ → Type 0
+ReadsOrder processors None first = first ≡ []
+ReadsOrder processors (Some text) first = (profile : Profile) × ReadsProfile processors profile
+    × (listed_steps profile text ≡ Some first)
+
 -- the channels of a list as `1,5,13`, by flags in the order of their places; none if none is given
 abbrev pub ReadsChannels : Option Text → List Bool → Type 0
 ReadsChannels None flags = flags ≡ replicate channel_count false
@@ -196,6 +215,12 @@ IsWorkOf name value_of (Work.Threads profile limits) =
 IsWorkOf name value_of (Work.Check opened) =
     (name ≡ codes "check") × ReadsChannels (value_of (codes "opened")) opened
 
+-- it asks for this work, and these processors come first in its run
+pub record IsAskedOf (name : Text) (value_of : Text → Option Text) (work : Work) (first : List ℕ) :
+    Type 0 where
+  pub work_is : IsWorkOf name value_of work
+  pub order_is : ReadsOrder (value_of (codes "processors")) (value_of (codes "order")) first
+
 -- this command, with these values of its options, asks for more turns than a picture has
 abbrev pub AsksForMore : Text → (Text → Option Text) → Type 0
 AsksForMore name value_of =
@@ -205,10 +230,10 @@ abbrev pub AsksForMoreAmong : Option (Text × List Row) → Type 0
 AsksForMoreAmong None = ⊥
 AsksForMoreAmong (Some (name, rows)) = AsksForMore name (λ id. first_of id rows)
 
--- the words ask for this work
-abbrev pub AskFor : List Text → Work → Type 0
-AskFor words work =
-    IsSomeAnd (subcommand_of ppsim words) (λ s. IsWorkOf s.0 (λ id. first_of id s.1) work)
+-- the words ask for this work, in whose run these processors come first
+abbrev pub AskFor : List Text → Work → List ℕ → Type 0
+AskFor words work first =
+    IsSomeAnd (subcommand_of ppsim words) (λ s. IsAskedOf s.0 (λ id. first_of id s.1) work first)
 
 -- the words name this file, or none
 abbrev pub Name : List Text → Option Text → Type 0
@@ -223,9 +248,11 @@ abbrev pub IsRefused : List Text → LineFault → Type 0
 IsRefused words LineFault.Memory = Unit {0}
 IsRefused words (LineFault.Refused error) =
     IsAmong (kind_of error) (refusals words) × (kind_of error ≢ OutOfMemory)
-IsRefused words LineFault.Number = (refusals words ≡ []) × ((work : Work) → ¬ AskFor words work)
+IsRefused words LineFault.Number = (refusals words ≡ [])
+    × ((work : Work) (first : List ℕ) → ¬ AskFor words work first)
     × ¬ AsksForMoreAmong (subcommand_of ppsim words)
-IsRefused words LineFault.Picture = (refusals words ≡ []) × ((work : Work) → ¬ AskFor words work)
+IsRefused words LineFault.Picture = (refusals words ≡ [])
+    × ((work : Work) (first : List ℕ) → ¬ AskFor words work first)
     × AsksForMoreAmong (subcommand_of ppsim words)
 
 -- the fault that clap's error makes: want of memory is reported as such

@@ -2,3 +2,4 @@ pub mod NumberList
 pub mod ChannelList
 pub mod ProcessorList
 pub mod CommandLine
+pub mod OrderList

@@ -1,5 +1,5 @@
 -- Lists of numbers, like `1,5,13`: in one or two octal digits, with a comma between them.
-use Rattle.std.specs.Prelude.{◌≡◌, ℕ, ◌==◌, All, Bool, IsSome, List, length, Option, None, Some, if◌then◌else◌}
+use Rattle.std.specs.Prelude.{◌≡◌, ℕ, ◌==◌, All, Bool, IsSome, List, [], length, Option, None, Some, if◌then◌else◌}
 use Rattle.std.specs.List.{filter_map, list_any, slice_split}
 use Rattle.std.specs.Option.{option_and_then}
 use Rattle.pp_word.specs.Numeral.{numeral}
@@ -11,6 +11,11 @@ is_comma byte = byte == 44
 -- the numbers of a list
 unfoldable pub numbers_of : List ℕ → List (List ℕ)
 numbers_of text = slice_split is_comma text
+
+-- those of a list, if there is one
+abbrev pub numbers_in : Option (List ℕ) → List (List ℕ)
+numbers_in None = []
+numbers_in (Some text) = numbers_of text
 
 -- the number in a text, if it names something
 unfoldable pub numbered : (ℕ → Bool) → List ℕ → Option ℕ

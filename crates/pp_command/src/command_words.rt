@@ -1,18 +1,19 @@
 //! Reading the words of a command line.
 
-ghost use Rattle.std.specs.Prelude.{◌≡◌, ◌↔◌, [], IsTrue, map, option_map, IfOk, IfErr, OnOk};
-ghost use Rattle.pp_command.specs.CommandLine.{AskFor, AsksForMore, Finds, IsFaultBy, IsRefused, IsWorkOf, Name, refusals, value_in};
+ghost use Rattle.std.specs.Prelude.{◌≡◌, ◌↔◌, ℕ, [], List, IsTrue, codes, map, option_map, IfOk, IfErr, IfNone, IfSome, OnOk};
+ghost use Rattle.pp_command.specs.CommandLine.{AskFor, AsksForMore, Finds, IsAskedOf, IsFaultBy, IsRefused, IsWorkOf, Name, ReadsFile, refusals, value_in};
+ghost use Rattle.pp_command.specs.declared.work.Work.{Work};
 
 use crate::command::command;
 use crate::option_values::{
-    channels_of, fits_a_picture, limits_of, number_of, profile_of, value_of, window_of,
+    channels_of, fits_a_picture, limits_of, number_of, order_of, profile_of, value_of, window_of,
 };
 use crate::text_of::text_of;
 use crate::{Asked, LineFault, Work};
 use clap::error::ErrorKind;
 use clap::{ArgMatches, Error};
 use pp_numbers::CHANNELS;
-use std::alloc::Global;
+use std::alloc::{AllocError, Global};
 
 /// Whether a command asks for a picture of more turns than it has.
 fn asks_for_more(name: &str, matches: &ArgMatches<'_>) -> bool
@@ -49,6 +50,30 @@ fn work_of(name: &str, matches: &ArgMatches<'_>) -> Option<Work>
     }
 }
 
+/// What a command asks for, if its numbers are in range.
+fn asked_of<'a>(
+    alloc: Global,
+    name: &str,
+    matches: &ArgMatches<'a>,
+) -> Result<Option<Asked<'a>>, AllocError>
+    ensures asked { IfOk result (λ found. IfSome found (λ asked.
+        IsAskedOf name.now (value_in matches.now) asked.work asked.first.items)) }
+    ensures file { IfOk result (λ found. IfSome found (λ asked.
+        ReadsFile (value_in matches.now (codes "file"))
+        (option_map (λ s. s.now) asked.file))) }
+    ensures none { IfOk result (λ found. IfNone found ((work : Work) (first : List ℕ)
+        → ¬ IsAskedOf name.now (value_in matches.now) work first)) }
+{
+    let Some(work) = work_of(name, matches) else {
+        return Ok(None);
+    };
+    let Some(first) = order_of(alloc, matches)? else {
+        return Ok(None);
+    };
+    let file = value_of(matches, "file").filter(|path| *path != "-");
+    Ok(Some(Asked { work, first, file }))
+}
+
 /// The fault of a parse that failed.
 fn refusal(error: Error) -> LineFault
     ensures { IsFaultBy error result }
@@ -61,7 +86,8 @@ fn refusal(error: Error) -> LineFault
 
 /// What the words of a command line ask for. The first word is the program's name.
 pub fn read_words<'a>(alloc: Global, words: &'a [&'a str]) -> Result<Asked<'a>, LineFault>
-    ensures work { IfOk result (λ asked. AskFor (map (λ s. s.now) words.entry.now) asked.work) }
+    ensures work { IfOk result (λ asked.
+        AskFor (map (λ s. s.now) words.entry.now) asked.work asked.first.items) }
     ensures file { IfOk result (λ asked. Name (map (λ s. s.now) words.entry.now)
         (option_map (λ s. s.now) asked.file)) }
     ensures taken { OnOk result (refusals (map (λ s. s.now) words.entry.now) ≡ []) }
@@ -77,15 +103,15 @@ pub fn read_words<'a>(alloc: Global, words: &'a [&'a str]) -> Result<Asked<'a>, 
         Ok(matches) => matches,
         Err(error) => return Err(refusal(error)),
     };
-    match matches.subcommand() {
-        Some((name, inner)) => match work_of(name, inner) {
-            Some(work) => Ok(Asked {
-                work,
-                file: value_of(inner, "file").filter(|path| *path != "-"),
-            }),
-            None if asks_for_more(name, inner) => Err(LineFault::Picture),
-            None => Err(LineFault::Number),
-        },
+    let Some((name, inner)) = matches.subcommand() else {
+        return Err(LineFault::Number);
+    };
+    let Ok(found) = asked_of(alloc, name, inner) else {
+        return Err(LineFault::Memory);
+    };
+    match found {
+        Some(asked) => Ok(asked),
+        None if asks_for_more(name, inner) => Err(LineFault::Picture),
         None => Err(LineFault::Number),
     }
 }

@@ -116,8 +116,11 @@ const PROCESSORS_OPTION: OptionForm = option!(required: false, "processors", Tex
 const FIRST_OPTION: OptionForm = option!(required: false, "first", Text("N",
         "The first address to print (octal; 0 if not given)"));
 
-/// `--turns N [--processors N]`
-const RUN_OPTIONS: &[OptionForm] = &[TURNS_OPTION, PROCESSORS_OPTION];
+const ORDER_OPTION: OptionForm = option!(required: false, "order", Text("LIST",
+        "Make these steps first, as 0:3,1,11:20 (octal, counts decimal); then those of the barrel"));
+
+/// `--turns N [--order LIST] [--processors N]`
+const RUN_OPTIONS: &[OptionForm] = &[TURNS_OPTION, ORDER_OPTION, PROCESSORS_OPTION];
 
 /// The commands, in the order in which help lists them.
 pub(crate) const COMMANDS: [CommandHelp; 13] = [
@@ -230,6 +233,7 @@ of central memory.",
                 "Print the steps that ask these channels only (octal)")),
             option!(required: false, "from", Number(FROM)),
             option!(required: false, "to", Number(TO)),
+            ORDER_OPTION,
             PROCESSORS_OPTION,
         ],
     },
@@ -267,7 +271,7 @@ processor that the deck names or that waited at dead start, with the places betw
 in a repetition; and the state of each channel that has a history. What goes wrong is one line on
 standard error.",
         example: four_example!("ends --turns 999999"),
-        options: RUN_OPTIONS,
+        options: &[TURNS_OPTION, PROCESSORS_OPTION],
     },
     command! {
         name: "memory",
@@ -287,6 +291,7 @@ are spaces). What goes wrong is one line on standard error.",
             FIRST_OPTION,
             option!(required: false, "last", Text("N",
                 "The last address to print (octal; 7777 if not given)")),
+            ORDER_OPTION,
             PROCESSORS_OPTION,
         ],
     },
@@ -306,6 +311,7 @@ and 55 are spaces). What goes wrong is one line on standard error.",
             FIRST_OPTION,
             option!(required: false, "last", Text("N",
                 "The last address to print (octal; 377777 if not given)")),
+            ORDER_OPTION,
             PROCESSORS_OPTION,
         ],
     },
@@ -328,6 +334,7 @@ line. Turns and counts are decimal, words octal. What goes wrong is one line on 
         options: &[
             TURNS_OPTION,
             option!(required: false, "words", Flag("Print the words and function codes as well")),
+            ORDER_OPTION,
             PROCESSORS_OPTION,
         ],
     },
@@ -372,6 +379,7 @@ to draw and the one before which the picture ends: --turns 999999 --from 5000 --
             TURNS_OPTION,
             option!(required: false, "from", Number(DRAWN_FROM)),
             option!(required: false, "to", Number(TO)),
+            ORDER_OPTION,
             PROCESSORS_OPTION,
         ],
     },

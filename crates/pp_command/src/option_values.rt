@@ -1,14 +1,15 @@
 //! The values of options.
 
-ghost use Rattle.std.specs.Prelude.{◌≡◌, ◌-◌, ◌≤◌, ◌↔◌, IsTrue, codes, option_map, IfSome, IsSome};
+ghost use Rattle.std.specs.Prelude.{◌≡◌, ◌-◌, ◌≤◌, ◌↔◌, IsTrue, codes, option_map, IfOk, IfSome, IsSome};
 ghost use Rattle.pp_numbers.specs.Limits.{AreLimits};
-ghost use Rattle.pp_command.specs.CommandLine.{Finds, ReadsAddress, ReadsBounds, ReadsChosen, ReadsNumber, ReadsProcessor, ReadsProcessors, ReadsProfile, ReadsTurn, ReadsFlag, ReadsTurns, ReadsWindow, value_in};
+ghost use Rattle.pp_command.specs.CommandLine.{Finds, ReadsAddress, ReadsBounds, ReadsChosen, ReadsNumber, ReadsOrder, ReadsProcessor, ReadsProcessors, ReadsProfile, ReadsTurn, ReadsFlag, ReadsTurns, ReadsWindow, value_in};
 
-use crate::listed_channels;
 use crate::number_range::{FROM, PATIENCE, STEPS, TURNS};
 use crate::processor_list::listed_processors;
+use crate::{listed_channels, listed_order};
 use clap::ArgMatches;
 use pp_numbers::{Bounds, CHANNELS, Limits, MOST_TURNS, PROCESSORS, PpNo, Profile, Window};
+use std::alloc::{AllocError, Global};
 
 /// The value of an option, if the words give it one.
 pub(crate) fn value_of<'a>(matches: &ArgMatches<'a>, id: &str) -> Option<&'a str>
@@ -92,6 +93,26 @@ pub(crate) fn channels_of(matches: &ArgMatches<'_>, id: &str) -> Option<Option<[
         Some(text) => Some(Some(listed_channels(text.as_bytes())?)),
         None => Some(None),
     }
+}
+
+/// The processors of the first steps that `--order` lists, or none if it is not given; nothing if
+/// the list is none of steps.
+pub(crate) fn order_of(
+    alloc: Global,
+    matches: &ArgMatches<'_>,
+) -> Result<Option<Vec<PpNo, Global>>, AllocError>
+    ensures { IfOk result (λ order. Finds (ReadsOrder
+        (value_in matches.now (codes "processors")) (value_in matches.now (codes "order")))
+        (option_map (λ first. first.items) order)) }
+{
+    let Some(text) = value_of(matches, "order") else {
+        return Ok(Some(Vec::new(alloc)));
+    };
+    let Some(profile) = profile_of(matches) else {
+        return Ok(None);
+    };
+    let first = listed_order(alloc, profile, text.as_bytes())?;
+    Ok(first)
 }
 
 /// The address in an option's value, in octal; this one if the option is not given.

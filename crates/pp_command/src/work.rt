@@ -1,5 +1,6 @@
 use crate::TextOf;
-use pp_numbers::{CHANNELS, Limits, Profile};
+use pp_numbers::{CHANNELS, Limits, PpNo, Profile};
+use std::alloc::Global;
 
 /// The work that a command line asks for.
 #[derive(Clone, Copy)]
@@ -13,9 +14,11 @@ pub enum Work {
     Check { opened: [bool; CHANNELS] },
 }
 
-/// A work, and the file whose bytes it is done over; none for those of standard input.
-#[derive(Clone, Copy)]
+/// A work, the processors whose steps come first in its run, and the file whose bytes it is done
+/// over; none for those of standard input.
+#[derive(Drop)]
 pub struct Asked<'a> {
     pub work: Work,
+    pub first: Vec<PpNo, Global>,
     pub file: Option<&'a str>,
 }

@@ -7,7 +7,6 @@ use Rattle.std.proofs.lemmas.Bool.{cond-false, le-leb, leb-false, leb-true, lt-l
 use Rattle.pp_machine.specs.MachineState.{MachineState}
 use Rattle.pp_machine.specs.MachineStep.{counted, stepped}
 use Rattle.pp_numbers.specs.PpNo.{processor_count}
-use Rattle.pp_machine.specs.Run.{barrel}
 use Rattle.pp_run.specs.RunSteps.{RunStep, run_steps}
 use Rattle.pp_draw.specs.Condition.{changes, goes_on, phases_from, processor_phases}
 use Rattle.pp_draw.specs.SeenStep.{is_shown, seen, seen_in_window}
@@ -122,17 +121,17 @@ last_begun w n turn x shows o q same (s ∷ more) last = ap (last_or q) (begun_m
     by_test true false is last rest = rest o q same last
     by_test false false is last rest = rest o q same last
 
-pub last_at_turn : (w : Window) (n : ℕ) (m : MachineState) (turn : ℕ) → m.turns < 2 ^ 64
-    → IfSome (last_step n turn (run_steps (barrel m.profile w.to) m)) (λ (step : RunStep). w.from ≤ step.before.turns + processor_count
-    → look_at turn (phases_from None (processor_phases n (seen_in_window w m))) ≡ Some (Processor (seen step).condition))
-last_at_turn w n m turn low = by_last (last_step n turn steps) refl
+pub last_at_turn : (w : Window) (n : ℕ) (ns : List ℕ) (m : MachineState) (turn : ℕ) → m.turns < 2 ^ 64
+    → IfSome (last_step n turn (run_steps ns m)) (λ (step : RunStep). w.from ≤ step.before.turns + processor_count
+    → look_at turn (phases_from None (processor_phases n (seen_in_window w ns m))) ≡ Some (Processor (seen step).condition))
+last_at_turn w n ns m turn low = by_last (last_step n turn steps) refl
   where
     steps : List RunStep
-    steps = run_steps (barrel m.profile w.to) m
+    steps = run_steps ns m
 
     by_last : (last : Option RunStep) → last_step n turn steps ≡ last
         → IfSome last (λ (step : RunStep). w.from ≤ step.before.turns + processor_count → look_at turn (phases_from None (phases w n steps)) ≡ Some (Processor (seen step).condition))
     by_last None is = tt
     by_last (Some step) is = λ near.
-        drawn_at turn (phases w n steps) (in_order w n turn (barrel m.profile w.to) m low)
+        drawn_at turn (phases w n steps) (in_order w n turn ns m low)
         ∙ ap (option_map look_in) (last_begun w n turn step (le-leb (w.from - processor_count) step.before.turns (omega (arith, near))) None None (λ e. absurd (cc)) steps is)

@@ -5,7 +5,7 @@ use Rattle.pp_numbers.specs.ChannelNo.{channel_count, channel_index, channel_num
 use Rattle.pp_channel.specs.History.{active, waiting}
 use Rattle.pp_machine.specs.MachineState.{MachineState, history_of, processor_of}
 use Rattle.pp_numbers.specs.PpNo.{processor_count, processor_index, processor_number}
-use Rattle.pp_machine.specs.Run.{barrel, run}
+use Rattle.pp_machine.specs.Run.{run}
 use Rattle.pp_deck.specs.DeckMeaning.{LoadedDeck}
 use Rattle.pp_deck.specs.InUse.{in_use}
 use Rattle.pp_text.specs.PrintedText.{channel_text, each_below, state_text}
@@ -66,6 +66,6 @@ drawing w shown m steps =
     ++ foot_text rows
 
 -- the drawing of a loaded deck, by the steps of its run
-abbrev pub drawing_of_run : Window → LoadedDeck → List ℕ
-drawing_of_run w deck = drawing w (in_use deck)
-    (run (barrel deck.machine.profile w.to) deck.machine) (seen_in_window w deck.machine)
+abbrev pub drawing_of_run : Window → List ℕ → LoadedDeck → List ℕ
+drawing_of_run w steps deck = drawing w (in_use deck) (run steps deck.machine)
+    (seen_in_window w steps deck.machine)

@@ -1,12 +1,11 @@
 -- How the steps of a run find their processors.
-use Rattle.std.specs.Prelude.{◌-◌, Bool, nat_le, List, map, Option, None, Some}
+use Rattle.std.specs.Prelude.{ℕ, ◌-◌, Bool, nat_le, List, map, Option, None, Some}
 use Rattle.std.specs.List.{filter}
 use Rattle.pp_numbers.specs.PpNo.{processor_count}
 use Rattle.pp_numbers.specs.declared.window.Window.{Window}
 use Rattle.pp_machine.specs.MachineState.{MachineState, processor_of}
 use Rattle.pp_machine.specs.MachineStep.{step_outcome}
 use Rattle.pp_machine.specs.NeedAndEffect.{need}
-use Rattle.pp_machine.specs.Run.{barrel}
 use Rattle.pp_machine.specs.declared.{block.Block.Block, need.Need.Need, outcome.Outcome.Outcome, pp_state.PpState.PpState}
 use Rattle.pp_run.specs.RunSteps.{RunStep, run_steps}
 use Rattle.pp_draw.specs.declared.condition.Condition.TheVariants.{Running, InBlock, HeldBy, Stopped, Faulted}
@@ -40,5 +39,5 @@ abbrev pub is_shown : Window → SeenStep → Bool
 is_shown w step = nat_le (w.from - processor_count) step.turn
 
 -- the steps that are shown, of a run of a machine to the end of the window
-abbrev pub seen_in_window : Window → MachineState → List SeenStep
-seen_in_window w m = filter (is_shown w) (map seen (run_steps (barrel m.profile w.to) m))
+abbrev pub seen_in_window : Window → List ℕ → MachineState → List SeenStep
+seen_in_window w steps m = filter (is_shown w) (map seen (run_steps steps m))

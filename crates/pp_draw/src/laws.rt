@@ -11,7 +11,6 @@ ghost use Rattle.pp_machine.specs.Headline.{HoldsOnEachChannel};
 ghost use Rattle.pp_machine.specs.MachineState.{MachineState, history_of, is_opened};
 ghost use Rattle.pp_machine.specs.MachineStep.{counted};
 ghost use Rattle.pp_numbers.specs.PpNo.{names_processor, processor_count, processor_index};
-ghost use Rattle.pp_machine.specs.Run.{barrel};
 ghost use Rattle.pp_run.specs.RunSteps.{run_steps};
 ghost use Rattle.pp_numbers.specs.declared.window.Window.{Window};
 ghost use Rattle.pp_draw.specs.Condition.{channel_phases, goes_on, is_sent, phases_from, processor_phases};
@@ -54,10 +53,10 @@ pub fn drawing_law()
     ensures shown { (w : Window) (step : SeenStep)
         → IsTrue (is_shown w step) ↔ (w.from ≤ step.turn + processor_count) }
     // What is drawn in a turn is how the last step up to then found the processor.
-    ensures at_turn { (w : Window) (n : ℕ) (m : MachineState) (turn : ℕ) → m.turns < 2 ^ 64
-        → IfSome (last_step n turn (run_steps (barrel m.profile w.to) m)) (λ step.
+    ensures at_turn { (w : Window) (n : ℕ) (ns : List ℕ) (m : MachineState) (turn : ℕ)
+        → m.turns < 2 ^ 64 → IfSome (last_step n turn (run_steps ns m)) (λ step.
         w.from ≤ step.before.turns + processor_count
-        → look_at turn (phases_from None (processor_phases n (seen_in_window w m)))
+        → look_at turn (phases_from None (processor_phases n (seen_in_window w ns m)))
         ≡ Some (Processor (seen step).condition)) }
     // No gap is between a part and the next, and they do not overlap.
     ensures adjoin { (w : Window) (phase next : Phase) (after : Option Phase)

@@ -10,7 +10,7 @@ use crate::Condition;
 use pp_channel::Memory;
 use pp_machine::{Block, Cut, Machine, Need, Outcome, PROCESSORS, PpNo, PpState};
 use pp_numbers::Window;
-use pp_run::{Observer, run_observed};
+use pp_run::{Observer, Order, run_observed};
 use std::alloc::Allocator;
 
 /// A step of a run.
@@ -24,24 +24,26 @@ pub struct SeenStep {
     pub condition: Condition,
 }
 
-/// Runs the turns of the barrel before the end of a window, as `Machine::run_barrel` does, and says
-/// how each step in the window, and in the round before it, found its processor.
-pub fn run_seeing_steps<A: Allocator>(
+/// Makes the steps of an order, and says how each step in a window, and in the round before it,
+/// found its processor.
+pub fn run_seeing_steps<A: Allocator, B: Allocator>(
     alloc: A,
     machine: &mut Machine<A>,
+    order: &Order<B>,
     window: Window,
 ) -> Result<Vec<SeenStep, A>, Cut>
-    ensures run { IsRunOf window.to result machine.old machine.new }
-    ensures seen { IfOk result (λ steps. steps.items ≡ seen_in_window window machine.old) }
+    ensures run { IsRunOf order.now result machine.old machine.new }
+    ensures seen { IfOk result (λ steps.
+        steps.items ≡ seen_in_window window order.now machine.old) }
     // A run is cut only where an event or a step had to be kept.
     ensures cut_at { IfErr result (λ c.
-        IsCutAt (λ step. IsTrue (is_shown window (seen step))) window.to machine.old c.done) }
+        IsCutAt (λ step. IsTrue (is_shown window (seen step))) order.now machine.old c.done) }
 {
     let mut shown = ShownSteps {
         window,
         steps: Vec::new(alloc),
     };
-    run_observed(machine, window.to, &mut shown)?;
+    run_observed(machine, order, &mut shown)?;
     Ok(shown.steps)
 }
 

@@ -20,6 +20,8 @@ use Rattle.pp_run.specs.Determinacy.IsEmbeddedIn.{over, next, beside}
 use Rattle.pp_run.specs.Determinacy.MayFind.{start, both_advance}
 use Rattle.pp_run.proofs.StepFacts.{own_step, other_step, central_by, made_unless, history_unless, event_by_need, event_by, length_processors, length_histories, length_central}
 use Rattle.pp_run.proofs.Moments.{moment_past, run_central, history_step, still, sides, made_still}
+use Rattle.pp_orders.specs.Endings.{AreAllEndings}
+use Rattle.pp_orders.proofs.LawLemmas.{only_ending}
 use Rattle.pp_laws.proofs.Standing.{Owns, word_of, Goes, Follows, CatchUp, read_alike, stays_alike, catch_up}
 use Rattle.pp_laws.proofs.Steps.{Advances, kept_by_stay, kept_at_rest, kept_in_place, off_channel, the_same, as_then}
 
@@ -367,5 +369,9 @@ comes_alike ns others m all each d in_others =
 
 pub ends_quiet : (ns : List ℕ) (m : MachineState) → length m.processors ≡ processor_count → length m.histories ≡ channel_count → IsDeterminate ns m → IsQuiet (run ns m)
 ends_quiet ns m all each d = record { waits = quiet_end ns m all each d }
+
+-- so the list leads to the only ending
+pub one_ending : (ns : List ℕ) (m : MachineState) → length m.processors ≡ processor_count → length m.histories ≡ channel_count → IsDeterminate ns m → AreAllEndings m (ns ∷ [])
+one_ending ns m all each d = only_ending m ns all (ends_quiet ns m all each d) (λ others in_others. comes_alike ns others m all each d in_others)
 
 pub ruleset every_order = (ends_quiet, shows_parts, ends_alike, comes_alike)

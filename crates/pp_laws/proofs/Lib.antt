@@ -11,3 +11,5 @@ mod PrintedTextLemmas
 mod PrintedLawLemmas
 mod PrintedReportLemmas
 mod ReportLemmas
+mod GoingOnLemmas
+mod OrderReadLemmas

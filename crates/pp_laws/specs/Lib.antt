@@ -2,3 +2,4 @@ pub mod PrintedTrace
 pub mod OneRun
 pub mod Circle
 pub mod WellFormed
+pub mod GoingOn

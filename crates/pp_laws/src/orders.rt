@@ -1,11 +1,12 @@
 //! Laws of all orders of steps.
 
-ghost use Rattle.std.specs.Prelude.{◌≡◌, ℕ, List, length, All, Ok, ◌++◌};
+ghost use Rattle.std.specs.Prelude.{◌≡◌, ℕ, List, [], ◌∷◌, length, All, Ok, ◌++◌};
 ghost use Rattle.pp_numbers.specs.ChannelNo.{channel_count};
 ghost use Rattle.pp_machine.specs.MachineState.{MachineState};
 ghost use Rattle.pp_numbers.specs.PpNo.{processor_count};
-ghost use Rattle.pp_machine.specs.Run.{run, barrel};
+ghost use Rattle.pp_machine.specs.Run.{run};
 ghost use Rattle.pp_run.specs.Determinacy.{AreAlike, IsDeterminate, IsQuiet, ShowsParts, IsEmbeddedIn};
+ghost use Rattle.pp_orders.specs.Endings.{AreAllEndings};
 ghost use Rattle.pp_deck.specs.DeckMeaning.{LoadedDeck, deck_meaning};
 ghost use Rattle.pp_report.specs.Types.{Profile, Report};
 ghost use Rattle.pp_laws.specs.OneRun.{EndsAtRest, IsOver, ShowsPartsOf};
@@ -14,7 +15,7 @@ ghost use Rattle.pp_numbers.specs.Limits.{RunLimits};
 ghost use Rattle.pp_runner.specs.Report.{IsReportOf};
 ghost use Rattle.pp_races.specs.RacesText.{verdict_line};
 ghost use Rattle.pp_races.specs.declared.verdict.Verdict.TheVariants.{Same};
-ghost use Rattle.pp_sim.specs.TextOf.{IsRacesText};
+ghost use Rattle.pp_sim.specs.TextOf.{IsRacesText, run_of};
 
 use pp_deck::deck_law;
 use pp_report::serial_law;
@@ -25,7 +26,7 @@ use std::alloc::Allocator;
 /// each processor and each channel only as the first showed it at some moment; and one that ends
 /// quiet, or in which the first stands with any steps between, leaves the processors, central
 /// memory and the histories of the channels as the first did, each event made by the same
-/// processor.
+/// processor. So the first leads to the only ending of the machine.
 #[tactic(auto, using(crate::proofs::DeterminacyLemmas::every_order))]
 pub fn determinacy_law()
     ensures quiet { (ns : List ℕ) (m : MachineState)
@@ -40,6 +41,9 @@ pub fn determinacy_law()
     ensures going_on { (ns others : List ℕ) (m : MachineState)
         → length m.processors ≡ processor_count → length m.histories ≡ channel_count
         → IsDeterminate ns m → IsEmbeddedIn ns others → AreAlike (run others m) (run ns m) }
+    ensures ending { (ns : List ℕ) (m : MachineState)
+        → length m.processors ≡ processor_count → length m.histories ≡ channel_count
+        → IsDeterminate ns m → AreAllEndings m (ns ∷ []) }
 {}
 
 /// What one run of a deck determines of every run of it by threads, if no step of it may race on a
@@ -71,45 +75,48 @@ pub fn one_run_law<A: Allocator>()
 /// list of steps of the deck's machine shows each processor and each channel only as this run
 /// showed it at some moment; and one that ends quiet, or in which the turns of this run stand with
 /// any steps between, leaves the processors, central memory, and the histories of the channels,
-/// each event made by the same processor, as this run did.
+/// each event made by the same processor, as this run did. So this run leads to the only ending.
 pub fn races_text_law()
-    ensures quiet { (turns : ℕ) (deck : LoadedDeck) (text before : List ℕ)
-        → IsRacesText turns deck text → text ≡ before ++ verdict_line Same
-        → IsQuiet (run (barrel deck.machine.profile turns) deck.machine) }
-    ensures parts { (turns : ℕ) (deck : LoadedDeck) (text before others : List ℕ)
-        → IsRacesText turns deck text → text ≡ before ++ verdict_line Same
-        → ShowsParts (barrel deck.machine.profile turns) deck.machine (run others deck.machine) }
-    ensures result { (turns : ℕ) (deck : LoadedDeck) (text before others : List ℕ)
-        → IsRacesText turns deck text → text ≡ before ++ verdict_line Same
+    ensures quiet { (first : List ℕ) (turns : ℕ) (deck : LoadedDeck) (text before : List ℕ)
+        → IsRacesText first turns deck text → text ≡ before ++ verdict_line Same
+        → IsQuiet (run (run_of first turns deck) deck.machine) }
+    ensures parts { (first : List ℕ) (turns : ℕ) (deck : LoadedDeck) (text before others : List ℕ)
+        → IsRacesText first turns deck text → text ≡ before ++ verdict_line Same
+        → ShowsParts (run_of first turns deck) deck.machine (run others deck.machine) }
+    ensures result { (first : List ℕ) (turns : ℕ) (deck : LoadedDeck) (text before others : List ℕ)
+        → IsRacesText first turns deck text → text ≡ before ++ verdict_line Same
         → IsQuiet (run others deck.machine)
         → AreAlike (run others deck.machine)
-        (run (barrel deck.machine.profile turns) deck.machine) }
-    ensures going_on { (turns : ℕ) (deck : LoadedDeck) (text before others : List ℕ)
-        → IsRacesText turns deck text → text ≡ before ++ verdict_line Same
-        → IsEmbeddedIn (barrel deck.machine.profile turns) others
+        (run (run_of first turns deck) deck.machine) }
+    ensures going_on { (first : List ℕ) (turns : ℕ) (deck : LoadedDeck) (text before others : List ℕ)
+        → IsRacesText first turns deck text → text ≡ before ++ verdict_line Same
+        → IsEmbeddedIn (run_of first turns deck) others
         → AreAlike (run others deck.machine)
-        (run (barrel deck.machine.profile turns) deck.machine) }
+        (run (run_of first turns deck) deck.machine) }
+    ensures ending { (first : List ℕ) (turns : ℕ) (deck : LoadedDeck) (text before : List ℕ)
+        → IsRacesText first turns deck text → text ≡ before ++ verdict_line Same
+        → AreAllEndings deck.machine (run_of first turns deck ∷ []) }
 {
     determinacy_law();
 }
 
 /// What such a text says of every run of the deck by threads. However the threads ended, each
-/// processor and each channel stands as at some moment of the run in the barrel. If nothing more
-/// can move, the barrel leads to the very processors and the very histories that the threads left,
+/// processor and each channel stands as at some moment of the run that was printed. If nothing more
+/// can move, that run leads to the very processors and the very histories that the threads left,
 /// and to the words of central memory that their accesses leave.
 pub fn races_report_law<A: Allocator>()
     ensures parts { (profile : Profile) (bytes text before : List ℕ) (deck : LoadedDeck)
-        (turns : ℕ) (limits : RunLimits) (report : Report A)
+        (first : List ℕ) (turns : ℕ) (limits : RunLimits) (report : Report A)
         → deck_meaning profile bytes ≡ Ok deck
-        → IsRacesText turns deck text → text ≡ before ++ verdict_line Same
+        → IsRacesText first turns deck text → text ≡ before ++ verdict_line Same
         → IsReportOf limits deck.machine report
-        → ShowsPartsOf (barrel deck.machine.profile turns) deck.machine report }
+        → ShowsPartsOf (run_of first turns deck) deck.machine report }
     ensures result { (profile : Profile) (bytes text before : List ℕ) (deck : LoadedDeck)
-        (turns : ℕ) (limits : RunLimits) (report : Report A)
+        (first : List ℕ) (turns : ℕ) (limits : RunLimits) (report : Report A)
         → deck_meaning profile bytes ≡ Ok deck
-        → IsRacesText turns deck text → text ≡ before ++ verdict_line Same
+        → IsRacesText first turns deck text → text ≡ before ++ verdict_line Same
         → (is : IsReportOf limits deck.machine report) → IsOver report
-        → LeadsTo (barrel deck.machine.profile turns) deck.machine report is.order }
+        → LeadsTo (run_of first turns deck) deck.machine report is.order }
 {
     one_run_law::<A>();
 }

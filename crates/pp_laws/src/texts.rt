@@ -2,10 +2,10 @@
 
 ghost use Rattle.std.specs.Prelude.{ℕ, List};
 ghost use Rattle.pp_deck.specs.DeckMeaning.{LoadedDeck};
-ghost use Rattle.pp_machine.specs.Run.{barrel, run};
+ghost use Rattle.pp_machine.specs.Run.{run};
 ghost use Rattle.pp_numbers.specs.Limits.{RunLimits};
 ghost use Rattle.pp_sim.specs.ThreadsText.{IsThreadsText};
-ghost use Rattle.pp_sim.specs.TextOf.{IsBarrelText};
+ghost use Rattle.pp_sim.specs.TextOf.{IsBarrelText, run_of};
 ghost use Rattle.pp_report.specs.ReportLaw.{AgreeOnReport};
 ghost use Rattle.pp_text.specs.TextLaw.{AgreeOnText, AreSameHistories, NameAlike};
 
@@ -17,10 +17,10 @@ use std::alloc::Allocator;
 /// machines made the same events in the same turns, agree on what is shown of each processor named
 /// and of each channel, and have the same history on each channel.
 pub fn barrel_text_law()
-    ensures { (deck other : LoadedDeck) (turns others : ℕ) (text : List ℕ)
-        → IsBarrelText turns deck text → IsBarrelText others other text
-        → (let one = run (barrel deck.machine.profile turns) deck.machine in
-        let also = run (barrel other.machine.profile others) other.machine in
+    ensures { (deck other : LoadedDeck) (first second : List ℕ) (turns others : ℕ) (text : List ℕ)
+        → IsBarrelText first turns deck text → IsBarrelText second others other text
+        → (let one = run (run_of first turns deck) deck.machine in
+        let also = run (run_of second others other) other.machine in
         AgreeOnText deck.named other.named one also
         × AreSameHistories one.histories also.histories) }
 {

@@ -5,7 +5,7 @@ ghost use Rattle.pp_deck.specs.DeckMeaning.{LoadedDeck, deck_meaning};
 ghost use Rattle.pp_deck.specs.DeckText.{lines_of};
 ghost use Rattle.pp_machine.specs.Headline.{events_on as trace_events_on};
 ghost use Rattle.pp_machine.specs.MachineState.{MachineState};
-ghost use Rattle.pp_machine.specs.Run.{run, barrel};
+ghost use Rattle.pp_machine.specs.Run.{run};
 ghost use Rattle.pp_numbers.specs.declared.profile.Profile.{Profile};
 ghost use Rattle.pp_text.specs.PrintedText.{printed};
 ghost use Rattle.pp_text.specs.TextLaw.{FitsItsText};
@@ -17,7 +17,7 @@ ghost use Rattle.pp_report.specs.Types.{Report};
 ghost use Rattle.pp_numbers.specs.Limits.{RunLimits};
 ghost use Rattle.pp_report.specs.PrintedReport.{printed_report};
 ghost use Rattle.pp_sim.specs.ThreadsText.{IsThreadsText};
-ghost use Rattle.pp_sim.specs.TextOf.{IsBarrelText};
+ghost use Rattle.pp_sim.specs.TextOf.{IsBarrelText, run_of};
 
 use pp_deck::deck_law;
 use pp_machine::run_law;
@@ -72,9 +72,10 @@ pub fn printed_report_law<A: Allocator>()
 /// channels that it takes as open are those that dead start opened: of every deck after fewer than
 /// 10^19 turns, and of every run by threads in which no channel has 10^19 events.
 pub fn checked_text_law<A: Allocator>()
-    ensures barrel { (profile : Profile) (bytes text : List ℕ) (deck : LoadedDeck) (turns : ℕ)
-        → deck_meaning profile bytes ≡ Ok deck → turns < 10 ^ 19 → IsBarrelText turns deck text
-        → AreLawful (run (barrel deck.machine.profile turns) deck.machine).opened
+    ensures barrel { (profile : Profile) (bytes text first : List ℕ) (deck : LoadedDeck)
+        (turns : ℕ) → deck_meaning profile bytes ≡ Ok deck → turns < 10 ^ 19
+        → IsBarrelText first turns deck text
+        → AreLawful (run (run_of first turns deck) deck.machine).opened
         (lines_of text) }
     ensures threads { (deck : LoadedDeck) (limits : RunLimits) (text : List ℕ)
         (is : IsThreadsText A limits deck text)

@@ -1,8 +1,8 @@
 -- The dump of a deck that has run is printed from the machine as it stands; and read as a deck it is the deck to go on from.
 use Rattle.std.proofs.Common.{◌≡◌, ℕ, ◌≤◌, Bool, true, false, List, length, get_or, Option, Some, None, Ok, refl, sym, ap, subst, ◌∙◌, arith, cond, [], ◌∷◌, ◌++◌}
-use Rattle.std.specs.Prelude.{IsTrue, ◌&&◌, filter_map}
+use Rattle.std.specs.Prelude.{IsTrue, ◌&&◌, codes, filter_map}
 use Rattle.std.specs.List.{list_any, flat_map, range_with_len}
-use Rattle.std.proofs.lemmas.List.{get_or-replicate, length-map, append-nil}
+use Rattle.std.proofs.lemmas.List.{get_or-replicate, length-map, append-nil, append_assoc}
 use Rattle.std.proofs.Math.ListN.{get_or-map}
 use Rattle.pp_numbers.specs.ChannelNo.{all_channels, channel_count, channel_index, names_channel, channel_places}
 use Rattle.pp_machine.specs.MachineState.{MachineState, processor_of, is_opened}
@@ -16,10 +16,12 @@ use Rattle.pp_deck.specs.DeckLoad.{processor_with}
 use Rattle.pp_deck.specs.DeckMeaning.{LoadedDeck, deck_meaning, with_dead_start}
 use Rattle.pp_numbers.proofs.TableLemmas.{length-tabulate, get_or-tabulate}
 use Rattle.pp_deck.specs.InUse.{is_in_use, in_use}
-use Rattle.pp_listing.specs.Dump.{in_processor, busy_processor, busy_channel, all_busy, first_busy, left_of, deck_to_go_on, dump, after, GoesOnFrom}
+use Rattle.pp_listing.specs.Dump.{in_processor, busy_processor, busy_channel, all_busy, first_busy, left_of, deck_to_go_on, dump, after, order_comment, GoesOnFrom}
 use Rattle.pp_listing.specs.Listing.{listing, central_word_line, dead_start_line, instruction_lines, named_section, section_lines, start_line}
 use Rattle.pp_listing.proofs.GoingOnLemmas.{none_given}
-use Rattle.pp_listing.proofs.ListingLemmas.{IsSet, dead_of, listing_loads, names_of, none_opened, numbered, processors_of}
+use Rattle.pp_listing.proofs.ListingLemmas.{IsSet, comment_loads, dead_of, listing_loads, names_of, none_opened, numbered, processors_of}
+use Rattle.pp_text.specs.OrderText.{order_text}
+use Rattle.pp_listing.proofs.OrderCommentLemmas.{comment_plain}
 use Rattle.pp_listing.proofs.RunDeckLemmas.{IsDeckFor, deck_after, processor_here}
 use Rattle.pp_deck.specs.DeckLine.{central_size, section, dead_start}
 use Rattle.pp_listing.specs.ListedLine.{ListedLine, bare, deck_line, text_line}
@@ -105,33 +107,43 @@ to_go_on deck h between = record {
     number : (n : ℕ) → names_of (deck_to_go_on deck) n ≡ true → IsTrue (names_processor n)
     number n is = numbered (deck_to_go_on deck) n is
 
-dump_is : (deck : LoadedDeck) → dump deck ≡ listing (deck_to_go_on deck)
+dump_is : (order : List ℕ) (deck : LoadedDeck) → dump order deck ≡ order_comment order ++ listing (deck_to_go_on deck)
 unfolding dump
-dump_is deck = refl
+dump_is order deck = refl
+
+-- behind a comment, or none
+module _ (profile : Profile) (deck set : LoadedDeck) (h : IsSet profile deck set) where
+  behind_comment : (order : List ℕ) → length (order_comment order ++ listing deck) ≤ 1048576 → deck_meaning profile (order_comment order ++ listing deck) ≡ Ok (with_dead_start (dead_of deck) set)
+  behind_comment [] short = listing_loads profile deck set h short
+  behind_comment (n ∷ ns) short =
+      let comment = codes "* GO ON WITH --order " ++ order_text (n ∷ ns) in
+      let is = append_assoc comment (10 ∷ []) (listing deck) in
+      ap (deck_meaning profile) is
+      ∙ comment_loads profile deck set h (codes " GO ON WITH --order " ++ order_text (n ∷ ns)) (comment_plain (n ∷ ns)) (omega (arith, short, ap length is))
 
 -- where a text means a deck that has come to this one by steps
-dump_is_deck : (deck loaded : LoadedDeck) (source : List ℕ) (steps : List ℕ) → deck_meaning deck.machine.profile source ≡ Ok loaded → deck ≡ after steps loaded → first_busy deck.machine ≡ None
-    → length (dump deck) ≤ 1048576 → deck_meaning deck.machine.profile (dump deck) ≡ Ok (deck_to_go_on deck)
-dump_is_deck deck loaded source steps meant ran between short =
-    let its = dump_is deck in
+dump_is_deck : (order : List ℕ) (deck loaded : LoadedDeck) (source : List ℕ) (steps : List ℕ) → deck_meaning deck.machine.profile source ≡ Ok loaded → deck ≡ after steps loaded → first_busy deck.machine ≡ None
+    → length (dump order deck) ≤ 1048576 → deck_meaning deck.machine.profile (dump order deck) ≡ Ok (deck_to_go_on deck)
+dump_is_deck order deck loaded source steps meant ran between short =
+    let its = dump_is order deck in
     let profile = deck.machine.profile in
     let sound : IsDeckFor profile deck = subst (IsDeckFor profile) (sym ran) (deck_after profile source loaded steps meant) in
     ap (deck_meaning profile) its
-    ∙ listing_loads profile (deck_to_go_on deck) (deck_to_go_on deck) (to_go_on deck sound between) (omega (arith, short, ap length its))
+    ∙ behind_comment profile (deck_to_go_on deck) (deck_to_go_on deck) (to_go_on deck sound between) order (omega (arith, short, ap length its))
     ∙ ap (λ (b : Bool). Ok (with_dead_start b (deck_to_go_on deck))) (none_opened (deck_to_go_on deck) (unopened deck))
 
-pub goes_on : (text : List ℕ) (deck : LoadedDeck) → text ≡ dump deck → first_busy deck.machine ≡ None → GoesOnFrom text deck
-goes_on text deck is between = grind (arith, dump_is_deck)
+pub goes_on : (text order : List ℕ) (deck : LoadedDeck) → text ≡ dump order deck → first_busy deck.machine ≡ None → GoesOnFrom text deck
+goes_on text order deck is between = grind (arith, dump_is_deck)
 
 -- the same of each run of each deck that a text means
-pub dump_law_of : (profile : Profile) (text : List ℕ) (deck : LoadedDeck) (steps : List ℕ) → deck_meaning profile text ≡ Ok deck → first_busy (run steps deck.machine) ≡ None
-    → length (dump (after steps deck)) ≤ 1048576 → deck_meaning profile (dump (after steps deck)) ≡ Ok (deck_to_go_on (after steps deck))
-dump_law_of profile text deck steps meant between short =
+pub dump_law_of : (profile : Profile) (text : List ℕ) (deck : LoadedDeck) (steps order : List ℕ) → deck_meaning profile text ≡ Ok deck → first_busy (run steps deck.machine) ≡ None
+    → length (dump order (after steps deck)) ≤ 1048576 → deck_meaning profile (dump order (after steps deck)) ≡ Ok (deck_to_go_on (after steps deck))
+dump_law_of profile text deck steps order meant between short =
     let ran = after steps deck in
     let same : ran.machine.profile ≡ profile = (deck_after profile text deck steps meant).its_profile in
     let P : Profile → Type 0 = λ p. deck_meaning p text ≡ Ok deck in
-    let Q : Profile → Type 0 = λ p. deck_meaning p (dump ran) ≡ Ok (deck_to_go_on ran) in
-    subst Q same (dump_is_deck ran deck text steps (subst P (sym same) meant) refl between short)
+    let Q : Profile → Type 0 = λ p. deck_meaning p (dump order ran) ≡ Ok (deck_to_go_on ran) in
+    subst Q same (dump_is_deck order ran deck text steps (subst P (sym same) meant) refl between short)
 
 -- ---- the lines, printed from the machine as it stands
 
@@ -149,13 +161,13 @@ flat_same f g (n ∷ ns) same = ap (λ (lines : List ListedLine). lines ++ flat_
 no_dead_start : (deck : LoadedDeck) → dead_start_line (deck_to_go_on deck).machine ≡ []
 no_dead_start deck = ap (λ (b : Bool). cond b (bare dead_start ∷ []) []) (none_open deck)
 
-pub dump_in_parts : (deck : LoadedDeck) → dump deck
-    ≡ deck_line (central_size (length deck.machine.central)) ++ flat_map text_line (flat_map (central_word_line deck.machine.central) (range_with_len 0 (length deck.machine.central)))
-    ++ flat_map text_line (flat_map (named_section (in_use deck) deck.machine) all_processors)
-dump_in_parts deck =
+pub dump_in_parts : (order : List ℕ) (deck : LoadedDeck) → dump order deck
+    ≡ order_comment order ++ (deck_line (central_size (length deck.machine.central)) ++ flat_map text_line (flat_map (central_word_line deck.machine.central) (range_with_len 0 (length deck.machine.central)))
+    ++ flat_map text_line (flat_map (named_section (in_use deck) deck.machine) all_processors))
+dump_in_parts order deck =
     let to_go_on = deck_to_go_on deck in
     let front : List ℕ = deck_line (central_size (length deck.machine.central)) ++ flat_map text_line (flat_map (central_word_line deck.machine.central) (range_with_len 0 (length deck.machine.central))) in
-    dump_is deck ∙ listing_in_parts to_go_on
+    dump_is order deck ∙ ap (λ (text : List ℕ). order_comment order ++ text) (listing_in_parts to_go_on
     ∙ ap (λ (lines : List ListedLine). (front ++ flat_map text_line lines) ++ flat_map text_line (flat_map (named_section to_go_on.named to_go_on.machine) all_processors)) (no_dead_start deck)
     ∙ ap (λ (text : List ℕ). text ++ flat_map text_line (flat_map (named_section to_go_on.named to_go_on.machine) all_processors)) (append-nil front)
-    ∙ ap (λ (lines : List ListedLine). front ++ flat_map text_line lines) (sym (flat_same (named_section to_go_on.named deck.machine) (named_section to_go_on.named to_go_on.machine) all_processors (section_left deck)))
+    ∙ ap (λ (lines : List ListedLine). front ++ flat_map text_line lines) (sym (flat_same (named_section to_go_on.named deck.machine) (named_section to_go_on.named to_go_on.machine) all_processors (section_left deck))))

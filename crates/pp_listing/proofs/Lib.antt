@@ -4,7 +4,9 @@ mod InstructionLemmas
 mod ListedLemmas
 mod ListedLineLemmas
 mod ListingLemmas
+mod OrderCommentLemmas
 mod PrintedTextLemmas
+pub mod RestOfOrderLemmas
 mod RunDeckLemmas
 mod StepLemmas
 mod TextLemmas

@@ -29,7 +29,7 @@ mnemonic_plain : (op : Opcode) → IsPlain ((row_of op).mnemonic)
 mnemonic_plain PSN = refl
 mnemonic_plain op = refl
 
-plain_if : (b : Bool) (xs ys : List ℕ) → IsPlain xs → IsPlain ys → IsPlain (cond b xs ys)
+pub plain_if : (b : Bool) (xs ys : List ℕ) → IsPlain xs → IsPlain ys → IsPlain (cond b xs ys)
 plain_if true xs ys h k = h
 plain_if false xs ys h k = k
 

@@ -1,7 +1,7 @@
 -- The listing of a deck, read as a deck.
 use Rattle.std.proofs.Common.{◌≡◌, ℕ, zero, suc, ◌+◌, ◌^◌, ◌<◌, ◌≤◌, Bool, true, false, cond, eqb, List, [], ◌∷◌, ◌++◌, length, get_or, map, Option, Some, None, Ok, refl, sym, ap, subst, ◌∙◌, arith}
 use Rattle.std.specs.Prelude.{IsTrue, ◌&&◌, not, is_some, filter_map}
-use Rattle.std.specs.List.{AllByRecursion, flat_map, list_any, range_with_len}
+use Rattle.std.specs.List.{AllByRecursion, flat_map, list_all, list_any, range_with_len}
 use Rattle.std.proofs.lemmas.Bool.{and_left, and_parts, both_ways, false_from_ne_true}
 use Rattle.std.proofs.lemmas.List.{map-append}
 use Rattle.std.proofs.lemmas.List.Elements.{All-cons, All-nil}
@@ -29,6 +29,7 @@ use Rattle.pp_deck.proofs.DeadStartLemmas as dead
 use Rattle.pp_deck.proofs.LawLemmas as law
 use Rattle.pp_deck.proofs.DeckLawLemmas.{loaded_is}
 use Rattle.pp_deck.proofs.LoadedRangeLemmas.{processor_in_range, central_in_range, named_has, said_in_range}
+use Rattle.pp_deck.proofs.FieldTextLemmas.{is_plain}
 use Rattle.pp_deck.proofs.RangeLemmas.{InRange, size_in_range}
 use Rattle.pp_deck.proofs.SectionLinesLemmas.{KeepsCurrent, section_if, unnamed_empty}
 use Rattle.pp_listing.specs.ListedLine.{ListedLine, bare, says, text_line}
@@ -36,7 +37,7 @@ use Rattle.pp_listing.specs.Listing.{ReadsBackAs, central_word_line, dead_start_
 use Rattle.pp_listing.proofs.InstructionLemmas.{IsReadInSection, instructions_read, start_all}
 use Rattle.pp_listing.proofs.ListedLemmas.{all_of_body, each_of_body, body_of, word_line, central_lines, dead_line, lines_of_parts, asked_held, central_held, central_is, memory_held, memory_is, memory_with, named_held, processor_is, start_held, number_count, processor_counts, sections_by_number}
 use Rattle.pp_listing.proofs.ListedLineLemmas.{fields_said}
-use Rattle.pp_listing.proofs.PrintedTextLemmas.{central_words_read, section_read, dead_start_read, start_read, IsReady, meaning_printed, read_lines}
+use Rattle.pp_listing.proofs.PrintedTextLemmas.{central_words_read, section_read, dead_start_read, start_read, IsReady, meaning_behind, meaning_printed, read_behind, read_lines}
 
 -- ---- the lines are read as they are
 
@@ -221,10 +222,19 @@ module _ (profile : Profile) (deck set : LoadedDeck) (h : IsSet profile deck set
   unfolding parts
   reads_again = grind (arith, read_lines, central_lines, dead_line, section_if, body_of, number_count, parts_ready)
 
+  reads_behind : meaning_of_lines profile ([] ∷ (map fields_said parts ++ [] ∷ [])) ≡ Ok (loaded profile (length deck.machine.central) parts)
+  unfolding parts
+  reads_behind = grind (arith, read_behind, central_lines, dead_line, section_if, body_of, number_count, parts_ready)
+
   -- the listing of the deck is a deck
   pub listing_loads : length (listing deck) ≤ 1048576 → deck_meaning profile (listing deck) ≡ Ok (with_dead_start (dead_of deck) set)
   unfolding parts
   listing_loads short = grind (arith, listing_is, meaning_printed, fields_said, said, reads_again, loads_again)
+
+  -- and behind a comment
+  pub comment_loads : (text : List ℕ) → list_all is_plain (42 ∷ text) ≡ true → length (42 ∷ text ++ 10 ∷ listing deck) ≤ 1048576 → deck_meaning profile (42 ∷ text ++ 10 ∷ listing deck) ≡ Ok (with_dead_start (dead_of deck) set)
+  unfolding parts
+  comment_loads text plain short = grind (arith, listing_is, meaning_behind, fields_said, said, reads_behind, loads_again)
 
 -- ---- each deck that a text means
 

@@ -18,7 +18,7 @@ use Rattle.pp_deck.proofs.FieldLemmas.{next_line}
 use Rattle.pp_deck.proofs.ProgressLemmas.{after_lines_is}
 use Rattle.pp_deck.proofs.ReadingLemmas.{ReadTo, read_none, read_more, read_blank, read_all}
 use Rattle.pp_listing.specs.ListedLine.{ListedLine, says, listed_text, text_line}
-use Rattle.pp_deck.proofs.FieldTextLemmas.{is_plain, plain_least, plain_most, no_fields, fields_of_plain, octal_field, short_field}
+use Rattle.pp_deck.proofs.FieldTextLemmas.{is_plain, plain_least, plain_most, no_fields, fields_comment, fields_of_plain, octal_field, short_field}
 use Rattle.pp_listing.proofs.ListedLineLemmas.{fields_said, line_fields, line_plain}
 use Rattle.std.proofs.lemmas.List.Elements.{All-head, All-tail}
 use Rattle.pp_word.specs.Address.{place_count}
@@ -52,6 +52,10 @@ central_size_read profile size n s least most = central_line_read n least most
 pub size_read : (n : ℕ) (lines : List (List (List ℕ))) → 1 ≤ n → n ≤ 0o400000 → size_of (fields_said (central_size n) ∷ lines) ≡ n
 unfolding size_of keyword_of
 size_read n lines least most = ap stated_size (central_line_read n least most)
+
+size_behind : (lines : List (List (List ℕ))) → size_of ([] ∷ lines) ≡ size_of lines
+unfolding size_of
+size_behind lines = refl
 
 pub central_words_read : (profile : Profile) (size a : ℕ) (ws : List ℕ) (b s : Bool) → a < 8 ^ 6 → All (λ w. w < 8 ^ 20) ws → a + length ws ≤ size → line_after profile size b s (fields_said (central_words a ws)) ≡ Ok (central_words a ws)
 unfolding line_after keyword_of central_words_line
@@ -89,14 +93,21 @@ words_line_read profile size x ws b below small le = digit_first profile size b 
 
 -- ---- the lines of the text
 
+plain_line : (text : List ℕ) → list_all is_plain text ≡ true → All (λ c. is_line_feed c ≡ false) text
+plain_line text plain = λ k d lt.
+    let least = plain_least (get_or text k d) (AllPass-from_list_all is_plain text plain k d lt) in
+    ne_eqb (get_or text k d) 10 (λ e. absurd (omega (arith, least, e)))
+
 no_line_feed : (line : ListedLine) → All (λ c. is_line_feed c ≡ false) (listed_text line)
-no_line_feed line = λ k d lt.
-    let least = plain_least (get_or (listed_text line) k d) (AllPass-from_list_all is_plain (listed_text line) (line_plain line) k d lt) in
-    ne_eqb (get_or (listed_text line) k d) 10 (λ e. absurd (omega (arith, least, e)))
+no_line_feed line = plain_line (listed_text line) (line_plain line)
 
 line_first : (line : ListedLine) (rest : List ℕ) → lines_of (text_line line ++ rest) ≡ fields_said (says line) ∷ lines_of rest
 unfolding lines_of
 line_first line rest = grind (arith, append_assoc, slice_split_at, no_line_feed, fields_of_plain, line_plain, line_fields)
+
+comment_first : (text rest : List ℕ) → list_all is_plain (42 ∷ text) ≡ true → lines_of (42 ∷ text ++ 10 ∷ rest) ≡ [] ∷ lines_of rest
+unfolding lines_of
+comment_first text rest plain = grind (arith, slice_split_at, plain_line, fields_of_plain, fields_comment)
 
 no_text : lines_of [] ≡ [] ∷ []
 unfolding lines_of
@@ -136,9 +147,20 @@ none_foreign text h (Some i) e =
     let least = leb-true 128 (get_or text i 0) there.1 in
     absurd (omega (arith, most, least))
 
-pub meaning_printed : (profile : Profile) (lines : List ListedLine) → length (flat_map text_line lines) ≤ 1048576 → deck_meaning profile (flat_map text_line lines) ≡ meaning_of_lines profile (map fields_said (map says lines) ++ [] ∷ [])
+meaning_of_text : (profile : Profile) (text : List ℕ) (lines : List (List (List ℕ))) → list_all is_ascii text ≡ true → lines_of text ≡ lines → length text ≤ 1048576 → deck_meaning profile text ≡ meaning_of_lines profile lines
 unfolding deck_meaning
-meaning_printed profile lines le = grind (arith, cond-false, le-ltb, none_foreign, text_ascii, lines_printed)
+meaning_of_text profile text lines ascii are le = grind (arith, cond-false, le-ltb, none_foreign)
+
+pub meaning_printed : (profile : Profile) (lines : List ListedLine) → length (flat_map text_line lines) ≤ 1048576 → deck_meaning profile (flat_map text_line lines) ≡ meaning_of_lines profile (map fields_said (map says lines) ++ [] ∷ [])
+meaning_printed profile lines le = meaning_of_text profile (flat_map text_line lines) _ (text_ascii lines) (lines_printed lines) le
+
+-- behind a comment
+comment_ascii : (text : List ℕ) (lines : List ListedLine) → list_all is_plain (42 ∷ text) ≡ true → list_all is_ascii (42 ∷ text ++ 10 ∷ flat_map text_line lines) ≡ true
+unfolding is_ascii
+comment_ascii text lines plain = ascii_append (42 ∷ text) (10 ∷ flat_map text_line lines) (plain_ascii (42 ∷ text) plain) (ascii_append (10 ∷ []) (flat_map text_line lines) refl (text_ascii lines))
+
+pub meaning_behind : (profile : Profile) (text : List ℕ) (lines : List ListedLine) → list_all is_plain (42 ∷ text) ≡ true → length (42 ∷ text ++ 10 ∷ flat_map text_line lines) ≤ 1048576 → deck_meaning profile (42 ∷ text ++ 10 ∷ flat_map text_line lines) ≡ meaning_of_lines profile ([] ∷ (map fields_said (map says lines) ++ [] ∷ []))
+meaning_behind profile text lines plain le = meaning_of_text profile (42 ∷ text ++ 10 ∷ flat_map text_line lines) _ (comment_ascii text lines plain) (comment_first text (flat_map text_line lines) plain ∙ ap (λ (more : List (List (List ℕ))). [] ∷ more) (lines_printed lines)) le
 
 -- ---- reading the lines
 
@@ -169,15 +191,28 @@ module _ (profile : Profile) where
       let Q : Option ℕ → Type 0 = λ c. IsReady size c lines in
       read_rest size all lines (k + 1) (after_line progress line) _ is more next.behind (subst Q (sym (ap (λ (p : Progress). p.current) (after_line_parts progress line))) ready.1)
 
-  -- lines behind a first line that says the size of central memory
-  pub read_lines : (n : ℕ) (lines : List Line) → 1 ≤ n → n ≤ 0o400000 → IsReady n None lines → meaning_of_lines profile (map fields_said (central_size n ∷ lines) ++ [] ∷ []) ≡ Ok (loaded profile n (central_size n ∷ lines))
+  -- a line that says the size of central memory, behind lines without fields, and then others
+  read_from : (n k : ℕ) (lines : List Line) (all : List (List (List ℕ))) → size_of all ≡ n → ReadTo profile all k (before_lines profile (size_of all)) false → fields_said (central_size n) ∷ (map fields_said lines ++ [] ∷ []) ≡ drop k all
+      → 1 ≤ n → n ≤ 0o400000 → IsReady n None lines → meaning_of_lines profile all ≡ Ok (loaded profile n (central_size n ∷ lines))
   unfolding after_lines before_lines after_line progress_of
-  read_lines n lines least most ready =
-      let all = fields_said (central_size n) ∷ (map fields_said lines ++ [] ∷ []) in
-      let is : size_of all ≡ n = size_read n (map fields_said lines ++ [] ∷ []) least most in
-      let start = read_none profile all (before_lines profile (size_of all)) refl in
-      let reads : line_after profile (size_of all) false false (fields_said (central_size n)) ≡ Ok (central_size n) = central_size_read profile (size_of all) n false least most in
-      let first = read_more profile all 0 (before_lines profile (size_of all)) false (central_size n) start (omega arith) reads in
-      read_rest n all lines 1 (after_line (before_lines profile (size_of all)) (central_size n)) _ is first refl ready
+  read_from n k lines all is begun left least most ready =
+      let next = next_line all (fields_said (central_size n) ∷ (map fields_said lines ++ [] ∷ [])) (map fields_said lines ++ [] ∷ []) k (fields_said (central_size n)) left refl in
+      let reads : line_after profile (size_of all) false false (get_or all k []) ≡ Ok (central_size n) = ap (line_after profile (size_of all) false false) next.here ∙ central_size_read profile (size_of all) n false least most in
+      let first = read_more profile all k (before_lines profile (size_of all)) false (central_size n) begun next.within reads in
+      read_rest n all lines (k + 1) (after_line (before_lines profile (size_of all)) (central_size n)) _ is first next.behind ready
       ∙ ap (λ (size : ℕ). Ok (deck_after (fold after_line (before_lines profile size) (central_size n ∷ lines)))) is
       ∙ ap (λ (p : Progress). Ok (deck_after p)) (after_lines_is profile n (central_size n ∷ lines))
+
+  -- as the first line of all
+  pub read_lines : (n : ℕ) (lines : List Line) → 1 ≤ n → n ≤ 0o400000 → IsReady n None lines → meaning_of_lines profile (map fields_said (central_size n ∷ lines) ++ [] ∷ []) ≡ Ok (loaded profile n (central_size n ∷ lines))
+  read_lines n lines least most ready =
+      let all = fields_said (central_size n) ∷ (map fields_said lines ++ [] ∷ []) in
+      read_from n 0 lines all (size_read n (map fields_said lines ++ [] ∷ []) least most) (read_none profile all (before_lines profile (size_of all)) refl) refl least most ready
+
+  -- and as the second, behind one without fields
+  pub read_behind : (n : ℕ) (lines : List Line) → 1 ≤ n → n ≤ 0o400000 → IsReady n None lines → meaning_of_lines profile ([] ∷ (map fields_said (central_size n ∷ lines) ++ [] ∷ [])) ≡ Ok (loaded profile n (central_size n ∷ lines))
+  read_behind n lines least most ready =
+      let rest = fields_said (central_size n) ∷ (map fields_said lines ++ [] ∷ []) in
+      let all = [] ∷ rest in
+      let none = read_none profile all (before_lines profile (size_of all)) refl in
+      read_from n 1 lines all (size_behind rest ∙ size_read n (map fields_said lines ++ [] ∷ []) least most) (read_blank profile all 0 (before_lines profile (size_of all)) false none (omega arith) refl) refl least most ready

@@ -1,5 +1,5 @@
 -- The dump of a deck that has run: the listing of a deck to go on from.
-use Rattle.std.specs.Prelude.{◌≡◌, ◌≤◌, Result, Ok, Err, ℕ, List, ◌++◌, length, map, Option, Some, None, slice_get, filter_map, if◌then◌else◌}
+use Rattle.std.specs.Prelude.{◌≡◌, ◌≤◌, Result, Ok, Err, ℕ, List, [], ◌∷◌, ◌++◌, codes, length, map, Option, Some, None, slice_get, filter_map, if◌then◌else◌}
 use Rattle.std.specs.Io.KnownBytes.{Appends, Keeps}
 use Rattle.pp_numbers.specs.ChannelNo.{all_channels}
 use Rattle.pp_channel.specs.History.{active}
@@ -11,6 +11,8 @@ use Rattle.pp_machine.specs.declared.{block.Block.Block, pp_state.PpState.PpStat
 use Rattle.pp_machine.specs.declared.pp_state.PpState.TheVariants.{Running, Fault}
 use Rattle.pp_deck.specs.DeckMeaning.{LoadedDeck, deck_meaning}
 use Rattle.pp_deck.specs.InUse.{in_use}
+use Rattle.pp_text.specs.OrderText.{order_text}
+use Rattle.pp_text.specs.PrintedText.{line_end}
 use Rattle.pp_text.specs.Written.{AppendsFront}
 use Rattle.pp_listing.specs.Listing.{listing}
 use Rattle.pp_listing.specs.declared.{dumped_deck.DumpFault.DumpFault, going_on.Busy.Busy}
@@ -59,17 +61,23 @@ deck_to_go_on deck = let m = deck.machine in record {
   named = in_use deck;
 }
 
--- THE DUMP, if the machine is between programs
-unfoldable pub dump : LoadedDeck → List ℕ
-dump deck = listing (deck_to_go_on deck)
+-- `* GO ON WITH --order 1,2,3`: a comment that names an order to go on with, if it has steps
+abbrev pub order_comment : List ℕ → List ℕ
+order_comment [] = []
+order_comment (n ∷ ns) = codes "* GO ON WITH --order " ++ order_text (n ∷ ns) ++ line_end
+
+-- THE DUMP, if the machine is between programs: the listing, behind an order to go on with
+unfoldable pub dump : List ℕ → LoadedDeck → List ℕ
+dump order deck = order_comment order ++ listing (deck_to_go_on deck)
 
 -- writing it: all or a first part is written, or nothing if the machine is not between programs
-abbrev pub IsDumped : LoadedDeck → Result (Unit {0}) DumpFault
+abbrev pub IsDumped : List ℕ → LoadedDeck → Result (Unit {0}) DumpFault
     → Option (List ℕ) → Option (List ℕ) → Type 0
-IsDumped deck (Ok done) old new = (first_busy deck.machine ≡ None) × Appends old new (dump deck)
-IsDumped deck (Err Write) old new =
-    (first_busy deck.machine ≡ None) × AppendsFront old new (dump deck)
-IsDumped deck (Err (NotBetweenPrograms going_on)) old new =
+IsDumped order deck (Ok done) old new =
+    (first_busy deck.machine ≡ None) × Appends old new (dump order deck)
+IsDumped order deck (Err Write) old new =
+    (first_busy deck.machine ≡ None) × AppendsFront old new (dump order deck)
+IsDumped order deck (Err (NotBetweenPrograms going_on)) old new =
     (first_busy deck.machine ≡ Some going_on) × Keeps old new
 
 -- a deck after some steps

@@ -1,3 +1,4 @@
 pub mod ListedLine
 pub mod Listing
 pub mod Dump
+pub mod RestOfOrder

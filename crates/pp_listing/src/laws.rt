@@ -17,12 +17,13 @@ pub fn listing_law()
 {}
 
 /// The dump of a loaded deck that any steps have left between programs, read as a deck for a
-/// machine of the same profile, is the deck to go on from.
+/// machine of the same profile, is the deck to go on from, whatever order it names to go on with.
 #[tactic(auto, using(crate::proofs::DumpLawLemmas::dump_law_of))]
 pub fn dump_law()
-    ensures { (profile : Profile) (text : List ℕ) (deck : LoadedDeck) (steps : List ℕ)
+    ensures { (profile : Profile) (text : List ℕ) (deck : LoadedDeck) (steps order : List ℕ)
         → deck_meaning profile text ≡ Ok deck
         → first_busy (run steps deck.machine) ≡ None
-        → length (dump (after steps deck)) ≤ 1048576
-        → deck_meaning profile (dump (after steps deck)) ≡ Ok (deck_to_go_on (after steps deck)) }
+        → length (dump order (after steps deck)) ≤ 1048576
+        → deck_meaning profile (dump order (after steps deck))
+        ≡ Ok (deck_to_go_on (after steps deck)) }
 {}

@@ -8,6 +8,7 @@ mod going_on;
 mod instruction_lines;
 mod laws;
 mod listed_deck;
+mod rest_of_order;
 mod sections;
 
 pub use deck_lines::{print_central_line, print_section_line};
@@ -15,3 +16,4 @@ pub use dumped_deck::{DumpFault, write_dump};
 pub use going_on::Busy;
 pub use laws::{dump_law, listing_law};
 pub use listed_deck::write_listing;
+pub use rest_of_order::order_left;

@@ -13,3 +13,4 @@ pub mod MemoryLemmas
 pub mod StepLemmas
 pub mod MachineStepLemmas
 pub mod RunLemmas
+pub mod OrderLemmas

@@ -36,6 +36,11 @@ pub run_more : (ns : List ℕ) (i : ℕ) (m : MachineState) → i < length ns
 run_more ns i m h =
     ap (λ ks. run ks m) (take_more ns i 0 h) ∙ run-append (take i ns) (get_or ns i 0) m
 
+-- over two lists
+pub run-both : (ns ks : List ℕ) (m : MachineState) → run (ns ++ ks) m ≡ run ks (run ns m)
+run-both [] ks m = refl
+run-both (n ∷ ns) ks m = run-both ns ks (stepped n m)
+
 -- over one more turn of the barrel
 pub barrel_more : (p : Profile) (n : ℕ) (m : MachineState)
     → run (barrel p (n + 1)) m ≡ stepped (processor_in_turn p n) (run (barrel p n) m)

@@ -39,8 +39,9 @@ impl<A: Allocator> Machine<A> {
     /// Runs `turns` turns of the barrel from its first processor on, in rounds of ten or of twenty
     /// by its profile. Processors at rest are passed over.
     pub fn run_barrel(&mut self, turns: u32) -> Result<(), Cut>
-        ensures run { IsRunOf turns result self.old self.new }
-        ensures cut_at_event { IfErr result (λ c. IsCutAtEvent turns self.old c.done) }
+        ensures run { IsRunOf (barrel self.old.profile turns) result self.old self.new }
+        ensures cut_at_event { IfErr result (λ c.
+            IsCutAtEvent (barrel self.old.profile turns) self.old c.done) }
     {
         self.is_sound();
         let round = self.round();

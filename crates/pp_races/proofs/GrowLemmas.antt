@@ -1,15 +1,14 @@
 -- What is found of a run only grows, and what is found of a step does not depend on it.
-use Rattle.std.proofs.Common.{◌≡◌, ℕ, zero, suc, ◌+◌, ◌-◌, ◌≤◌, Bool, true, false, List, [], ◌∷◌, ◌++◌, length, Option, Some, None, refl, sym, ap, ◌∙◌, subst, append-nil, append_assoc, arith}
-use Rattle.std.specs.Prelude.{if◌then◌else◌}
+use Rattle.std.proofs.Common.{◌≡◌, ℕ, zero, suc, ◌+◌, ◌-◌, ◌≤◌, Bool, true, false, List, [], ◌∷◌, ◌++◌, length, take, Option, Some, None, refl, sym, ap, ◌∙◌, subst, append-nil, append_assoc, arith}
+use Rattle.std.proofs.lemmas.List.{take-append-drop}
+use Rattle.std.specs.Prelude.{drop, if◌then◌else◌}
 use Rattle.pp_channel.specs.Answer.{event_of, flags_of}
 use Rattle.pp_channel.specs.declared.{chan_op.ChanOp.ChanOp, event.Event.Event}
 use Rattle.pp_machine.specs.MachineState.{MachineState, processor_of, history_of}
 use Rattle.pp_machine.specs.MachineStep.{stepped}
 use Rattle.pp_machine.specs.NeedAndEffect.{need}
-use Rattle.pp_numbers.specs.Profile.{processor_in_turn}
-use Rattle.pp_machine.specs.Run.{run, barrel}
+use Rattle.pp_machine.specs.Run.{run}
 use Rattle.pp_machine.specs.declared.need.Need.{Need}
-use Rattle.pp_numbers.specs.declared.profile.Profile.{Profile}
 use Rattle.pp_races.specs.Findings.{end_of, findings, findings_at_end, sharing_of}
 use Rattle.pp_races.specs.OtherFlags.{waits_at}
 use Rattle.pp_races.specs.Tables.{AreLow, AreLooks, AreUses, AreWatched}
@@ -73,30 +72,26 @@ BeginsWith all first = (others : List Finding) × (all ≡ first ++ others)
 begins_on : (all middle first : List Finding) → BeginsWith all middle → BeginsWith middle first → BeginsWith all first
 begins_on all middle first (others, is) (more, also) = (more ++ others, is ∙ ap (λ x. x ++ others) also ∙ append_assoc first more others)
 
-grows_by : (p : Profile) (m : MachineState) (t k : ℕ) → BeginsWith (watched (barrel p (t + k)) m unwatched).findings (watched (barrel p t) m unwatched).findings
-grows_by p m t zero =
-    let same : t + zero ≡ t = omega arith in
-    ([], ap (λ k. (watched (barrel p k) m unwatched).findings) same ∙ sym (append-nil (watched (barrel p t) m unwatched).findings))
-grows_by p m t (suc k) =
-    let next : t + suc k ≡ suc (t + k) = omega arith in
-    let n = processor_in_turn p (t + k) in
-    let now = run (barrel p (t + k)) m in
-    let w = watched (barrel p (t + k)) m unwatched in
-    let more = behind (need (processor_of n now)) n now w in
-    begins_on _ w.findings _
-    (_, ap (λ i. (watched (barrel p i) m unwatched).findings) next ∙ ap (λ (x : Watch). x.findings) (watched_push (barrel p (t + k)) n m unwatched) ∙ more.findings)
-    (grows_by p m t k)
+-- with more steps than these
+grows_by : (ns more : List ℕ) (m : MachineState) → BeginsWith (watched (ns ++ more) m unwatched).findings (watched ns m unwatched).findings
+grows_by ns [] m = ([], ap (λ ks. (watched ks m unwatched).findings) (append-nil ns) ∙ sym (append-nil (watched ns m unwatched).findings))
+grows_by ns (n ∷ more) m =
+    let now = run ns m in
+    let w = watched ns m unwatched in
+    let next = behind (need (processor_of n now)) n now w in
+    begins_on _ (watched (ns ++ n ∷ []) m unwatched).findings _
+    (subst (λ ks. BeginsWith (watched ks m unwatched).findings (watched (ns ++ n ∷ []) m unwatched).findings) (append_assoc ns (n ∷ []) more) (grows_by (ns ++ n ∷ []) more m))
+    (_, ap (λ (x : Watch). x.findings) (watched_push ns n m unwatched) ∙ next.findings)
 
 pub findings_are : (ns : List ℕ) (m : MachineState) → findings ns m ≡ findings_at_end (run ns m) (watched ns m unwatched)
 unfolding findings
 findings_are ns m = refl
 
--- all findings begin with those of the first turns
-pub begins_so_far : (p : Profile) (turns t : ℕ) (m : MachineState) → t ≤ turns → BeginsWith (findings (barrel p turns) m) (watched (barrel p t) m unwatched).findings
-begins_so_far p turns t m h =
-    let end : t + (turns - t) ≡ turns = omega arith in
-    let w = watched (barrel p turns) m unwatched in
-    let now = run (barrel p turns) m in
+-- all findings begin with those of the first steps
+pub begins_so_far : (ns : List ℕ) (t : ℕ) (m : MachineState) → BeginsWith (findings ns m) (watched (take t ns) m unwatched).findings
+begins_so_far ns t m =
+    let w = watched ns m unwatched in
+    let now = run ns m in
     begins_on _ w.findings _
-    (each_number (end_of now w) ++ each_below (length now.central) (sharing_of w), findings_are (barrel p turns) m ∙ append_assoc w.findings (each_number (end_of now w)) (each_below (length now.central) (sharing_of w)))
-    (subst (λ k. BeginsWith (watched (barrel p k) m unwatched).findings (watched (barrel p t) m unwatched).findings) end (grows_by p m t (turns - t)))
+    (each_number (end_of now w) ++ each_below (length now.central) (sharing_of w), findings_are ns m ∙ append_assoc w.findings (each_number (end_of now w)) (each_below (length now.central) (sharing_of w)))
+    (subst (λ ks. BeginsWith (watched ks m unwatched).findings (watched (take t ns) m unwatched).findings) (take-append-drop t ns) (grows_by (take t ns) (drop t ns) m))

@@ -1,5 +1,6 @@
 -- A run that is watched to its end.
 use Rattle.std.proofs.Common.{◌≡◌, ℕ, zero, suc, ◌+◌, ◌<◌, Bool, true, false, IsTrue, List, [], ◌++◌, length, take, get_or, Option, Some, None, refl, sym, ap, ◌∙◌, subst, inl, inr, arith}
+use Rattle.std.proofs.lemmas.List.{take_all, take_more}
 use Rattle.std.specs.Prelude.{◌==◌, ◌&&◌, if◌then◌else◌}
 use Rattle.std.proofs.lemmas.Bool.{and_from, cases_lt, eq-eqb, or_left, or_right}
 use Rattle.pp_channel.specs.Answer.{event_of, flags_of}
@@ -9,12 +10,9 @@ use Rattle.pp_machine.specs.MachineState.{MachineState, processor_of, history_of
 use Rattle.pp_machine.specs.MachineStep.{stepped}
 use Rattle.pp_machine.specs.NeedAndEffect.{need}
 use Rattle.pp_numbers.specs.PpNo.{names_processor, processor_count}
-use Rattle.pp_numbers.specs.Profile.{processor_in_turn}
-use Rattle.pp_machine.specs.Run.{run, barrel}
-use Rattle.pp_machine.proofs.RunLemmas.{length-barrel, run-append}
+use Rattle.pp_machine.specs.Run.{run}
+use Rattle.pp_machine.proofs.RunLemmas.{run_more}
 use Rattle.pp_machine.specs.declared.need.Need.{Need}
-use Rattle.pp_numbers.specs.declared.profile.Profile.{Profile}
-use Rattle.pp_run.proofs.RunStepLemmas.{take_barrel, turn_of_barrel}
 use Rattle.pp_run.specs.Determinacy.{IsDeterminate, UsesAt, WritesAt, at_moment, need_at}
 use Rattle.pp_run.proofs.Moments.{moment_next, moment_each, mono, run_processors}
 use Rattle.pp_races.specs.Findings.{end_of, findings, findings_at_end, sharing_of}
@@ -95,21 +93,21 @@ module _ (ns : List ℕ) (m : MachineState) (each : length m.histories ≡ chann
         ];
       }
 
--- what is kept of a run after t of its turns, whose findings have been taken away
-pub record IsWatchedRun {A : Type 0} (p : Profile) (turns t : ℕ) (m now : MachineState) (tables : WatchTables A) : Type 0 where
-  pub ran : now ≡ run (barrel p t) m
-  pub kept : AreTables tables now (forgotten (watched (barrel p t) m unwatched))
-  pub sound : (watched (barrel p t) m unwatched).findings ≡ [] → IsSound (barrel p turns) m t (watched (barrel p t) m unwatched)
+-- what is kept of a run after t of its steps, whose findings have been taken away
+pub record IsWatchedRun {A : Type 0} (ns : List ℕ) (t : ℕ) (m now : MachineState) (tables : WatchTables A) : Type 0 where
+  pub ran : now ≡ run (take t ns) m
+  pub kept : AreTables tables now (forgotten (watched (take t ns) m unwatched))
+  pub sound : (watched (take t ns) m unwatched).findings ≡ [] → IsSound ns m t (watched (take t ns) m unwatched)
 
 -- ---- the loop
 
-pub run_begins : {A : Type 0} (p : Profile) (turns : ℕ) (m : MachineState) (tables : WatchTables A) → length m.histories ≡ channel_count → AreTables tables m unwatched → IsWatchedRun p turns 0 m m tables
-run_begins p turns m tables each are = record {
+pub run_begins : {A : Type 0} (ns : List ℕ) (m : MachineState) (tables : WatchTables A) → length m.histories ≡ channel_count → AreTables tables m unwatched → IsWatchedRun ns 0 m m tables
+run_begins ns m tables each are = record {
   ran = refl;
   kept = are;
   sound = λ none. (record {
     watched = record {
-      lower = λ q c s may. omega (arith, mono (barrel p turns) m each c zero s (omega arith));
+      lower = λ q c s may. omega (arith, mono ns m each c zero s (omega arith));
       stands_open = λ q c. open_where (names_processor q) _ (λ named. refl);
       passed = λ u h. absurd (omega arith);
     };
@@ -132,75 +130,74 @@ sound_on ns m now n asked t w each within named n_is now_is asked_is well found 
     (subst (λ (x : Need). AsksLawfulChannel x (at_moment ns m t)) (sym need_is) (subst (λ (x : MachineState). AsksLawfulChannel asked x) (sym now_is) well))
     (ap (λ (x : Watch). x.findings) same ∙ found))
 
--- after one turn more: the tables, whose findings are taken away
-pub run_goes_on : {A : Type 0} (p : Profile) (turns t : ℕ) (m now next : MachineState) (n : ℕ) (tables taken new : WatchTables A) → length m.histories ≡ channel_count
-    → t < turns → n ≡ processor_in_turn p t → IsTrue (names_processor n) → next ≡ stepped n now → AsksLawfulChannel (need (processor_of n now)) now
+-- after one step more: the tables, whose findings are taken away
+pub run_goes_on : {A : Type 0} (ns : List ℕ) (t : ℕ) (m now next : MachineState) (n : ℕ) (tables taken new : WatchTables A) → length m.histories ≡ channel_count
+    → t < length ns → n ≡ get_or ns t 0 → IsTrue (names_processor n) → next ≡ stepped n now → AsksLawfulChannel (need (processor_of n now)) now
     → ((w : Watch) → AreTables tables now w → AreTables taken (stepped n now) (watched_need (need (processor_of n now)) n now w))
     → new ≡ record taken { found = new.found } → new.found.items ≡ []
-    → IsWatchedRun p turns t m now tables → IsWatchedRun p turns (t + 1) m next new × ((watched (barrel p (t + 1)) m unwatched).findings ≡ (watched (barrel p t) m unwatched).findings ++ taken.found.items)
-run_goes_on {A = A} p turns t m now next n tables taken new each before n_is named next_is well takes new_is taken_away r =
+    → IsWatchedRun ns t m now tables → IsWatchedRun ns (t + 1) m next new × ((watched (take (t + 1) ns) m unwatched).findings ≡ (watched (take t ns) m unwatched).findings ++ taken.found.items)
+run_goes_on {A = A} ns t m now next n tables taken new each before n_is named next_is well takes new_is taken_away r =
     let one : t + 1 ≡ suc t = omega arith in
-    let size : length (barrel p turns) ≡ turns = length-barrel p turns in
-    let watch_is : watched (barrel p (t + 1)) m unwatched ≡ watched_need (need (processor_of n now)) n now (watched (barrel p t) m unwatched) =
-    ap (λ k. watched (barrel p k) m unwatched) one ∙ watched_push (barrel p t) (processor_in_turn p t) m unwatched
-    ∙ ap (λ k. watched_need (need (processor_of k (run (barrel p t) m))) k (run (barrel p t) m) (watched (barrel p t) m unwatched)) (sym n_is)
-    ∙ ap (λ (x : MachineState). watched_need (need (processor_of n x)) n x (watched (barrel p t) m unwatched)) (sym r.ran) in
-    let step = behind (need (processor_of n now)) n now (watched (barrel p t) m unwatched) in
-    let kept = takes (forgotten (watched (barrel p t) m unwatched)) r.kept in (
+    let watch_is : watched (take (t + 1) ns) m unwatched ≡ watched_need (need (processor_of n now)) n now (watched (take t ns) m unwatched) =
+    ap (λ ks. watched ks m unwatched) (take_more ns t 0 before) ∙ watched_push (take t ns) (get_or ns t 0) m unwatched
+    ∙ ap (λ k. watched_need (need (processor_of k (run (take t ns) m))) k (run (take t ns) m) (watched (take t ns) m unwatched)) (sym n_is)
+    ∙ ap (λ (x : MachineState). watched_need (need (processor_of n x)) n x (watched (take t ns) m unwatched)) (sym r.ran) in
+    let step = behind (need (processor_of n now)) n now (watched (take t ns) m unwatched) in
+    let kept = takes (forgotten (watched (take t ns) m unwatched)) r.kept in (
       record {
-        ran = next_is ∙ ap (λ x. stepped n x) r.ran ∙ ap (λ k. stepped k (run (barrel p t) m)) n_is ∙ sym (run-append (barrel p t) (processor_in_turn p t) m) ∙ ap (λ k. run (barrel p k) m) (sym one);
-        kept = subst (λ (x : Watch). AreTables new next (forgotten x)) (sym watch_is) (subst (λ (x : MachineState). AreTables new x (forgotten (watched_need (need (processor_of n now)) n now (watched (barrel p t) m unwatched)))) (sym next_is)
-            (subst (λ (v : WatchTables A). AreTables v (stepped n now) (forgotten (watched_need (need (processor_of n now)) n now (watched (barrel p t) m unwatched)))) (sym new_is) (record {
+        ran = next_is ∙ ap (λ x. stepped n x) r.ran ∙ ap (λ k. stepped k (run (take t ns) m)) n_is ∙ sym (run_more ns t m before);
+        kept = subst (λ (x : Watch). AreTables new next (forgotten x)) (sym watch_is) (subst (λ (x : MachineState). AreTables new x (forgotten (watched_need (need (processor_of n now)) n now (watched (take t ns) m unwatched)))) (sym next_is)
+            (subst (λ (v : WatchTables A). AreTables v (stepped n now) (forgotten (watched_need (need (processor_of n now)) n now (watched (take t ns) m unwatched)))) (sym new_is) (record {
               indexed = kept.indexed;
               low_all = kept.low_all;
               looks_all = kept.looks_all;
               words = kept.words;
-              watched = subst (λ (x : List Finding). AreWatched (stepped n now) (forgotten (watched_need (need (processor_of n now)) n now (watched (barrel p t) m unwatched))) taken.low.items taken.looks.items x) (sym taken_away)
-                  (forgets (watched (barrel p t) m unwatched).findings (stepped n now) _ _ taken.low.items taken.looks.items taken.found.items step kept.watched);
-              used = forgets_uses (watched (barrel p t) m unwatched).findings _ _ taken.uses.items step kept.used;
+              watched = subst (λ (x : List Finding). AreWatched (stepped n now) (forgotten (watched_need (need (processor_of n now)) n now (watched (take t ns) m unwatched))) taken.low.items taken.looks.items x) (sym taken_away)
+                  (forgets (watched (take t ns) m unwatched).findings (stepped n now) _ _ taken.low.items taken.looks.items taken.found.items step kept.watched);
+              used = forgets_uses (watched (take t ns) m unwatched).findings _ _ taken.uses.items step kept.used;
             })));
         sound = λ none.
-            let found_none : (watched_need (need (processor_of n now)) n now (watched (barrel p t) m unwatched)).findings ≡ [] = ap (λ (x : Watch). x.findings) (sym watch_is) ∙ none in
-            let now_is : at_moment (barrel p turns) m t ≡ now = ap (λ ks. run ks m) (take_barrel p turns t (omega arith)) ∙ sym r.ran in
-            subst (λ (x : Watch). IsSound (barrel p turns) m (t + 1) x) (sym watch_is)
-            (subst (λ (k : ℕ). IsSound (barrel p turns) m k (watched_need (need (processor_of n now)) n now (watched (barrel p t) m unwatched))) (sym one)
-            (sound_on (barrel p turns) m now n (need (processor_of n now)) t (watched (barrel p t) m unwatched) each (omega arith) named (turn_of_barrel p turns t before ∙ sym n_is) now_is refl well found_none
-            (r.sound (found_before (need (processor_of n now)) n now (watched (barrel p t) m unwatched) found_none))));
+            let found_none : (watched_need (need (processor_of n now)) n now (watched (take t ns) m unwatched)).findings ≡ [] = ap (λ (x : Watch). x.findings) (sym watch_is) ∙ none in
+            let now_is : at_moment ns m t ≡ now = sym r.ran in
+            subst (λ (x : Watch). IsSound ns m (t + 1) x) (sym watch_is)
+            (subst (λ (k : ℕ). IsSound ns m k (watched_need (need (processor_of n now)) n now (watched (take t ns) m unwatched))) (sym one)
+            (sound_on ns m now n (need (processor_of n now)) t (watched (take t ns) m unwatched) each before named (sym n_is) now_is refl well found_none
+            (r.sound (found_before (need (processor_of n now)) n now (watched (take t ns) m unwatched) found_none))));
       },
-      ap (λ (x : Watch). x.findings) watch_is ∙ step.findings ∙ ap (λ x. (watched (barrel p t) m unwatched).findings ++ x) (sym kept.watched.found_are),
+      ap (λ (x : Watch). x.findings) watch_is ∙ step.findings ∙ ap (λ x. (watched (take t ns) m unwatched).findings ++ x) (sym kept.watched.found_are),
     )
 
 -- ---- the end
 
-pub run_finds : {A : Type 0} (p : Profile) (turns t : ℕ) (m now : MachineState) (tables : WatchTables A) (ends : List Finding)
-    → t ≡ turns → IsWatchedRun p turns t m now tables
+pub run_finds : {A : Type 0} (ns : List ℕ) (t : ℕ) (m now : MachineState) (tables : WatchTables A) (ends : List Finding)
+    → t ≡ length ns → IsWatchedRun ns t m now tables
     → ((w : Watch) → AreLow now w tables.low.items → ends ≡ tables.found.items ++ each_number (end_of now w))
-    → ((watched (barrel p t) m unwatched).findings ++ ends) ++ each_below (length tables.uses.items) (sharing_of (forgotten (watched (barrel p t) m unwatched))) ≡ findings (barrel p turns) m
-run_finds p turns t m now tables ends end r ends_are =
-    let now_is : now ≡ run (barrel p turns) m = r.ran ∙ ap (λ k. run (barrel p k) m) end in
-    let watch_is : watched (barrel p t) m unwatched ≡ watched (barrel p turns) m unwatched = ap (λ k. watched (barrel p k) m unwatched) end in
-    let words : length tables.uses.items ≡ length (run (barrel p turns) m).central = r.kept.words ∙ ap (λ (x : MachineState). length x.central) now_is in
-    let w : Watch = watched (barrel p t) m unwatched in
+    → ((watched (take t ns) m unwatched).findings ++ ends) ++ each_below (length tables.uses.items) (sharing_of (forgotten (watched (take t ns) m unwatched))) ≡ findings ns m
+run_finds ns t m now tables ends end r ends_are =
+    let whole : take t ns ≡ ns = take_all t ns (omega (arith, end)) in
+    let now_is : now ≡ run ns m = r.ran ∙ ap (λ ks. run ks m) whole in
+    let watch_is : watched (take t ns) m unwatched ≡ watched ns m unwatched = ap (λ ks. watched ks m unwatched) whole in
+    let words : length tables.uses.items ≡ length (run ns m).central = r.kept.words ∙ ap (λ (x : MachineState). length x.central) now_is in
+    let w : Watch = watched (take t ns) m unwatched in
     ap (λ x. (w.findings ++ x) ++ each_below (length tables.uses.items) (sharing_of w)) (ends_are w r.kept.watched.low_are ∙ ap (λ x. x ++ each_number (end_of now w)) r.kept.watched.found_are)
     ∙ ap (λ (x : Watch). (x.findings ++ each_number (end_of now x)) ++ each_below (length tables.uses.items) (sharing_of x)) watch_is
-    ∙ ap (λ (x : MachineState). ((watched (barrel p turns) m unwatched).findings ++ each_number (end_of x (watched (barrel p turns) m unwatched))) ++ each_below (length tables.uses.items) (sharing_of (watched (barrel p turns) m unwatched))) now_is
-    ∙ ap (λ k. ((watched (barrel p turns) m unwatched).findings ++ each_number (end_of (run (barrel p turns) m) (watched (barrel p turns) m unwatched))) ++ each_below k (sharing_of (watched (barrel p turns) m unwatched))) words
-    ∙ sym (findings_are (barrel p turns) m)
+    ∙ ap (λ (x : MachineState). ((watched ns m unwatched).findings ++ each_number (end_of x (watched ns m unwatched))) ++ each_below (length tables.uses.items) (sharing_of (watched ns m unwatched))) now_is
+    ∙ ap (λ k. ((watched ns m unwatched).findings ++ each_number (end_of (run ns m) (watched ns m unwatched))) ++ each_below k (sharing_of (watched ns m unwatched))) words
+    ∙ sym (findings_are ns m)
 
-pub run_tells : {A : Type 0} (p : Profile) (turns t : ℕ) (m now : MachineState) (tables : WatchTables A) → length m.processors ≡ processor_count → length m.histories ≡ channel_count
-    → t ≡ turns → IsWatchedRun p turns t m now tables → ((q : ℕ) → IsTrue (names_processor q) → TurnTestIsExact now q)
-    → findings (barrel p turns) m ≡ [] → IsDeterminate (barrel p turns) m
-run_tells p turns t m now tables all each end r turn_well none =
-    let ns : List ℕ = barrel p turns in
-    let now_is : now ≡ run (barrel p turns) m = r.ran ∙ ap (λ k. run (barrel p k) m) end in
-    let size : t ≡ length (barrel p turns) = end ∙ sym (length-barrel p turns) in
-    let watch_is : watched (barrel p t) m unwatched ≡ watched (barrel p turns) m unwatched = ap (λ k. watched (barrel p k) m unwatched) end in
-    let none_there : findings_at_end (run (barrel p turns) m) (watched (barrel p turns) m unwatched) ≡ [] = sym (findings_are (barrel p turns) m) ∙ none in
-    let first = none_first ((watched (barrel p turns) m unwatched).findings ++ each_number (end_of (run (barrel p turns) m) (watched (barrel p turns) m unwatched))) _ none_there in
-    let before : (watched (barrel p t) m unwatched).findings ≡ [] = ap (λ (x : Watch). x.findings) watch_is ∙ none_first (watched (barrel p turns) m unwatched).findings _ first in
-    determinate (barrel p turns) m (watched (barrel p turns) m unwatched) all each
-    (λ k. run_processors (take k (barrel p turns)) m ∙ all) (run_processors (barrel p turns) m ∙ all)
-    (subst (λ (k : ℕ). IsSound (barrel p turns) m k (watched (barrel p turns) m unwatched)) size (subst (λ (x : Watch). IsSound (barrel p turns) m t x) watch_is (r.sound before)))
-    (none_second (watched (barrel p turns) m unwatched).findings _ first)
-    (none_second ((watched (barrel p turns) m unwatched).findings ++ each_number (end_of (run (barrel p turns) m) (watched (barrel p turns) m unwatched))) _ none_there)
+pub run_tells : {A : Type 0} (ns : List ℕ) (t : ℕ) (m now : MachineState) (tables : WatchTables A) → length m.processors ≡ processor_count → length m.histories ≡ channel_count
+    → t ≡ length ns → IsWatchedRun ns t m now tables → ((q : ℕ) → IsTrue (names_processor q) → TurnTestIsExact now q)
+    → findings ns m ≡ [] → IsDeterminate ns m
+run_tells ns t m now tables all each end r turn_well none =
+    let whole : take t ns ≡ ns = take_all t ns (omega (arith, end)) in
+    let now_is : now ≡ run ns m = r.ran ∙ ap (λ ks. run ks m) whole in
+    let watch_is : watched (take t ns) m unwatched ≡ watched ns m unwatched = ap (λ ks. watched ks m unwatched) whole in
+    let none_there : findings_at_end (run ns m) (watched ns m unwatched) ≡ [] = sym (findings_are ns m) ∙ none in
+    let first = none_first ((watched ns m unwatched).findings ++ each_number (end_of (run ns m) (watched ns m unwatched))) _ none_there in
+    let before : (watched (take t ns) m unwatched).findings ≡ [] = ap (λ (x : Watch). x.findings) watch_is ∙ none_first (watched ns m unwatched).findings _ first in
+    determinate ns m (watched ns m unwatched) all each
+    (λ k. run_processors (take k ns) m ∙ all) (run_processors ns m ∙ all)
+    (subst (λ (k : ℕ). IsSound ns m k (watched ns m unwatched)) end (subst (λ (x : Watch). IsSound ns m t x) watch_is (r.sound before)))
+    (none_second (watched ns m unwatched).findings _ first)
+    (none_second ((watched ns m unwatched).findings ++ each_number (end_of (run ns m) (watched ns m unwatched))) _ none_there)
     (λ q named. subst (λ (x : MachineState). TurnTestIsExact x q) now_is (turn_well q named))

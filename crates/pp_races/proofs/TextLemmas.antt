@@ -15,8 +15,6 @@ use Rattle.pp_races.specs.declared.verdict.Verdict.TheVariants.{Same}
 use Rattle.pp_races.proofs.SoundLemmas.{none_first}
 use Rattle.pp_races.proofs.VerdictLemmas.{same_none}
 use Rattle.pp_machine.specs.MachineState.{MachineState}
-use Rattle.pp_machine.specs.Run.{barrel}
-use Rattle.pp_numbers.specs.declared.profile.Profile.{Profile}
 use Rattle.pp_races.specs.Findings.{findings}
 use Rattle.pp_races.specs.Watch.{unwatched, watched}
 use Rattle.pp_races.proofs.GrowLemmas.{begins_so_far}
@@ -100,8 +98,8 @@ module _ {W : Type 0} (contents : W → Option (List ℕ)) where
   findings_on a b c u v w some more all first next is = subst (PrintsFindings contents a c u w) is (findings_then a b c u v w some more first next)
 
   -- what is found of the first turns is the first that is found
-  pub first_printed : (a b : TextWriter W) (v : Verdict) (p : Profile) (turns t : ℕ) (m : MachineState) → t ≤ turns
-      → PrintsFindings contents a b Same v (watched (barrel p t) m unwatched).findings → PrintsFirst contents a b Same v (findings (barrel p turns) m)
-  first_printed a b v p turns t m h printed =
-      let begins = begins_so_far p turns t m h in
-      record { first = (watched (barrel p t) m unwatched).findings; others = begins.0; all = begins.1; printed = printed }
+  pub first_printed : (a b : TextWriter W) (v : Verdict) (ns : List ℕ) (t : ℕ) (m : MachineState)
+      → PrintsFindings contents a b Same v (watched (take t ns) m unwatched).findings → PrintsFirst contents a b Same v (findings ns m)
+  first_printed a b v ns t m printed =
+      let begins = begins_so_far ns t m in
+      record { first = (watched (take t ns) m unwatched).findings; others = begins.0; all = begins.1; printed = printed }

@@ -3,6 +3,7 @@
 #![tactic(auto)]
 
 mod asking_step;
+mod event_counts;
 mod finding;
 mod flag_set;
 mod found;

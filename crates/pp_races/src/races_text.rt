@@ -1,7 +1,7 @@
 //! The text of the races of a run.
 
-ghost use Rattle.std.specs.Prelude.{◌≡◌, ◌≢◌, ◌≤◌, ℕ, [], Err, OnErr, OnOk};
-ghost use Rattle.pp_machine.specs.Run.{barrel, run};
+ghost use Rattle.std.specs.Prelude.{◌≡◌, ◌≢◌, ◌≤◌, ℕ, [], length, take, Err, OnErr, OnOk};
+ghost use Rattle.pp_machine.specs.Run.{run};
 ghost use Rattle.pp_run.specs.Determinacy.{IsDeterminate};
 ghost use Rattle.pp_text.specs.TextWriter.{Prints};
 ghost use Rattle.pp_text.specs.Written.{IsReportWritten};
@@ -11,46 +11,49 @@ ghost use Rattle.pp_races.specs.Watch.{unwatched};
 ghost use Rattle.pp_races.specs.WatchTables.{AreTables};
 
 use crate::Verdict;
+use crate::event_counts::event_counts;
 use crate::watch_tables::WatchTables;
 use crate::watched_run::print_run;
 use pp_channel::CHANNELS;
 use pp_machine::Machine;
+use pp_run::Order;
 use pp_text::{ReportFault, TextWriter};
 use std::alloc::Allocator;
 use std::io::Write;
 
-/// Runs `turns` turns of the barrel from its first processor on, and writes the steps that may race
-/// with others, the processors that are not settled at the end, the central words that one
-/// processor wrote and another used, and what they come to; and flushes the writer. If nothing is
-/// found, the run determines the result of every order of steps.
+/// Makes the steps of an order, and writes those that may race with others, the processors that are
+/// not settled at the end, the central words that one processor wrote and another used, and what
+/// they come to; and flushes the writer. If nothing is found, the run determines the result of every
+/// order of steps.
 ///
-/// The lines go out as they come. Memory is asked for before the first of them, for these numbers
-/// of events, by the places of the channels: a run that makes no more asks for none later, as tests
-/// show. One that makes more may be refused it, which is a fault of writing once a line was
-/// printed. After a fault the machine has made some first turns.
+/// The lines go out as they come. Memory is asked for before the first of them, for as many events as
+/// a run without histories and trace makes first: none is asked for later, as tests show. No clause
+/// says so: where memory was refused after a line was printed, that would be a fault of writing.
+/// After a fault the machine has made some first steps.
 pub fn write_races<A: Allocator + Copy, W: Write>(
     alloc: A,
     writer: &mut W,
     machine: &mut Machine<A>,
-    turns: u32,
-    events: &[usize; CHANNELS],
+    order: &Order<A>,
 ) -> Result<(), ReportFault>
-    ensures written { IsReportWritten (races_text (barrel machine.old.profile turns) machine.old)
+    ensures written { IsReportWritten (races_text order.now machine.old)
         result (W.contents writer.old) (W.contents writer.new) }
-    ensures same { result ≢ Err ReportFault.Memory
-        → findings (barrel machine.old.profile turns) machine.old ≡ []
-        → IsDeterminate (barrel machine.old.profile turns) machine.old }
-    ensures ran { OnOk result (machine.new ≡ run (barrel machine.old.profile turns) machine.old) }
-    ensures cut { OnErr result ((t : ℕ) × (t ≤ turns)
-        × (machine.new ≡ run (barrel machine.old.profile t) machine.old)) }
+    ensures same { result ≢ Err ReportFault.Memory → findings order.now machine.old ≡ []
+        → IsDeterminate order.now machine.old }
+    ensures ran { OnOk result (machine.new ≡ run order.now machine.old) }
+    ensures cut { OnErr result ((done : ℕ) × (done ≤ length order.now)
+        × (machine.new ≡ run (take done order.now) machine.old)) }
 {
-    let Ok(()) = machine.reserve(events) else {
+    let Ok(events) = event_counts(alloc, machine, order) else {
         return Err(ReportFault::Memory);
     };
-    let Ok(mut tables) = WatchTables::of(alloc, machine, in_all(events)) else {
+    let Ok(()) = machine.reserve(&events) else {
         return Err(ReportFault::Memory);
     };
-    write_watched(writer, machine, turns, &mut tables)
+    let Ok(mut tables) = WatchTables::of(alloc, machine, in_all(&events)) else {
+        return Err(ReportFault::Memory);
+    };
+    write_watched(writer, machine, order, &mut tables)
 }
 
 /// How many events these are in all.
@@ -66,21 +69,20 @@ fn in_all(events: &[usize; CHANNELS]) -> usize {
 fn write_watched<A: Allocator, W: Write>(
     writer: &mut W,
     machine: &mut Machine<A>,
-    turns: u32,
+    order: &Order<A>,
     tables: &mut WatchTables<A>,
 ) -> Result<(), ReportFault>
     requires { AreTables tables.old machine.old unwatched }
-    ensures written { IsReportWritten (races_text (barrel machine.old.profile turns) machine.old)
+    ensures written { IsReportWritten (races_text order.now machine.old)
         result (W.contents writer.old) (W.contents writer.new) }
-    ensures same { result ≢ Err ReportFault.Memory
-        → findings (barrel machine.old.profile turns) machine.old ≡ []
-        → IsDeterminate (barrel machine.old.profile turns) machine.old }
-    ensures ran { OnOk result (machine.new ≡ run (barrel machine.old.profile turns) machine.old) }
-    ensures cut { OnErr result ((t : ℕ) × (t ≤ turns)
-        × (machine.new ≡ run (barrel machine.old.profile t) machine.old)) }
+    ensures same { result ≢ Err ReportFault.Memory → findings order.now machine.old ≡ []
+        → IsDeterminate order.now machine.old }
+    ensures ran { OnOk result (machine.new ≡ run order.now machine.old) }
+    ensures cut { OnErr result ((done : ℕ) × (done ≤ length order.now)
+        × (machine.new ≡ run (take done order.now) machine.old)) }
 {
     let mut text = TextWriter::new(writer);
-    match print_run(&mut text, machine, turns, tables) {
+    match print_run(&mut text, machine, order, tables) {
         Ok(verdict) => {
             print_verdict(&mut text, verdict);
             text.finish().map_err(|_| ReportFault::Write)

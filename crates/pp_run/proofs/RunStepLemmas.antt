@@ -1,19 +1,16 @@
 -- The steps of a run with one more step.
-use Rattle.std.proofs.Common.{◌≡◌, ◌≢◌, ℕ, zero, suc, ◌+◌, ◌<◌, ◌≤◌, ◌⊎◌, inl, inr, Bool, true, false, cond, List, [], ◌∷◌, ◌++◌, append-nil, length, map, set, take, get_or, eqb, refl, sym, ap, ◌∙◌, add-one, arith}
+use Rattle.std.proofs.Common.{◌≡◌, ◌≢◌, ℕ, suc, ◌+◌, ◌<◌, ◌≤◌, ◌⊎◌, inl, inr, Bool, true, false, cond, List, [], ◌∷◌, ◌++◌, append-nil, length, map, set, take, get_or, eqb, refl, sym, ap, ◌∙◌, arith}
 use Rattle.std.specs.Prelude.{count_by}
 use Rattle.std.specs.List.{filter}
-use Rattle.std.proofs.lemmas.Bool.{cases_eq, cases_lt, eq-eqb, ne_eqb, cond-true, cond-false}
-use Rattle.std.proofs.lemmas.List.{length-map, map-append, length-set, get_or-set_same, get_or-set_other, get_or-take, get_or_push, take-append-le, take_all}
+use Rattle.std.proofs.lemmas.Bool.{cases_eq, eq-eqb, ne_eqb, cond-true, cond-false}
+use Rattle.std.proofs.lemmas.List.{length-map, map-append, length-set, get_or-set_same, get_or-set_other, take_more}
 use Rattle.std.proofs.lemmas.List.Elements.{filter-append}
 use Rattle.std.proofs.lemmas.List.Sums.{count_by-le-length, length-filter, sum_by-cons}
 use Rattle.pp_numbers.proofs.TableLemmas.{get_or-tabulate, length-tabulate, tabulate_is}
 use Rattle.pp_machine.specs.MachineState.{MachineState}
 use Rattle.pp_machine.specs.MachineStep.{stepped}
 use Rattle.pp_numbers.specs.PpNo.{processor_count, processor_index, processor_number, each_processor, processor_places}
-use Rattle.pp_numbers.specs.Profile.{processor_in_turn}
-use Rattle.pp_machine.specs.Run.{barrel, run}
-use Rattle.pp_machine.proofs.RunLemmas.{length-barrel}
-use Rattle.pp_numbers.specs.declared.profile.Profile.{Profile}
+use Rattle.pp_machine.specs.Run.{run}
 use Rattle.pp_run.specs.RunSteps.{RunStep, is_of, run_steps, seen_of}
 
 -- over two lists
@@ -32,41 +29,14 @@ pub length-run_steps : (ns : List ℕ) (m : MachineState) → length (run_steps 
 length-run_steps [] m = refl
 length-run_steps (n ∷ ns) m = ap (λ (k : ℕ). suc k) (length-run_steps ns (stepped n m))
 
--- over one more turn of the barrel
-pub barrel_steps_more : (p : Profile) (turn n : ℕ) (m : MachineState) → n ≡ processor_in_turn p turn
-    → run_steps (barrel p (turn + 1)) m
-    ≡ run_steps (barrel p turn) m ++ record { processor = n; before = run (barrel p turn) m } ∷ []
-barrel_steps_more p turn n m is = grind (arith, add-one, run_steps-append)
-
--- as many steps as turns
-pub length-barrel_steps : (p : Profile) (turns : ℕ) (m : MachineState)
-    → length (run_steps (barrel p turns) m) ≡ turns
-length-barrel_steps p turns m = length-run_steps (barrel p turns) m ∙ length-barrel p turns
-
--- ---- the turns of the barrel
-
--- the first of them
-pub take_barrel : (p : Profile) (turns t : ℕ) → t ≤ turns → take t (barrel p turns) ≡ barrel p t
-take_barrel p zero t low = grind arith
-take_barrel p (suc turns) t low = elim (cases_lt t (suc turns)) [
-  | inl below ↦
-      take-append-le t (barrel p turns) (processor_in_turn p turns ∷ [])
-      (omega (arith, below, length-barrel p turns))
-      ∙ take_barrel p turns t (omega (arith, below))
-  | inr past ↦
-      let all : t ≡ suc turns = omega (arith, low, past) in
-      take_all t (barrel p (suc turns)) (omega (arith, past, length-barrel p (suc turns)))
-      ∙ ap (barrel p) (sym all)
-]
-
--- and each
-pub turn_of_barrel : (p : Profile) (turns t : ℕ) → t < turns
-    → get_or (barrel p turns) t 0 ≡ processor_in_turn p t
-turn_of_barrel p turns t before =
-    sym (get_or-take (t + 1) (barrel p turns) t 0 (omega arith))
-    ∙ ap (λ (ns : List ℕ). get_or ns t 0) (take_barrel p turns (t + 1) (omega (arith, before)))
-    ∙ ap (λ (k : ℕ). get_or (barrel p k) t 0) (add-one t)
-    ∙ get_or_push (barrel p t) (processor_in_turn p t) 0 t (length-barrel p t)
+-- over one more step of a list
+pub steps_more : (ns : List ℕ) (done n : ℕ) (m : MachineState) → done < length ns → n ≡ get_or ns done 0
+    → run_steps (take (done + 1) ns) m
+    ≡ run_steps (take done ns) m ++ record { processor = n; before = run (take done ns) m } ∷ []
+steps_more ns done n m few is =
+    ap (λ ks. run_steps ks m) (take_more ns done 0 few)
+    ∙ run_steps-append (take done ns) (get_or ns done 0) m
+    ∙ ap (λ (k : ℕ). run_steps (take done ns) m ++ record { processor = k; before = run (take done ns) m } ∷ []) (sym is)
 
 -- ---- the steps of one processor
 

@@ -1,10 +1,9 @@
 -- The steps of a run.
-use Rattle.std.specs.Prelude.{◌≡◌, ℕ, ◌+◌, ◌<◌, ◌⊎◌, ◌==◌, Bool, List, [], ◌∷◌, map}
+use Rattle.std.specs.Prelude.{◌≡◌, ℕ, ◌+◌, ◌<◌, ◌⊎◌, ◌==◌, Bool, List, [], ◌∷◌, length, map, slice_index, take}
 use Rattle.std.specs.List.{filter}
 use Rattle.pp_machine.specs.MachineState.{MachineState}
 use Rattle.pp_machine.specs.MachineStep.{step_outcome, stepped}
-use Rattle.pp_numbers.specs.Profile.{processor_in_turn}
-use Rattle.pp_machine.specs.Run.{IsCutAtEvent, barrel, run}
+use Rattle.pp_machine.specs.Run.{IsCutAtEvent, run}
 use Rattle.pp_machine.specs.declared.outcome.Outcome.{Outcome}
 
 -- a step: its processor, and the machine before it
@@ -34,15 +33,12 @@ pub record IsMade (step : RunStep) (n : ℕ) (outcome : Outcome) (after : Machin
   pub outcome_is : outcome ≡ outcome_of step
   pub after_is : after ≡ stepped step.processor step.before
 
--- the step of the barrel after `turns` turns
-abbrev pub barrel_step : MachineState → ℕ → RunStep
-barrel_step m turns = record {
-  processor = processor_in_turn m.profile turns;
-  before = run (barrel m.profile turns) m;
-}
+-- the step of a list after `done` others
+abbrev pub next_step : List ℕ → MachineState → ℕ → RunStep
+next_step ns m done = record { processor = slice_index ns done; before = run (take done ns) m }
 
--- A run of `turns` turns is cut after `done` of them, when something had to be kept: before a step
--- that makes an event, or after a step that is kept itself.
-abbrev pub IsCutAt : (RunStep → Type 0) → ℕ → MachineState → ℕ → Type 0
-IsCutAt Keeps turns m done = IsCutAtEvent turns m done
-    ⊎ ((last : ℕ) × (done ≡ last + 1) × (last < turns) × Keeps (barrel_step m last))
+-- A run of some steps is cut after `done` of them, when something had to be kept: before a step that
+-- makes an event, or after a step that is kept itself.
+abbrev pub IsCutAt : (RunStep → Type 0) → List ℕ → MachineState → ℕ → Type 0
+IsCutAt Keeps ns m done = IsCutAtEvent ns m done
+    ⊎ ((last : ℕ) × (done ≡ last + 1) × (last < length ns) × Keeps (next_step ns m last))

@@ -6,13 +6,13 @@ mod bare_machine;
 mod bare_step;
 mod observed_run;
 mod observer;
+mod order;
 mod progress;
 mod step_counts;
-mod turn;
 
 pub use bare_machine::BareMachine;
 pub use observed_run::run_observed;
 pub use observer::Observer;
+pub use order::{Order, in_turn};
 pub use progress::Progress;
 pub use step_counts::{StepCounts, run_counting_steps};
-pub use turn::in_turn;

@@ -1,12 +1,12 @@
 //! Runs that count what their steps did.
 
 ghost use Rattle.std.specs.Prelude.{◌≡◌, ◌+◌, ◌<◌, ◌^◌, ◌++◌, ◌∷◌, [], List, length, IfErr, IfOk};
-ghost use Rattle.pp_machine.specs.Run.{IsCutAtEvent, IsRunOf, barrel};
+ghost use Rattle.pp_machine.specs.Run.{IsCutAtEvent, IsRunOf};
 ghost use Rattle.pp_machine.specs.declared.outcome.Outcome.{Outcome};
 ghost use Rattle.pp_run.specs.RunSteps.{run_steps};
 ghost use Rattle.pp_run.specs.StepCounts.{counts_of, each_step_counts};
 
-use crate::{Observer, run_observed};
+use crate::{Observer, Order, run_observed};
 use pp_channel::Memory;
 use pp_machine::{Cut, Machine, Outcome, PROCESSORS, PpNo};
 use std::alloc::Allocator;
@@ -44,21 +44,21 @@ impl StepCounts {
     }
 }
 
-/// Runs `turns` turns of the barrel (decimal), as `Machine::run_barrel` does, and says of each
-/// processor, in the order of the barrel, how many of its steps moved it, were held, and found it
-/// at rest, and how many of the last were held.
+/// Makes the steps of an order, as `Machine::run_turns` does, and says of each processor, in the
+/// order of the barrel, how many of its steps moved it, were held, and found it at rest, and how
+/// many of the last were held.
 #[tactic(auto, unfolding(pp_numbers::specs::Tables::tabulate))]
-pub fn run_counting_steps<A: Allocator>(
+pub fn run_counting_steps<A: Allocator, B: Allocator>(
     machine: &mut Machine<A>,
-    turns: u32,
+    order: &Order<B>,
 ) -> Result<[StepCounts; PROCESSORS], Cut>
-    ensures run { IsRunOf turns result machine.old machine.new }
+    ensures run { IsRunOf order.now result machine.old machine.new }
     ensures counts { IfOk result (λ counts.
-        counts ≡ each_step_counts (run_steps (barrel machine.old.profile turns) machine.old)) }
-    ensures cut_at_event { IfErr result (λ c. IsCutAtEvent turns machine.old c.done) }
+        counts ≡ each_step_counts (run_steps order.now machine.old)) }
+    ensures cut_at_event { IfErr result (λ c. IsCutAtEvent order.now machine.old c.done) }
 {
     let mut counts = EachStepCounts([StepCounts::default(); PROCESSORS]);
-    run_observed(machine, turns, &mut counts)?;
+    run_observed(machine, order, &mut counts)?;
     Ok(counts.0)
 }
 

@@ -7,7 +7,7 @@ use Rattle.std.proofs.lemmas.Bool.{cases_lt, lt-ltb}
 use Rattle.pp_sim.proofs.ByteLemmas.{read_front}
 use Rattle.pp_machine.specs.Headline.{HoldsOnEachChannel}
 use Rattle.pp_machine.specs.MachineState.{MachineState}
-use Rattle.pp_machine.specs.Run.{barrel, run}
+use Rattle.pp_machine.specs.Run.{run}
 use Rattle.pp_numbers.specs.declared.profile.Profile.{Profile}
 use Rattle.pp_deck.specs.DeckMeaning.{LoadedDeck, deck_meaning}
 use Rattle.pp_deck.specs.declared.deck_fault.DeckFault.{DeckFault}
@@ -15,7 +15,7 @@ use Rattle.pp_text.specs.Written.{IsReportWritten, IsWritten}
 use Rattle.pp_text.specs.declared.{report_fault.ReportFault.ReportFault, write_fault.WriteFault.WriteFault}
 use Rattle.pp_text.specs.declared.report_fault.ReportFault.TheVariants as report
 use Rattle.pp_sim.specs.TextAnswer.{AnswersDeckUnless, IsAnswerUnless, answer_to, answer_to_report, IsOfDeck, IsLoadFault, NothingPrevents, most_bytes}
-use Rattle.pp_sim.specs.TextOf.{IsTextAfter}
+use Rattle.pp_sim.specs.TextOf.{IsTextAfter, run_of}
 use Rattle.pp_listing.specs.declared.going_on.Busy.{Busy}
 use Rattle.pp_sim.specs.declared.text_fault.TextFault.{TextFault}
 use Rattle.pp_sim.specs.declared.text_fault.TextFault.TheVariants as fault
@@ -34,10 +34,10 @@ answers_reported profile IsDeckText bytes text (Err report.Write) old new is fro
 answers_reported profile IsDeckText bytes text (Err report.Memory) old new is kept = kept
 
 -- the same of a text of the run of some turns
-pub answers_after : (profile : Profile) (turns : ℕ) (text_after : List ℕ → LoadedDeck → List ℕ) (bytes text : List ℕ) (deck : LoadedDeck) (after : MachineState) (written : Result (Unit {0}) WriteFault) (old new : Option (List ℕ))
-    → deck_meaning profile bytes ≡ Ok deck → after ≡ run (barrel deck.machine.profile turns) deck.machine → HoldsOnEachChannel after → text ≡ text_after (barrel deck.machine.profile turns) deck
-    → IsWritten text written old new → IsAnswerUnless profile NothingPrevents (IsTextAfter turns text_after) (answer_to written) bytes old new
-answers_after profile turns text_after bytes text deck after written old new meant ran holds is whole = grind (arith, answers_written)
+pub answers_after : (profile : Profile) (first : List ℕ) (turns : ℕ) (text_after : List ℕ → LoadedDeck → List ℕ) (bytes text : List ℕ) (deck : LoadedDeck) (after : MachineState) (written : Result (Unit {0}) WriteFault) (old new : Option (List ℕ))
+    → deck_meaning profile bytes ≡ Ok deck → after ≡ run (run_of first turns deck) deck.machine → HoldsOnEachChannel after → text ≡ text_after (run_of first turns deck) deck
+    → IsWritten text written old new → IsAnswerUnless profile NothingPrevents (IsTextAfter first turns text_after) (answer_to written) bytes old new
+answers_after profile first turns text_after bytes text deck after written old new meant ran holds is whole = grind (arith, answers_written)
 
 -- the answer to the bytes that were read is that to the first bytes that the reader had
 told_answer : (profile : Profile) (before after old new : Option (List ℕ)) (Prevents : LoadedDeck → Busy → Type 0) (IsDeckText : LoadedDeck → List ℕ → Type 0) (front : List ℕ) (most : ℕ) (answer : Result (Unit {0}) TextFault)

@@ -7,6 +7,7 @@ ghost use Rattle.pp_sim.specs.Program.{IsDone, IsDoneOnFile, IsPrinted, IsRun, I
 use crate::text_fault::answer_to;
 use crate::{TextFault, check_text, deck_text, threads_text};
 use pp_command::{LineFault, Work, read_words};
+use pp_machine::PpNo;
 use pp_text::write_whole;
 use std::alloc::{Allocator, Global};
 use std::fs::{self, Files};
@@ -45,9 +46,11 @@ pub fn run_program<
         Ok(asked) => asked,
         Err(fault) => return tell_line_fault(rt.alloc(), &fault, output, error),
     };
-    match asked.file {
-        None => tell_answer(do_work(rt, asked.work, alloc, input, output), error),
-        Some(path) => work_on_file(rt, asked.work, alloc, path, output, error),
+    let file = asked.file;
+    let first = asked.first.as_slice();
+    match file {
+        None => tell_answer(do_work(rt, asked.work, first, alloc, input, output), error),
+        Some(path) => work_on_file(rt, asked.work, first, alloc, path, output, error),
     }
 }
 
@@ -57,14 +60,14 @@ fn work_on_file<
     A: Allocator + Copy + Send + Sync,
     O: Write,
     E: Write,
->(rt: &T, work: Work, alloc: A, path: &str, output: &mut O, error: &mut E) -> u8
+>(rt: &T, work: Work, first: &[PpNo], alloc: A, path: &str, output: &mut O, error: &mut E) -> u8
     requires { ReportFitsInMemory A.row A.Allocator }
-    ensures { IsDoneOnFile A work result (O.contents output.old) (O.contents output.new) }
+    ensures { IsDoneOnFile A work first.now result (O.contents output.old) (O.contents output.new) }
 {
     let Ok(mut file) = fs::open(rt, path) else {
         return tell_unread(path, error);
     };
-    match do_work(rt, work, alloc, &mut file, output) {
+    match do_work(rt, work, first, alloc, &mut file, output) {
         Err(TextFault::Read) => tell_unread(path, error),
         answer => tell_answer(answer, error),
     }
@@ -82,16 +85,17 @@ fn tell_unread<E: Write>(path: &str, error: &mut E) -> u8
 fn do_work<T: Threads + Wait + Sync, I: Read, A: Allocator + Copy + Send + Sync, O: Write>(
     rt: &T,
     work: Work,
+    first: &[PpNo],
     alloc: A,
     input: &mut I,
     output: &mut O,
 ) -> Result<(), TextFault>
     requires { ReportFitsInMemory A.row A.Allocator }
-    ensures { IsDone A work result (I.remaining input.old) (I.remaining input.new)
+    ensures { IsDone A work first.now result (I.remaining input.old) (I.remaining input.new)
         (O.contents output.old) (O.contents output.new) }
 {
     match work {
-        Work::Deck { profile, text } => deck_text(alloc, profile, input, output, &text),
+        Work::Deck { profile, text } => deck_text(alloc, profile, first, input, output, &text),
         Work::Threads { profile, limits } => {
             threads_text(rt, alloc, profile, input, output, limits)
         }

@@ -1,6 +1,5 @@
 //! The text of the steps of a run.
 
-ghost use Rattle.pp_machine.specs.Run.{barrel};
 ghost use Rattle.pp_text.specs.Written.{IsReportWritten};
 ghost use Rattle.pp_steps.specs.StepsText.{steps_text};
 
@@ -9,26 +8,25 @@ use crate::cursor::{Cursor, LineKind};
 use crate::run_counts::counted_runs;
 use crate::step_line::{print_held_line, print_step_line};
 use pp_machine::{Machine, PROCESSORS};
-use pp_run::{BareMachine, Progress, in_turn};
+use pp_run::{BareMachine, Order, Progress};
 use pp_text::{ReportFault, TextWriter};
 use std::alloc::Allocator;
 use std::io::Write;
 
-/// Writes the steps chosen of a machine in the first turns (decimal) of the barrel, and flushes the
-/// writer. The run is made twice: first the held steps in a row are counted, which takes the
-/// memory, and then the lines go out in pieces, by two machines, one a step ahead of the other.
+/// Writes the steps chosen of a run of a machine in this order, and flushes the writer. The run is
+/// made twice: first the held steps in a row are counted, which takes the memory, and then the lines
+/// go out in pieces, by two machines, one a step ahead of the other.
 pub fn write_steps<A: Allocator + Copy, W: Write>(
     alloc: A,
     writer: &mut W,
     machine: &Machine<A>,
     choice: &Choice,
-    turns: u32,
+    order: &Order<A>,
 ) -> Result<(), ReportFault>
-    ensures { IsReportWritten
-        (steps_text choice.now (barrel machine.now.profile turns) machine.now)
+    ensures { IsReportWritten (steps_text choice.now order.now machine.now)
         result (W.contents writer.old) (W.contents writer.new) }
 {
-    let runs = counted_runs(alloc, machine, choice, turns).map_err(|_| ReportFault::Memory)?;
+    let runs = counted_runs(alloc, machine, choice, order).map_err(|_| ReportFault::Memory)?;
     let mut before = BareMachine::of(alloc, machine).map_err(|_| ReportFault::Memory)?;
     let mut after = BareMachine::of(alloc, machine).map_err(|_| ReportFault::Memory)?;
     let mut text = TextWriter::new(writer);
@@ -36,10 +34,9 @@ pub fn write_steps<A: Allocator + Copy, W: Write>(
         times: 0,
         last: Progress::AtRest,
     }; PROCESSORS];
-    for turn in 0..turns {
-        let n = in_turn(machine.profile(), u64::from(turn));
-        let is_chosen = choice.has(&after, n);
-        let step = after.step(n);
+    for n in order.processors() {
+        let is_chosen = choice.has(&after, *n);
+        let step = after.step(*n);
         let kind = if is_chosen {
             cursors[n.index()].pass(&runs[n.index()], step)
         } else {
@@ -47,10 +44,10 @@ pub fn write_steps<A: Allocator + Copy, W: Write>(
         };
         match kind {
             LineKind::NoLine => {}
-            LineKind::OneStep => print_step_line(&mut text, n, &before, &after),
-            LineKind::HeldSteps(count) => print_held_line(&mut text, n, &before, count),
+            LineKind::OneStep => print_step_line(&mut text, *n, &before, &after),
+            LineKind::HeldSteps(count) => print_held_line(&mut text, *n, &before, count),
         }
-        let _same = before.step(n);
+        let _same = before.step(*n);
     }
     text.finish().map_err(|_| ReportFault::Write)
 }

@@ -3,6 +3,7 @@ mod WriteLemmas
 mod TextWriterLemmas
 mod InstructionLemmas
 mod OctalLemmas
+mod OrderTextLemmas
 -- facts of the definitions, which proofs of other crates cite
 pub mod PrintingLemmas
 pub mod TextLawLemmas

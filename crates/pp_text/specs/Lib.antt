@@ -6,3 +6,4 @@ pub mod TextLaw
 pub mod Piece
 pub mod Written
 pub mod TextWriter
+pub mod OrderText

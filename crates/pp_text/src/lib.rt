@@ -9,6 +9,7 @@ mod laws;
 mod machine_text;
 mod numbers;
 mod operands;
+mod order_text;
 mod printed_line;
 mod report_fault;
 mod standing;
@@ -25,6 +26,7 @@ pub use machine_text::{print_channels, write_text};
 pub use numbers::{
     print_decimal, print_octal, print_short_decimal, print_short_octal, print_upper_digits,
 };
+pub use order_text::print_order;
 pub use printed_line::print_event_end;
 pub use report_fault::ReportFault;
 pub use standing::print_standing;

@@ -57,7 +57,7 @@ pub record Tells (work : Work) (input : List ℕ) (a : Answer) (old new : List �
   pub outcome : Result (Unit {0}) TextFault
   pub text : List ℕ
   pub after : Option (List ℕ)
-  pub done : IsDone (Unit {0}) work outcome (Some input) after (Some []) (Some text)
+  pub done : IsDone (Unit {0}) work [] outcome (Some input) after (Some []) (Some text)
   pub shown : Shows outcome text a old new
 
 -- a number is out of its range, and the room is as it was

@@ -2,7 +2,7 @@
 
 ghost use Rattle.ppsim_library.specs.Answered.{NeedsNoThreads, Tells};
 ghost use Rattle.pp_sim.specs.Program.{IsDone};
-ghost use Rattle.std.specs.Prelude.{Some};
+ghost use Rattle.std.specs.Prelude.{[], Some};
 
 use crate::answer::{Answer, answer_of};
 use pp_sim::{TextFault, Work, check_text, deck_text};
@@ -26,11 +26,11 @@ fn do_work<A: Allocator + Copy>(
     output: &mut Vec<u8, A>,
 ) -> Result<(), TextFault>
     requires { NeedsNoThreads work }
-    ensures { IsDone (Unit {0}) work result (Some input.old.now) (Some input.new.now)
+    ensures { IsDone (Unit {0}) work [] result (Some input.old.now) (Some input.new.now)
         (Some output.old.items) (Some output.new.items) }
 {
     match work {
-        Work::Deck { profile, text } => deck_text(alloc, profile, input, output, &text),
+        Work::Deck { profile, text } => deck_text(alloc, profile, &[], input, output, &text),
         Work::Threads { .. } => unreachable!(),
         Work::Check { opened } => check_text(alloc, &opened, input, output),
     }

@@ -3,6 +3,7 @@
 use crate::well_formed::is_well_formed;
 use pp_draw::{Window, run_seeing_steps, write_drawing};
 use pp_machine::{CentralFault, Machine, PROCESSORS, PpNo, Profile};
+use pp_run::Order;
 use std::alloc::Global;
 use std::test::Fail;
 use test_bench::{Chance, put_program};
@@ -43,7 +44,8 @@ fn odd_machine(alloc: Global, chance: &mut Chance) -> Result<Machine<Global>, Ce
 
 /// The drawing of a machine's run in a window of turns.
 fn drawing(alloc: Global, mut machine: Machine<Global>, window: Window) -> Result<String, Fail> {
-    let steps = run_seeing_steps(alloc, &mut machine, window)?;
+    let order = Order::of_run(alloc, &[], machine.profile(), window.to)?;
+    let steps = run_seeing_steps(alloc, &mut machine, &order, window)?;
     let mut written = Vec::new(alloc);
     let (named, steps) = ([true; PROCESSORS], steps.as_slice());
     write_drawing(&mut written, &machine, &named, steps, window)?;

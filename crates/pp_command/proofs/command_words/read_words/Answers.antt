@@ -1,4 +1,4 @@
-use Rattle.std.proofs.Common.{rules, tests, None}
+use Rattle.std.proofs.Common.{None}
 use Rattle.clap.specs.Words.{found_of}
 use Rattle.pp_command.specs.CommandLine.{AsksForMoreAmong}
 use Rattle.pp_command.proofs.CommandLemmas.{met_command, met_none, refused_words, taken_words}
@@ -7,43 +7,47 @@ use Rattle.pp_command.proofs.command_words.read_words.Goals as goal
 pub returns-in-Err-clause-refused : goal.returns-in-Err-clause-refused
 returns-in-Err-clause-refused c = refused_words _ _ c.in-Err.error _ c.in-Ok.ensures c.in-Err.ensures.kinds c.refusal.ensures
 
-pub returns-in-Some-work_of-clause-taken : goal.returns-in-Some-work_of-clause-taken
-returns-in-Some-work_of-clause-taken c = taken_words _ _ c.in-Ok.ensures c.in-Ok-try_get_matches_from.ensures.kinds
-
-pub returns-in-Some-work_of-clause-work : goal.returns-in-Some-work_of-clause-work
-returns-in-Some-work_of-clause-work c =
-    let e = met_command _ _ c.in-Ok-try_get_matches_from.matches c.in-Some.name.now (found_of c.in-Some.inner.now)
-    c.in-Ok.ensures c.in-Ok-try_get_matches_from.ensures.matches c.in-Some.ensures.name c.in-Some.ensures.rows in
-    rw e c.in-Some-work_of.ensures
-
-pub returns-in-Some-work_of-clause-file : goal.returns-in-Some-work_of-clause-file
-returns-in-Some-work_of-clause-file c =
-    let e = met_command _ _ c.in-Ok-try_get_matches_from.matches c.in-Some.name.now (found_of c.in-Some.inner.now)
-    c.in-Ok.ensures c.in-Ok-try_get_matches_from.ensures.matches c.in-Some.ensures.name c.in-Some.ensures.rows in
-    rw e (search (rules, tests))
-
-pub returns-in-Some-clause-refused : goal.returns-in-Some-clause-refused
-returns-in-Some-clause-refused c =
-    let e = met_command _ _ c.in-Ok-try_get_matches_from.matches c.in-Some.name.now (found_of c.in-Some.inner.now)
-    c.in-Ok.ensures c.in-Ok-try_get_matches_from.ensures.matches c.in-Some.ensures.name c.in-Some.ensures.rows in (
+pub returns-in_default-subcommand-clause-refused : goal.returns-in_default-subcommand-clause-refused
+returns-in_default-subcommand-clause-refused c =
+    let e = met_none _ _ c.in-Ok-try_get_matches_from.matches c.in-Ok.ensures c.in-Ok-try_get_matches_from.ensures.matches c.in_default-subcommand.ensures.name in (
       taken_words _ _ c.in-Ok.ensures c.in-Ok-try_get_matches_from.ensures.kinds,
-      λ work k. c.in-None-work_of.ensures work (rw e at k),
-      λ k. let is = c.asks_for_more.ensures.1 (rw e at k) in let not = c.if-asks_for_more.false in cc,
+      λ work first k. let bad : ⊥ = rw e at k in bad,
+      λ k. let bad : AsksForMoreAmong None = rw e at k in bad,
     )
 
-pub returns-in-None-work_of-clause-refused : goal.returns-in-None-work_of-clause-refused
-returns-in-None-work_of-clause-refused c =
+pub returns-in-Some-found-clause-taken : goal.returns-in-Some-found-clause-taken
+returns-in-Some-found-clause-taken c = taken_words _ _ c.in-Ok.ensures c.in-Ok-try_get_matches_from.ensures.kinds
+
+pub returns-in-Some-found-clause-work : goal.returns-in-Some-found-clause-work
+returns-in-Some-found-clause-work c =
     let e = met_command _ _ c.in-Ok-try_get_matches_from.matches c.in-Some.name.now (found_of c.in-Some.inner.now)
-    c.in-Ok.ensures c.in-Ok-try_get_matches_from.ensures.matches c.in-Some.ensures.name c.in-Some.ensures.rows in (
+    c.in-Ok.ensures c.in-Ok-try_get_matches_from.ensures.matches c.in-Some.ensures.name c.in-Some.ensures.rows in
+    let asked = rw c.in-Some-found.is at c.in-Ok-asked_of.ensures.asked in
+    rw e asked
+
+pub returns-in-Some-found-clause-file : goal.returns-in-Some-found-clause-file
+returns-in-Some-found-clause-file c =
+    let e = met_command _ _ c.in-Ok-try_get_matches_from.matches c.in-Some.name.now (found_of c.in-Some.inner.now)
+    c.in-Ok.ensures c.in-Ok-try_get_matches_from.ensures.matches c.in-Some.ensures.name c.in-Some.ensures.rows in
+    let named = rw c.in-Some-found.is at c.in-Ok-asked_of.ensures.file in
+    rw e named
+
+pub returns-in-None-clause-refused : goal.returns-in-None-clause-refused
+returns-in-None-clause-refused c =
+    let e = met_command _ _ c.in-Ok-try_get_matches_from.matches c.in-Some.name.now (found_of c.in-Some.inner.now)
+    c.in-Ok.ensures c.in-Ok-try_get_matches_from.ensures.matches c.in-Some.ensures.name c.in-Some.ensures.rows in
+    let none = rw c.in-None.is at c.in-Ok-asked_of.ensures.none in (
       taken_words _ _ c.in-Ok.ensures c.in-Ok-try_get_matches_from.ensures.kinds,
-      λ work k. c.in-None-work_of.ensures work (rw e at k),
+      λ work first k. none work first (rw e at k),
       rw e (c.asks_for_more.ensures.0 c.if-asks_for_more.true),
     )
 
 pub returns-clause-refused : goal.returns-clause-refused
 returns-clause-refused c =
-    let e = met_none _ _ c.in-Ok-try_get_matches_from.matches c.in-Ok.ensures c.in-Ok-try_get_matches_from.ensures.matches c.in-None.ensures.name in (
+    let e = met_command _ _ c.in-Ok-try_get_matches_from.matches c.in-Some.name.now (found_of c.in-Some.inner.now)
+    c.in-Ok.ensures c.in-Ok-try_get_matches_from.ensures.matches c.in-Some.ensures.name c.in-Some.ensures.rows in
+    let none = rw c.in-None.is at c.in-Ok-asked_of.ensures.none in (
       taken_words _ _ c.in-Ok.ensures c.in-Ok-try_get_matches_from.ensures.kinds,
-      λ work k. let bad : ⊥ = rw e at k in bad,
-      λ k. let bad : AsksForMoreAmong None = rw e at k in bad,
+      λ work first k. none work first (rw e at k),
+      λ k. let is = c.asks_for_more.ensures.1 (rw e at k) in let not = c.if-asks_for_more.false in cc,
     )

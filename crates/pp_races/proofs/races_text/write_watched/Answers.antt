@@ -1,10 +1,23 @@
-use Rattle.std.proofs.Common.{◌≡◌, [], inl, inr, sym, ◌∙◌, rules}
-use Rattle.pp_machine.specs.Run.{barrel}
+use Rattle.std.proofs.Common.{◌≡◌, ◌≤◌, ℕ, take, [], inl, inr, length, sym, ap, ◌∙◌, Ok, Err, Result, arith, rules}
+use Rattle.std.specs.Prelude.{OnErr}
+use Rattle.std.proofs.lemmas.List.{take_all}
+use Rattle.pp_machine.specs.Run.{run}
 use Rattle.pp_text.specs.declared.report_fault.ReportFault.{ReportFault}
 use Rattle.pp_races.specs.RacesText.{races_text}
 use Rattle.pp_races.specs.declared.verdict.Verdict.TheVariants.{Same, NoRaceSoFar, MayDiffer}
 use Rattle.pp_races.proofs.TextLemmas.{all_printed, cut_written, nothing_printed, part_printed, some_printed}
 use Rattle.pp_races.proofs.races_text.write_watched.Goals as goal
+
+on_err : {X Y P : Type 0} (answer : Result X Y) → P → OnErr answer P
+on_err (Ok x) p = tt
+on_err (Err y) p = p
+
+pub returns-in-Ok-clause-cut : goal.returns-in-Ok-clause-cut
+returns-in-Ok-clause-cut g c =
+    let order = c.args.order.now in
+    let cut : (done : ℕ) × (done ≤ length order) × (c.print_run.new.machine ≡ run (take done order) c.args.machine.now) =
+    (length order, omega arith, c.in-Ok.ensures.ran ∙ ap (λ ns. run ns c.args.machine.now) (sym (take_all (length order) order (omega arith)))) in
+    on_err _ cut
 
 pub returns-in-Ok-clause-written : goal.returns-in-Ok-clause-written
 returns-in-Ok-clause-written g c =
@@ -21,7 +34,7 @@ returns-in-Same-clause-written g c =
 pub returns-in-NoRaceSoFar-clause-written : goal.returns-in-NoRaceSoFar-clause-written
 returns-in-NoRaceSoFar-clause-written g c =
     let printed = part_printed g.W.Write.contents _ _ c.in-Err.verdict _ c.in-Err.ensures.printed_first in
-    let written = cut_written g.W.Write.contents _ _ (races_text (barrel c.args.machine.now.profile c.args.turns) c.args.machine.now) ReportFault.Write c.finish-written.result _ _ printed
+    let written = cut_written g.W.Write.contents _ _ (races_text c.args.order.now c.args.machine.now) ReportFault.Write c.finish-written.result _ _ printed
     c.new-text.ensures.nothing c.finish-written.ensures.written in
     search (rules, written)
 

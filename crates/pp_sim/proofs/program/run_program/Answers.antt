@@ -1,4 +1,5 @@
-use Rattle.std.proofs.Common.{inr}
+use Rattle.std.specs.Prelude.{Some}
+use Rattle.std.proofs.Common.{inl, inr}
 use Rattle.std.proofs.KnownBytes.{Keeps-refl}
 use Rattle.pp_sim.proofs.program.run_program.Goals as goal
 
@@ -8,4 +9,15 @@ returns-in-Err g c = inr (record {
   refused = c.in-Err.ensures.refused;
   unread = Keeps-refl _;
   reported = c.tell_line_fault.ensures;
+})
+
+pub returns : goal.returns
+returns g c = inl (record {
+  taken = c.in-Ok.ensures.taken;
+  work = c.in-Ok.asked.work;
+  first = c.in-Ok.asked.first.items;
+  asked = c.in-Ok.ensures.work;
+  file = Some c.in-Some.path.now;
+  named = rw c.in-Some.is at c.in-Ok.ensures.file;
+  done = (Keeps-refl _, (rw c.as_slice-first.ensures.value at c.work_on_file.ensures));
 })

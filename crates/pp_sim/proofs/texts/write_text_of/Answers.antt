@@ -1,8 +1,11 @@
-use Rattle.std.proofs.Common.{Bool, List, ◌∙◌, ap, refl, subst}
+use Rattle.std.proofs.Common.{◌≡◌, Bool, List, ◌∙◌, ap, refl, subst}
 use Rattle.pp_deck.specs.InUse.{in_use}
 use Rattle.pp_draw.specs.DrawingText.{drawing, drawing_of_run}
 use Rattle.pp_draw.specs.declared.seen_step.SeenStep.{SeenStep}
-use Rattle.pp_machine.specs.Run.{barrel, run}
+use Rattle.pp_machine.specs.Run.{run, run_order}
+use Rattle.pp_run.specs.RunSteps.{run_steps}
+use Rattle.pp_run.specs.StepCounts.{each_step_counts}
+use Rattle.pp_draw.specs.SeenStep.{seen_in_window}
 use Rattle.pp_run.specs.declared.step_counts.StepCounts.{StepCounts}
 use Rattle.pp_sessions.specs.SessionsText.{sessions_after, sessions_text}
 use Rattle.pp_machine.specs.Headline.{HoldsOnEachChannel}
@@ -17,17 +20,17 @@ use Rattle.pp_sim.proofs.texts.write_text_of.Goals as goal
 use Rattle.pp_sim.specs.TextAnswer.{NothingPrevents}
 use Rattle.pp_sim.specs.TextOf.{IsBarrelText, IsListText, central_after, memory_after}
 
-pub returns-in_ok-run_barrel-in-Barrel : goal.returns-in_ok-run_barrel-in-Barrel
-returns-in_ok-run_barrel-in-Barrel g c =
+pub returns-in_ok-run_in_order-in-Barrel : goal.returns-in_ok-run_in_order-in-Barrel
+returns-in_ok-run_in_order-in-Barrel g c =
     let named = c.args.loaded.now.named in
-    let ran = c.in_ok-run_barrel-in-Barrel.ensures.run.ran in
-    rw (c.in-Barrel.is, c.answer_to.ensures) (answers_written c.args.deck.now.profile NothingPrevents (IsBarrelText c.in-Barrel.turns) c.args.deck.now.bytes.now _ c.write_text.result _ _
+    let ran = c.in_ok-run_in_order-in-Barrel.ensures.run.ran in
+    rw (c.in-Barrel.is, c.answer_to.ensures) (answers_written c.args.deck.now.profile NothingPrevents (IsBarrelText c.args.first.now c.in-Barrel.turns) c.args.deck.now.bytes.now _ c.write_text.result _ _
     (record {
       deck = _;
       meant = c.requires.meant;
       is = record {
         text_is = ap (printed named) ran;
-        headline = subst HoldsOnEachChannel ran c.run_barrel.ensures.run.headline;
+        headline = subst HoldsOnEachChannel ran c.run_in_order.ensures.run.headline;
         fits = subst (FitsItsText named) ran c.write_text.ensures.fits;
       };
     })
@@ -47,22 +50,22 @@ returns-in-List g c =
     })
     c.write_listing.ensures.written)
 
-pub returns-in_ok-run_barrel-in-Memory : goal.returns-in_ok-run_barrel-in-Memory
-returns-in_ok-run_barrel-in-Memory g c =
+pub returns-in_ok-run_in_order-in-Memory : goal.returns-in_ok-run_in_order-in-Memory
+returns-in_ok-run_in_order-in-Memory g c =
     let n = c.in-Memory.processor in
     let bounds = c.in-Memory.bounds in
-    let ran = c.in_ok-run_barrel-in-Memory.ensures.run.ran in
+    let ran = c.in_ok-run_in_order-in-Memory.ensures.run.ran in
     let told = ap (memory_text bounds) c.pp.ensures ∙ ap (λ (m : MachineState). memory_text bounds (processor_of n m)) ran in
-    rw (c.in-Memory.is, c.answer_to-in-Memory.ensures) (answers_after c.args.deck.now.profile c.in-Memory.turns (memory_after n bounds) c.args.deck.now.bytes.now _ _ _ c.write_memory.result _ _
-    c.requires.meant ran c.run_barrel-in-Memory.ensures.run.headline told c.write_memory.ensures)
+    rw (c.in-Memory.is, c.answer_to-in-Memory.ensures) (answers_after c.args.deck.now.profile c.args.first.now c.in-Memory.turns (memory_after n bounds) c.args.deck.now.bytes.now _ _ _ c.write_memory.result _ _
+    c.requires.meant ran c.run_in_order-in-Memory.ensures.run.headline told c.write_memory.ensures)
 
-pub returns-in_ok-run_barrel-in-Central : goal.returns-in_ok-run_barrel-in-Central
-returns-in_ok-run_barrel-in-Central g c =
+pub returns-in_ok-run_in_order-in-Central : goal.returns-in_ok-run_in_order-in-Central
+returns-in_ok-run_in_order-in-Central g c =
     let bounds = c.in-Central.bounds in
-    let ran = c.in_ok-run_barrel-in-Central.ensures.run.ran in
+    let ran = c.in_ok-run_in_order-in-Central.ensures.run.ran in
     let told = ap (central_text bounds) c.central.ensures ∙ ap (λ (m : MachineState). central_text bounds m.central) ran in
-    rw (c.in-Central.is, c.answer_to-in-Central.ensures) (answers_after c.args.deck.now.profile c.in-Central.turns (central_after bounds) c.args.deck.now.bytes.now _ _ _ c.write_central.result _ _
-    c.requires.meant ran c.run_barrel-in-Central.ensures.run.headline told c.write_central.ensures)
+    rw (c.in-Central.is, c.answer_to-in-Central.ensures) (answers_after c.args.deck.now.profile c.args.first.now c.in-Central.turns (central_after bounds) c.args.deck.now.bytes.now _ _ _ c.write_central.result _ _
+    c.requires.meant ran c.run_in_order-in-Central.ensures.run.headline told c.write_central.ensures)
 
 pub returns-in_ok-counts-in-Sessions : goal.returns-in_ok-counts-in-Sessions
 returns-in_ok-counts-in-Sessions g c =
@@ -72,12 +75,14 @@ returns-in_ok-counts-in-Sessions g c =
     let shown = in_use (record { machine = before; named = c.args.loaded.now.named }) in
     let after = c.run_counting_steps.new.machine in
     let ok = c.in_ok-counts-in-Sessions in
+    let order : c.in_ok-order-in-Sessions.order ≡ run_order c.args.first.now before.profile turns = c.in_ok-order-in-Sessions.ensures ∙ ap (λ p. run_order c.args.first.now p turns) c.profile.ensures in
+    let ran = ok.ensures.run.ran ∙ ap (λ ns. run ns before) order in
     let told =
     ap (λ (flags : List Bool). sessions_text words flags after ok.counts) c.in_use-shown.ensures
-    ∙ ap (λ (m : MachineState). sessions_text words shown m ok.counts) ok.ensures.run.ran
-    ∙ ap (λ (counts : List StepCounts). sessions_text words shown (run (barrel before.profile turns) before) counts) ok.ensures.counts in
-    rw (c.in-Sessions.is, c.answer_to-in-Sessions.ensures) (answers_after c.args.deck.now.profile turns (sessions_after words) c.args.deck.now.bytes.now _ _ after c.write_sessions.result _ _
-    c.requires.meant ok.ensures.run.ran c.run_counting_steps.ensures.run.headline told c.write_sessions.ensures)
+    ∙ ap (λ (m : MachineState). sessions_text words shown m ok.counts) ran
+    ∙ ap (λ (counts : List StepCounts). sessions_text words shown (run (run_order c.args.first.now before.profile turns) before) counts) (ok.ensures.counts ∙ ap (λ ns. each_step_counts (run_steps ns before)) order) in
+    rw (c.in-Sessions.is, c.answer_to-in-Sessions.ensures) (answers_after c.args.deck.now.profile c.args.first.now turns (sessions_after words) c.args.deck.now.bytes.now _ _ after c.write_sessions.result _ _
+    c.requires.meant ran c.run_counting_steps.ensures.run.headline told c.write_sessions.ensures)
 
 pub returns-in_ok-steps-in-Draw : goal.returns-in_ok-steps-in-Draw
 returns-in_ok-steps-in-Draw g c =
@@ -86,11 +91,12 @@ returns-in_ok-steps-in-Draw g c =
     let shown = in_use (record { machine = before; named = c.args.loaded.now.named }) in
     let after = c.run_seeing_steps.new.machine in
     let ok = c.in_ok-steps-in-Draw in
-    let ran_to : MachineState → MachineState = λ m. run (barrel m.profile window.to) m in
+    let order : c.in_ok-order-in-Draw.order ≡ run_order c.args.first.now before.profile window.to = c.in_ok-order-in-Draw.ensures ∙ ap (λ p. run_order c.args.first.now p window.to) c.profile-in-Draw.ensures in
+    let ran = ok.ensures.run.ran ∙ ap (λ ns. run ns before) order in
     let told =
     ap (λ (flags : List Bool). drawing window flags after c.as_slice.result.now) c.in_use-shown-in-Draw.ensures
     ∙ ap (λ (steps : List SeenStep). drawing window shown after steps) c.as_slice.ensures.value
-    ∙ ap (λ (m : MachineState). drawing window shown m ok.steps.items) ok.ensures.run.ran
-    ∙ ap (λ (steps : List SeenStep). drawing window shown (ran_to before) steps) ok.ensures.seen in
-    rw (c.in-Draw.is, c.answer_to-in-Draw.ensures) (answers_after c.args.deck.now.profile window.to (λ turns. drawing_of_run window) c.args.deck.now.bytes.now _ _ after c.write_drawing.result _ _
-    c.requires.meant ok.ensures.run.ran c.run_seeing_steps.ensures.run.headline told c.write_drawing.ensures)
+    ∙ ap (λ (m : MachineState). drawing window shown m ok.steps.items) ran
+    ∙ ap (λ (steps : List SeenStep). drawing window shown (run (run_order c.args.first.now before.profile window.to) before) steps) (ok.ensures.seen ∙ ap (λ ns. seen_in_window window ns before) order) in
+    rw (c.in-Draw.is, c.answer_to-in-Draw.ensures) (answers_after c.args.deck.now.profile c.args.first.now window.to (drawing_of_run window) c.args.deck.now.bytes.now _ _ after c.write_drawing.result _ _
+    c.requires.meant ran c.run_seeing_steps.ensures.run.headline told c.write_drawing.ensures)

@@ -1,10 +1,11 @@
-use Rattle.std.proofs.Common.{◌≡◌, ◌<◌, ◌+◌, ◌++◌, ℕ, [], ◌∷◌, List, length, sym, subst, ap, ◌∙◌, cond, get_or, slice_set, arith, rules}
+use Rattle.std.proofs.Common.{◌≡◌, ◌<◌, ◌+◌, ◌++◌, ℕ, [], ◌∷◌, List, length, sym, subst, ap, ◌∙◌, cond, get_or, slice_set, take, ◌≤◌, arith, rules}
 use Rattle.std.specs.Prelude.{Bool}
 use Rattle.pp_machine.specs.MachineState.{MachineState}
 use Rattle.pp_machine.specs.MachineStep.{stepped}
 use Rattle.pp_numbers.specs.PpNo.{processor_count, processor_index}
-use Rattle.pp_machine.specs.Run.{barrel, run}
-use Rattle.pp_machine.proofs.RunLemmas.{barrel_more}
+use Rattle.std.proofs.lemmas.List.{get_or_read, take_all}
+use Rattle.pp_machine.specs.Run.{run}
+use Rattle.pp_machine.proofs.RunLemmas.{run_more}
 use Rattle.pp_run.specs.RunSteps.{RunStep}
 use Rattle.pp_text.specs.TextWriter.{Prints}
 use Rattle.pp_text.proofs.PrintingLemmas.{prints_nothing, prints_then}
@@ -24,88 +25,90 @@ use Rattle.pp_steps.proofs.LineLemmas.{kept_ok}
 use Rattle.pp_steps.proofs.steps_text.write_steps.Goals as goal
 use Rattle.pp_steps.proofs.steps_text.write_steps.Goals.{then-is_chosen, else-is_chosen, in-NoLine, in-OneStep, in-HeldSteps}
 
-pub loop-turn-init : goal.loop-turn-init
-loop-turn-init g c =
+pub loop-n-init : goal.loop-n-init
+loop-n-init g c =
     let m = c.args.machine.now in
     record {
       before = kept_ok (λ b. StandsFor b m) c.of.result c.map_err-2.result c.in_ok-before.before _ c.map_err-2.ensures.cases c.map_err-2.ensures.variant c.of.ensures c.in_ok-before.was;
       after = kept_ok (λ b. StandsFor b m) c.of-2.result c.map_err-3.result c.in_ok-after.after _ c.map_err-3.ensures.cases c.map_err-3.ensures.variant c.of-2.ensures c.in_ok-after.was;
       followed = none_made past_step no_cursor;
-      printed = ([], prints_nothing _ _, nothing_so_far (chosen_steps c.args.choice.now (barrel m.profile c.args.turns) m));
+      printed = ([], prints_nothing _ _, nothing_so_far (chosen_steps c.args.choice.now c.args.order.now m));
     }
 
 pub pass-kind-requires : goal.pass-kind-requires
 pass-kind-requires g c =
-    let p = c.args.machine.now.profile in
+    let order = c.args.order.now in
     let m = c.args.machine.now in
-    let t = c.loop-turn.turn in
+    let t = c.loop-n.n-index in
     omega (
       arith,
-      ap (λ (i : ℕ). (get_or c.loop-turn.cursors i no_cursor).times) c.index.ensures.place,
-      made_few past_step no_cursor (λ (x : Cursor). x.times) times_grow c.loop-turn.cursors (chosen_steps c.args.choice.now (barrel p t) m) c.in_turn-n.result c.in_turn-n.ensures.place c.loop-turn.invariant.followed,
-      few_chosen c.args.choice.now p t m,
-      c.loop-turn-test.true,
+      ap (λ (i : ℕ). (get_or c.loop-n.cursors i no_cursor).times) c.index.ensures.place,
+      made_few past_step no_cursor (λ (x : Cursor). x.times) times_grow c.loop-n.cursors (chosen_steps c.args.choice.now (take t order) m) c.n-item.result c.step-step.ensures.within c.loop-n.invariant.followed,
+      few_chosen c.args.choice.now order t m,
+      c.loop-n-test.true,
+      c.processors-n-items.ensures.few,
+      ap length c.processors-n-items.ensures.are,
     )
 
 pub index-requires-then-is_chosen-2 : goal.index-requires-then-is_chosen-2
 index-requires-then-is_chosen-2 g c =
     let m = c.args.machine.now in
-    let counted : c.in_ok-runs.runs.items ≡ each_spells (chosen_steps c.args.choice.now (barrel m.profile c.args.turns) m) = search rules in
+    let counted : c.in_ok-runs.runs.items ≡ each_spells (chosen_steps c.args.choice.now c.args.order.now m) = search rules in
     let long : length c.in_ok-runs.runs.items ≡ processor_count = ap length counted ∙ length-tabulate processor_count _ in
     omega (arith, c.index-then-is_chosen.ensures.below, long)
 
-pub loop-turn-preserved : goal.loop-turn-preserved
-loop-turn-preserved g c =
-    let p = c.args.machine.now.profile in
+pub loop-n-preserved : goal.loop-n-preserved
+loop-n-preserved g c =
+    let order = c.args.order.now in
     let m = c.args.machine.now in
     let choice = c.args.choice.now in
-    let t = c.loop-turn.turn in
-    let old = run (barrel p t) m in
-    let n = c.in_turn-n.result in
-    let low : t < c.args.turns = omega (arith, c.loop-turn-test.true) in
-    let is = rw (c.from.ensures, c.profile.ensures) at c.in_turn-n.ensures.is in
-    let place = c.in_turn-n.ensures.place in
-    let after : run (barrel p (t + 1)) m ≡ stepped n old = barrel_more p t m ∙ ap (λ (k : ℕ). stepped k old) (sym is) in
-    let stands = c.step-step.ensures.stepped old c.loop-turn.invariant.after in
-    let made : c.step-step.result ≡ progress n old = c.step-step.ensures.progress old c.loop-turn.invariant.after in
-    let step : RunStep = step_in p t m n in
+    let t = c.loop-n.n-index in
+    let old = run (take t order) m in
+    let n = c.n-item.result in
+    let low : t < length order = omega (arith, c.loop-n-test.true, ap length c.processors-n-items.ensures.are) in
+    let is : n ≡ get_or order t 0 = grind (arith, get_or_read) in
+    let place = c.step-step.ensures.within in
+    let after : run (take (t + 1) order) m ≡ stepped n old = run_more order t m low ∙ ap (λ (k : ℕ). stepped k old) (sym is) in
+    let stands = c.step-step.ensures.stepped old c.loop-n.invariant.after in
+    let made : c.step-step.result ≡ progress n old = c.step-step.ensures.progress old c.loop-n.invariant.after in
+    let step : RunStep = step_in order t m n in
     let b = c.has-is_chosen.result in
-    let chosen : b ≡ is_chosen choice step = c.has-is_chosen.ensures old c.loop-turn.invariant.after in
-    let all = chosen_steps choice (barrel p c.args.turns) m in
-    let past = chosen_steps choice (barrel p t) m in
-    let future = chosen_from choice p (t + 1) c.args.turns m in
-    let come : chosen_from choice p t c.args.turns m ≡ cond b (step ∷ future) future =
-    next_chosen choice p t c.args.turns m n is low ∙ ap (λ (x : Bool). cond x (step ∷ future) future) (sym chosen) in
-    let gone : cond b (past ++ step ∷ []) past ≡ chosen_steps choice (barrel p (t + 1)) m =
-    ap (λ (x : Bool). cond x (past ++ step ∷ []) past) chosen ∙ chosen_more choice p t m n is in
-    let parts : past ++ cond b (step ∷ future) future ≡ all = ap (λ (steps : List RunStep). past ++ steps) (sym come) ∙ chosen_parts choice p t c.args.turns m (omega (arith, low)) in
+    let chosen : b ≡ is_chosen choice step = c.has-is_chosen.ensures old c.loop-n.invariant.after in
+    let all = chosen_steps choice order m in
+    let past = chosen_steps choice (take t order) m in
+    let future = chosen_from choice order (t + 1) m in
+    let come : chosen_from choice order t m ≡ cond b (step ∷ future) future =
+    next_chosen choice order t m n is low ∙ ap (λ (x : Bool). cond x (step ∷ future) future) (sym chosen) in
+    let gone : cond b (past ++ step ∷ []) past ≡ chosen_steps choice (take (t + 1) order) m =
+    ap (λ (x : Bool). cond x (past ++ step ∷ []) past) chosen ∙ chosen_more choice order t m n low is in
+    let parts : past ++ cond b (step ∷ future) future ≡ all = ap (λ (steps : List RunStep). past ++ steps) (sym come) ∙ chosen_parts choice order t m in
     let kind = c.if-is_chosen.kind in
     let counted : c.in_ok-runs.runs.items ≡ each_spells all = search rules in
-    let cursors : c.if-is_chosen.cursors ≡ cond b (slice_set c.loop-turn.cursors (processor_index n) (past_step (get_or c.loop-turn.cursors (processor_index n) no_cursor) c.step-step.result)) c.loop-turn.cursors = elim c.if-is_chosen.branch [
+    let cursors : c.if-is_chosen.cursors ≡ cond b (slice_set c.loop-n.cursors (processor_index n) (past_step (get_or c.loop-n.cursors (processor_index n) no_cursor) c.step-step.result)) c.loop-n.cursors = elim c.if-is_chosen.branch [
       | then-is_chosen w ↦ rw (w.cursors-is, w.if-is_chosen.true) (search rules)
       | else-is_chosen w ↦ rw (w.cursors-is, w.if-is_chosen.false)
     ] in
-    let line : kind ≡ cond b (line_at (get_or c.in_ok-runs.runs.items (processor_index n) no_spells) (get_or c.loop-turn.cursors (processor_index n) no_cursor) c.step-step.result) NoLine = elim c.if-is_chosen.branch [
+    let line : kind ≡ cond b (line_at (get_or c.in_ok-runs.runs.items (processor_index n) no_spells) (get_or c.loop-n.cursors (processor_index n) no_cursor) c.step-step.result) NoLine = elim c.if-is_chosen.branch [
       | then-is_chosen w ↦
           let here = made_here with_step no_spells w.index-then-is_chosen-2.result.now c.in_ok-runs.runs.items all n w.index-then-is_chosen.result w.index-then-is_chosen.ensures.place w.index-then-is_chosen.ensures.below counted w.index-then-is_chosen-2.ensures in
           rw (w.kind-is, w.if-is_chosen.true, w.pass-kind.ensures.line, here, w.index.ensures.place)
       | else-is_chosen w ↦ rw (w.kind-is, w.if-is_chosen.false)
     ] in
-    let told : Prints g.W.Write.contents c.loop-turn.text c.match-kind.text (kind_text kind n old) = elim c.match-kind.branch [
+    let told : Prints g.W.Write.contents c.loop-n.text c.match-kind.text (kind_text kind n old) = elim c.match-kind.branch [
       | in-NoLine w ↦ rw (w.text-is, w.in-NoLine.is) (prints_nothing _ _)
-      | in-OneStep w ↦ rw (w.text-is, w.in-OneStep.is) (w.print_step_line.ensures old c.loop-turn.invariant.before stands)
-      | in-HeldSteps w ↦ rw (w.text-is, w.in-HeldSteps.is) (w.print_held_line.ensures old c.loop-turn.invariant.before)
+      | in-OneStep w ↦ rw (w.text-is, w.in-OneStep.is) (w.print_step_line.ensures old c.loop-n.invariant.before stands)
+      | in-HeldSteps w ↦ rw (w.text-is, w.in-HeldSteps.is) (w.print_held_line.ensures old c.loop-n.invariant.before)
     ] in
-    let (text, prints, so_far) = c.loop-turn.invariant.printed in
+    let (text, prints, so_far) = c.loop-n.invariant.printed in
     record {
-      before = subst (λ (x : MachineState). StandsFor c.step-same.new.self x) (sym after) (c.step-same.ensures.stepped old c.loop-turn.invariant.before);
+      before = subst (λ (x : MachineState). StandsFor c.step-same.new.self x) (sym after) (c.step-same.ensures.stepped old c.loop-n.invariant.before);
       after = subst (λ (x : MachineState). StandsFor c.step-step.new.self x) (sym after) stands;
-      followed = cursors ∙ made_more past_step no_cursor c.loop-turn.cursors b past step c.step-step.result place made c.loop-turn.invariant.followed ∙ ap each_cursor gone;
+      followed = cursors ∙ made_more past_step no_cursor c.loop-n.cursors b past step c.step-step.result place made c.loop-n.invariant.followed ∙ ap each_cursor gone;
       printed = (
         text ++ kind_text kind n old,
         prints_then _ _ _ _ text _ prints told,
         subst (λ (steps : List RunStep). IsSoFar all steps future (text ++ kind_text kind n old)) gone
-            (turn_told b all past future c.in_ok-runs.runs.items c.loop-turn.cursors step c.step-step.result kind text place made counted c.loop-turn.invariant.followed parts line
+            (turn_told b all past future c.in_ok-runs.runs.items c.loop-n.cursors step c.step-step.result kind text place made counted c.loop-n.invariant.followed parts line
             (subst (λ (steps : List RunStep). IsSoFar all past steps text) come so_far)),
       );
     }
@@ -113,12 +116,15 @@ loop-turn-preserved g c =
 pub returns : goal.returns
 unfolding steps_text
 returns g c =
-    let p = c.args.machine.now.profile in
+    let order = c.args.order.now in
     let m = c.args.machine.now in
     let choice = c.args.choice.now in
-    let last : c.loop-turn.turn ≡ c.args.turns = omega (arith, c.loop-turn.auto.turn-end) in
-    let (text, prints, so_far) = c.loop-turn.invariant.printed in
-    let at_end = rw (last, none_left choice p c.args.turns m) at so_far in
-    let all = subst (Prints _ _ _) (everything (chosen_steps choice (barrel p c.args.turns) m) (chosen_steps choice (barrel p c.args.turns) m) text at_end) prints in
-    let written = c.finish.ensures.written _ _ (all.goes_on _ [] c.new-text.ensures.nothing) in
+    let last : length order ≤ c.loop-n.n-index = omega (arith, c.loop-n-test.false, ap length c.processors-n-items.ensures.are) in
+    let (text, prints, so_far) = c.loop-n.invariant.printed in
+    let all = chosen_steps choice order m in
+    let past = chosen_steps choice (take c.loop-n.n-index order) m in
+    let made : past ≡ all = ap (λ ns. chosen_steps choice ns m) (take_all c.loop-n.n-index order last) in
+    let at_end = subst (λ (steps : List RunStep). IsSoFar all steps [] text) made (subst (λ (steps : List RunStep). IsSoFar all past steps text) (none_left choice order c.loop-n.n-index m last) so_far) in
+    let printed = subst (Prints _ _ _) (everything all all text at_end) prints in
+    let written = c.finish.ensures.written _ _ (printed.goes_on _ [] c.new-text.ensures.nothing) in
     search (rules, written)

@@ -1,11 +1,13 @@
 use Rattle.std.proofs.Common.{refl, ℕ, ◌≡◌, ◌<◌, ◌/◌, ◌%◌, ◌*◌, ◌+◌, sym, ap, subst, ◌∙◌, arith}
 use Rattle.pp_numbers.specs.Profile.{processors_in}
 use Rattle.pp_numbers.specs.declared.profile.Profile.{Profile}
-use Rattle.pp_machine.specs.Rounds.{whole_rounds}
+use Rattle.pp_machine.specs.Rounds.{IsEventAt, whole_rounds}
 use Rattle.pp_machine.specs.Run.{run, barrel}
 use Rattle.pp_numbers.proofs.ProfileLemmas.{rest_within, rounds_and_rest}
+use Rattle.pp_machine.proofs.OrderLemmas.{barrel_cut, barrel_made}
 use Rattle.pp_machine.proofs.RoundLemmas.{profile_after, counted_rounds, turns_after, event_after}
 use Rattle.pp_machine.proofs.machine.Machine.run_barrel.Goals as goal
+use Rattle.pp_machine.proofs.machine.Machine.run_barrel.Goals.{In-Err}
 
 pub run_passing-requires-clause-round : goal.run_passing-requires-clause-round
 run_passing-requires-clause-round g c =
@@ -36,17 +38,26 @@ returns-in-Ok-clause-run g c =
 pub returns-in-Err-run_passing-clause-run : goal.returns-in-Err-run_passing-clause-run
 returns-in-Err-run_passing-clause-run g c =
     let m = c.args.self.now in
-    record {
-      ran = tt;
-      cut = turns_after (c.args.turns / c.round-round.result) c.in-Err-run_passing.before (c.from.result * c.from-in-Err-run_passing.result) m c.run_rounds.new.self c.run_passing.new.self c.in_default.ensures.ok (counted_rounds m.profile c.from.result c.from-in-Err-run_passing.result (c.args.turns / c.round-round.result) c.round-round.result c.from.ensures c.from-in-Err-run_passing.ensures c.round-round.ensures) c.in-Err-run_passing.ensures.cut.ran;
-      headline = c.run_passing.ensures.headline;
-    }
+    let done = c.from.result * c.from-in-Err-run_passing.result + c.in-Err-run_passing.before in
+    let at_event : IsEventAt c.args.turns m done = grind (arith, counted_rounds, whole_and_rest, event_after) in
+    let made : c.run_passing.new.self ≡ run (barrel m.profile done) m = turns_after (c.args.turns / c.round-round.result) c.in-Err-run_passing.before (c.from.result * c.from-in-Err-run_passing.result) m c.run_rounds.new.self c.run_passing.new.self c.in_default.ensures.ok (counted_rounds m.profile c.from.result c.from-in-Err-run_passing.result (c.args.turns / c.round-round.result) c.round-round.result c.from.ensures c.from-in-Err-run_passing.ensures c.round-round.ensures) c.in-Err-run_passing.ensures.cut.ran in
+    record { ran = tt; cut = barrel_made c.args.turns done m c.run_passing.new.self at_event made; headline = c.run_passing.ensures.headline }
 
 pub returns-in-Err-run_passing-clause-cut_at_event : goal.returns-in-Err-run_passing-clause-cut_at_event
-returns-in-Err-run_passing-clause-cut_at_event g c = grind (arith, counted_rounds, whole_and_rest, event_after)
+returns-in-Err-run_passing-clause-cut_at_event g c =
+    let done = c.from.result * c.from-in-Err-run_passing.result + c.in-Err-run_passing.before in
+    let at_event : IsEventAt c.args.turns c.args.self.now done = grind (arith, counted_rounds, whole_and_rest, event_after) in
+    barrel_cut c.args.turns done c.args.self.now at_event
+
+at_event_of_round : (g : _) (c : In-Err g) → IsEventAt c.args.turns c.args.self.now c.in-Err.done
+at_event_of_round g c = grind (arith, whole_and_rest)
 
 pub returns-in-Err-clause-run : goal.returns-in-Err-clause-run
-returns-in-Err-clause-run g c = record { ran = tt; cut = c.in-Err.ensures.cut.ran; headline = c.run_rounds.ensures.headline }
+returns-in-Err-clause-run g c = record {
+  ran = tt;
+  cut = barrel_made c.args.turns _ c.args.self.now c.run_rounds.new.self (at_event_of_round g (goal.at.returns-in-Err-clause-run g c).In-Err) c.in-Err.ensures.cut.ran;
+  headline = c.run_rounds.ensures.headline;
+}
 
 pub returns-in-Err-clause-cut_at_event : goal.returns-in-Err-clause-cut_at_event
-returns-in-Err-clause-cut_at_event g c = grind (arith, whole_and_rest)
+returns-in-Err-clause-cut_at_event g c = barrel_cut c.args.turns _ c.args.self.now (at_event_of_round g (goal.at.returns-in-Err-clause-cut_at_event g c).In-Err)

@@ -6,13 +6,13 @@ use Rattle.pp_sim.specs.TextOf.{IsTextOf, obstacle}
 
 pub returns : goal.returns
 returns g c =
-    answered_deck c.args.profile _ _ _ _ (obstacle c.args.text.now) (IsTextOf c.args.text.now) c.in_ok-front.front.items c.write_text_of.result
+    answered_deck c.args.profile _ _ _ _ (obstacle c.args.first.now c.args.text.now) (IsTextOf c.args.first.now c.args.text.now) c.in_ok-front.front.items c.write_text_of.result
     (rw c.as_slice-bytes.ensures.value at c.write_text_of.ensures)
     c.in_ok-front.ensures.read c.in_ok-front.ensures.bounded c.in_ok-front.ensures.end
 
 pub returns-in_err-loaded : goal.returns-in_err-loaded
 returns-in_err-loaded g c =
     let p = err_from_is_err_and c.from_residual-in_err-loaded.result c.from_residual-in_err-loaded.ensures.1 in
-    rw (p.1, p.2) (answered_deck c.args.profile _ _ _ _ (obstacle c.args.text.now) (IsTextOf c.args.text.now) c.in_ok-front.front.items (Err _)
-    (refused c.args.profile (obstacle c.args.text.now) (IsTextOf c.args.text.now) _ c.in_ok-front.front.items _ (rw c.as_slice-bytes.ensures.value at c.in_err-loaded.ensures.fault))
+    rw (p.1, p.2) (answered_deck c.args.profile _ _ _ _ (obstacle c.args.first.now c.args.text.now) (IsTextOf c.args.first.now c.args.text.now) c.in_ok-front.front.items (Err _)
+    (refused c.args.profile (obstacle c.args.first.now c.args.text.now) (IsTextOf c.args.first.now c.args.text.now) _ c.in_ok-front.front.items _ (rw c.as_slice-bytes.ensures.value at c.in_err-loaded.ensures.fault))
     c.in_ok-front.ensures.read c.in_ok-front.ensures.bounded c.in_ok-front.ensures.end)

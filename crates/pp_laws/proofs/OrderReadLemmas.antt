@@ -1,0 +1,310 @@
+-- An order is read as it is printed.
+use Rattle.std.proofs.Common.{◌≡◌, ℕ, zero, suc, ◌+◌, ◌-◌, ◌*◌, ◌/◌, ◌%◌, ◌^◌, ◌<◌, ◌≤◌, Bool, true, false, cond, eqb, IsTrue, List, [], ◌∷◌, ◌++◌, append-nil, drop, get_or, length, length-append, map, replicate, Option, Some, None, refl, sym, ap, ◌∙◌, inl, inr, arith}
+use Rattle.std.specs.Prelude.{All, codes, nat_le, nat_lt, not, position, take}
+use Rattle.std.specs.List.{join_with_byte, list_all, position_or_len, slice_split}
+use Rattle.std.specs.Option.{option_and_then, option_map}
+use lib.Seq.{drop-append_seam, drop-drop, take-append-le, take_all}
+use Rattle.std.proofs.Math.Nat.{pow-suc, pow-zero}
+use Rattle.std.proofs.lemmas.Bool.{and_parts, cases_eq, eqb-true, le-leb, le-ltb, lt-ltb, ne_eqb}
+use Rattle.std.proofs.lemmas.List.{length-drop, length-replicate}
+use Rattle.std.proofs.lemmas.List.Elements.{All-append, All-drop, All-head, All-nil, All-push, All-tail}
+use Rattle.std.proofs.lemmas.List.Folds.{list_all-append}
+use Rattle.std.proofs.lemmas.List.Splits.{slice_split_at, slice_split_none}
+use Rattle.std.proofs.lemmas.List.Sums.{AllPass-from_list_all, fold-append, prefix_len_is}
+use Rattle.std.proofs.lemmas.Nat.{div-add-mod'}
+use Rattle.pp_word.specs.Numeral.{digit, is_digit, numeral, short_decimal, short_octal, unpadded, value_of}
+use Rattle.pp_word.proofs.NumeralLemmas.{Pass, short_pass, short_read}
+use Rattle.pp_numbers.specs.Profile.{has_processor, processor_in_turn, processors_in}
+use Rattle.pp_numbers.specs.declared.profile.Profile.{Profile}
+use Rattle.pp_numbers.specs.declared.profile.Profile.TheVariants.{Ten, Twenty}
+use Rattle.pp_numbers.proofs.PpNoLemmas.{processor_fits}
+use Rattle.pp_numbers.proofs.ProfileLemmas.{has_at, most_processors, processor_named, rest_within}
+use Rattle.pp_machine.specs.Run.{barrel}
+use Rattle.pp_machine.proofs.RunLemmas.{length-barrel}
+use Rattle.pp_listing.specs.RestOfOrder.{order_left, turns_of_rounds}
+use Rattle.pp_command.specs.NumberList.{is_comma, numbered, numbers_of}
+use Rattle.pp_command.specs.OrderList.{all_steps, is_colon, item_by, item_steps, listed_steps, steps_of}
+use Rattle.pp_text.specs.OrderText.{StepsInARow, order_text, row_text, rows_of, step_and_rows}
+
+-- ---- counts
+
+value_end : (characters : List ℕ) (d : ℕ) → value_of 10 (characters ++ digit d) ≡ value_of 10 characters * 10 + d
+value_end characters d = grind (arith, fold-append)
+
+unpadded_value : (most n : ℕ) → n < 10 ^ most → value_of 10 (unpadded most n) ≡ n
+unpadded_value zero n h = omega arith
+unpadded_value (suc most) n h =
+    elim (cases_eq n 0) [
+      | inl z ↦ rw z refl
+      | inr some ↦
+          let rest : n / 10 < 10 ^ most = omega (arith, pow-suc 10 most) in
+          rw (ne_eqb n 0 some) (value_end (unpadded most (n / 10)) (n % 10)
+          ∙ ap (λ (x : ℕ). x * 10 + n % 10) (unpadded_value most (n / 10) rest)
+          ∙ div-add-mod' n 10)
+    ]
+
+unpadded_short : (most k n : ℕ) → n < 10 ^ k → length (unpadded most n) ≤ k
+unpadded_short zero k n h = omega arith
+unpadded_short (suc most) zero n h = grind (arith, pow-zero)
+unpadded_short (suc most) (suc k) n h =
+    elim (cases_eq n 0) [
+      | inl z ↦ rw z (omega arith)
+      | inr some ↦
+          let rest : n / 10 < 10 ^ k = omega (arith, h, pow-suc 10 k) in
+          let short = unpadded_short most k (n / 10) rest in
+          let all = length-append (unpadded most (n / 10)) (digit (n % 10)) in
+          rw (ne_eqb n 0 some) (omega (arith, short, all))
+    ]
+
+passes : (p : ℕ → Bool) (xs ys : List ℕ) → list_all p xs ≡ true → list_all p ys ≡ true → list_all p (xs ++ ys) ≡ true
+passes p xs ys h k = list_all-append p xs ys ∙ rw (h, k) refl
+
+passes_if : (p : ℕ → Bool) (b : Bool) (xs ys : List ℕ) → list_all p xs ≡ true → list_all p ys ≡ true → list_all p (cond b xs ys) ≡ true
+passes_if p true xs ys h k = h
+passes_if p false xs ys h k = k
+
+digit_passes : (p : ℕ → Bool) → Pass 10 p → (n : ℕ) → list_all p (digit (n % 10)) ≡ true
+digit_passes p h n = rw (h (n % 10) (omega arith)) refl
+
+unpadded_passes : (p : ℕ → Bool) → Pass 10 p → (most n : ℕ) → list_all p (unpadded most n) ≡ true
+unpadded_passes p h zero n = refl
+unpadded_passes p h (suc most) n = passes_if p (eqb n 0) [] (unpadded most (n / 10) ++ digit (n % 10)) refl (passes p (unpadded most (n / 10)) (digit (n % 10)) (unpadded_passes p h most (n / 10)) (digit_passes p h n))
+
+decimal_passes : (p : ℕ → Bool) → Pass 10 p → (n : ℕ) → list_all p (short_decimal n) ≡ true
+unfolding short_decimal
+decimal_passes p h n = passes p (unpadded 19 (n / 10)) (digit (n % 10)) (unpadded_passes p h 19 (n / 10)) (digit_passes p h n)
+
+ten_digit : Pass 10 (is_digit 10)
+ten_digit d low = grind (arith, le-leb, lt-ltb)
+
+read_number : (n : ℕ) (text : List ℕ) → 1 ≤ length text → length text ≤ 6 → list_all (is_digit 10) text ≡ true → value_of 10 text ≡ n → numeral 10 6 text ≡ Some n
+unfolding numeral
+read_number n text some short digits value = grind (arith, le-leb)
+
+decimal_value : (n : ℕ) → n ≤ 999999 → value_of 10 (short_decimal n) ≡ n
+unfolding short_decimal
+decimal_value n few = value_end (unpadded 19 (n / 10)) (n % 10) ∙ ap (λ (x : ℕ). x * 10 + n % 10) (unpadded_value 19 (n / 10) (omega (arith, few))) ∙ div-add-mod' n 10
+
+decimal_length : (n : ℕ) → n ≤ 999999 → (1 ≤ length (short_decimal n)) × (length (short_decimal n) ≤ 6)
+unfolding short_decimal
+decimal_length n few =
+    let short = unpadded_short 19 5 (n / 10) (omega (arith, few)) in
+    let all = length-append (unpadded 19 (n / 10)) (digit (n % 10)) in
+    (omega (arith, all), omega (arith, all, short))
+
+count_read : (n : ℕ) → n ≤ 999999 → numeral 10 6 (short_decimal n) ≡ Some n
+count_read n few = let long = decimal_length n few in read_number n (short_decimal n) long.0 long.1 (decimal_passes (is_digit 10) ten_digit n) (decimal_value n few)
+
+-- ---- what a text is cut at
+
+-- no character is this one
+Lacks : ℕ → List ℕ → Type 0
+Lacks mark text = list_all (λ c. not (eqb c mark)) text ≡ true
+
+not_true : (b : Bool) → not b ≡ true → b ≡ false
+not_true true e = absurd (cc)
+not_true false e = refl
+
+each_lacks : (mark : ℕ) (text : List ℕ) → Lacks mark text → All (λ c. eqb c mark ≡ false) text
+unfolding Lacks
+each_lacks mark text lacks = λ k d lt. not_true (eqb (get_or text k d) mark) (AllPass-from_list_all (λ c. not (eqb c mark)) text lacks k d lt)
+
+-- a mark behind the digits
+digit_other : (mark : ℕ) → 57 < mark → Pass 10 (λ c. not (eqb c mark))
+digit_other mark past d low = let other : eqb (48 + d) mark ≡ false = ne_eqb (48 + d) mark (λ e. absurd (omega (arith, past, low, e))) in rw other refl
+
+digit_before : (mark : ℕ) → mark < 48 → Pass 10 (λ c. not (eqb c mark))
+digit_before mark before d low = let other : eqb (48 + d) mark ≡ false = ne_eqb (48 + d) mark (λ e. absurd (omega (arith, before, e))) in rw other refl
+
+octal_lacks : (mark n : ℕ) → Pass 10 (λ c. not (eqb c mark)) → Lacks mark (short_octal 2 n)
+unfolding Lacks
+octal_lacks mark n h = short_pass (λ c. not (eqb c mark)) (λ d low. h d (omega (arith, low))) 2 n
+
+row_lacks : (row : StepsInARow) → Lacks 44 (row_text row)
+unfolding Lacks
+row_lacks row =
+    passes (λ c. not (eqb c 44)) (short_octal 2 row.processor) (cond (eqb row.count 1) [] (codes ":" ++ short_decimal row.count)) (short_pass (λ c. not (eqb c 44)) (λ d low. digit_before 44 (omega arith) d (omega (arith, low))) 2 row.processor)
+    (passes_if (λ c. not (eqb c 44)) (eqb row.count 1) [] (codes ":" ++ short_decimal row.count) refl
+    (passes (λ c. not (eqb c 44)) (codes ":") (short_decimal row.count) refl (decimal_passes (λ c. not (eqb c 44)) (digit_before 44 (omega arith)) row.count)))
+
+rows_split : (row : StepsInARow) (rows : List StepsInARow) → slice_split is_comma (join_with_byte 44 (map row_text (row ∷ rows))) ≡ map row_text (row ∷ rows)
+rows_split row [] = slice_split_none is_comma (row_text row) (each_lacks 44 (row_text row) (row_lacks row))
+rows_split row (next ∷ rows) =
+    slice_split_at is_comma (row_text row) 44 (join_with_byte 44 (map row_text (next ∷ rows))) (each_lacks 44 (row_text row) (row_lacks row)) refl
+    ∙ ap (λ (texts : List (List ℕ)). row_text row ∷ texts) (rows_split next rows)
+
+-- ---- an item
+
+position_at : (text : List ℕ) (n : ℕ) → position_or_len is_colon text ≡ n → position is_colon text ≡ cond (nat_lt n (length text)) (Some n) None
+position_at text n e = ap (λ (k : ℕ). cond (nat_lt k (length text)) (Some k) None) e
+
+no_colon : (text : List ℕ) → Lacks 58 text → position is_colon text ≡ None
+unfolding Lacks
+no_colon text lacks =
+    let all : position_or_len is_colon text ≡ length text = prefix_len_is (λ c. not (is_colon c)) text (length text) 0 (omega arith) (λ k lt. AllPass-from_list_all (λ c. not (eqb c 58)) text lacks k 0 lt) (λ lt. absurd (omega (arith, lt))) in
+    position_at text (length text) all ∙ ap (λ (b : Bool). cond b (Some (length text)) None) (le-ltb (length text) (length text) (omega arith))
+
+colon_at : (text rest : List ℕ) → Lacks 58 text → position_or_len is_colon (text ++ 58 ∷ rest) ≡ length text
+unfolding Lacks
+colon_at [] rest lacks = refl
+colon_at (c ∷ text) rest lacks =
+    let parts = and_parts (not (eqb c 58)) (list_all (λ c. not (eqb c 58)) text) lacks in
+    let further = colon_at text rest parts.1 in
+    ap (λ (b : Bool). cond b (1 + position_or_len is_colon (text ++ 58 ∷ rest)) 0) parts.0 ∙ omega (arith, further)
+
+first_colon : (text rest : List ℕ) → Lacks 58 text → position is_colon (text ++ 58 ∷ rest) ≡ Some (length text)
+first_colon text rest lacks =
+    let within : length text < length (text ++ 58 ∷ rest) = omega (arith, length-append text (58 ∷ rest)) in
+    position_at (text ++ 58 ∷ rest) (length text) (colon_at text rest lacks) ∙ ap (λ (b : Bool). cond b (Some (length text)) None) (lt-ltb (length text) (length (text ++ 58 ∷ rest)) within)
+
+steps_some : (n k : ℕ) → 1 ≤ k → steps_of (Some n) (Some k) ≡ Some (replicate k n)
+steps_some n zero some = absurd (omega (arith, some))
+steps_some n (suc k) some = refl
+
+module _ (profile : Profile) where
+  number_read : (n : ℕ) → IsTrue (has_processor profile n) → numbered (has_processor profile) (short_octal 2 n) ≡ Some n
+  unfolding numbered
+  number_read n has =
+      let fits = processor_fits n (processor_named profile n has) in
+      ap (option_and_then (λ m. cond (has_processor profile m) (Some m) None)) (short_read 2 n (omega arith) (omega (arith, fits)))
+      ∙ ap (λ (b : Bool). cond b (Some n) None) has
+
+  item_one : (n : ℕ) → IsTrue (has_processor profile n) → item_steps profile (short_octal 2 n) ≡ Some (replicate 1 n)
+  unfolding item_steps
+  item_one n has =
+      ap (item_by profile (short_octal 2 n)) (no_colon (short_octal 2 n) (octal_lacks 58 n (digit_other 58 (omega arith))))
+      ∙ ap (λ (o : Option ℕ). steps_of o (Some 1)) (number_read n has)
+
+  item_more : (n k : ℕ) → IsTrue (has_processor profile n) → 1 ≤ k → k ≤ 999999 → item_steps profile (short_octal 2 n ++ 58 ∷ short_decimal k) ≡ Some (replicate k n)
+  unfolding item_steps
+  item_more n k has some few =
+      let number = short_octal 2 n in
+      let count = short_decimal k in
+      let place = length number in
+      let before : take place (number ++ 58 ∷ count) ≡ number = take-append-le place number (58 ∷ count) (omega arith) ∙ take_all place number (omega arith) in
+      let behind : drop (place + 1) (number ++ 58 ∷ count) ≡ count = sym (drop-drop 1 place (number ++ 58 ∷ count)) ∙ ap (drop 1) (drop-append_seam number (58 ∷ count)) in
+      ap (item_by profile (number ++ 58 ∷ count)) (first_colon number count (octal_lacks 58 n (digit_other 58 (omega arith))))
+      ∙ ap (λ (ns : List ℕ). steps_of (numbered (has_processor profile) ns) (numeral 10 6 (drop (place + 1) (number ++ 58 ∷ count)))) before
+      ∙ ap (λ (ns : List ℕ). steps_of (numbered (has_processor profile) number) (numeral 10 6 ns)) behind
+      ∙ ap (λ (o : Option ℕ). steps_of o (numeral 10 6 count)) (number_read n has)
+      ∙ ap (steps_of (Some n)) (count_read k few)
+      ∙ steps_some n k some
+
+  item_by_count : (n k : ℕ) (b : Bool) → eqb k 1 ≡ b → IsTrue (has_processor profile n) → 1 ≤ k → k ≤ 999999 → item_steps profile (short_octal 2 n ++ cond b [] (codes ":" ++ short_decimal k)) ≡ Some (replicate k n)
+  item_by_count n k true one has some few =
+      ap (item_steps profile) (append-nil (short_octal 2 n)) ∙ item_one n has ∙ ap (λ (c : ℕ). Some (replicate c n)) (sym (eqb-true k 1 one))
+  item_by_count n k false other has some few = item_more n k has some few
+
+  item_read : (row : StepsInARow) → IsTrue (has_processor profile row.processor) → 1 ≤ row.count → row.count ≤ 999999 → item_steps profile (row_text row) ≡ Some (replicate row.count row.processor)
+  item_read row has some few = item_by_count row.processor row.count (eqb row.count 1) refl has some few
+
+-- ---- all items
+
+steps_in : List StepsInARow → List ℕ
+steps_in [] = []
+steps_in (row ∷ rows) = replicate row.count row.processor ++ steps_in rows
+
+-- rows of a machine's processors, none of which is empty
+Exist : Profile → List StepsInARow → Type 0
+Exist profile [] = Unit {0}
+Exist profile (row ∷ rows) = (IsTrue (has_processor profile row.processor) × (1 ≤ row.count)) × Exist profile rows
+
+all_read : (profile : Profile) (rows : List StepsInARow) → Exist profile rows → length (steps_in rows) ≤ 999999 → all_steps profile (map row_text rows) ≡ Some (steps_in rows)
+unfolding steps_in Exist
+all_read profile [] exist few = refl
+all_read profile (row ∷ rows) exist few =
+    let long = length-append (replicate row.count row.processor) (steps_in rows) in
+    let own = length-replicate row.count row.processor in
+    ap (option_and_then (λ steps. option_map (λ more. steps ++ more) (all_steps profile (map row_text rows)))) (item_read profile row exist.0.0 exist.0.1 (omega (arith, few, long, own)))
+    ∙ ap (option_map (λ more. replicate row.count row.processor ++ more)) (all_read profile rows exist.1 (omega (arith, few, long, own)))
+
+step_in : (n : ℕ) (rows : List StepsInARow) → steps_in (step_and_rows n rows) ≡ n ∷ steps_in rows
+unfolding steps_in
+step_in n [] = refl
+step_in n (row ∷ rows) = by (eqb row.processor n) refl
+  where
+    by : (b : Bool) → eqb row.processor n ≡ b → steps_in (cond b (record row { count = row.count + 1 } ∷ rows) (record { processor = n; count = 1 } ∷ row ∷ rows)) ≡ n ∷ steps_in (row ∷ rows)
+    by true same =
+        let more : row.count + 1 ≡ suc row.count = omega arith in
+        ap (λ (k : ℕ). replicate k row.processor ++ steps_in rows) more
+        ∙ ap (λ (m : ℕ). m ∷ (replicate row.count row.processor ++ steps_in rows)) (eqb-true row.processor n same)
+    by false other = refl
+
+steps_are : (ns : List ℕ) → steps_in (rows_of ns) ≡ ns
+unfolding rows_of steps_in
+steps_are [] = refl
+steps_are (n ∷ ns) = step_in n (rows_of ns) ∙ ap (λ (ks : List ℕ). n ∷ ks) (steps_are ns)
+
+step_exists : (profile : Profile) (n : ℕ) (rows : List StepsInARow) → IsTrue (has_processor profile n) → Exist profile rows → Exist profile (step_and_rows n rows)
+unfolding Exist
+step_exists profile n [] has exist = ((has, omega arith), tt)
+step_exists profile n (row ∷ rows) has exist = by (eqb row.processor n)
+  where
+    by : (b : Bool) → Exist profile (cond b (record row { count = row.count + 1 } ∷ rows) (record { processor = n; count = 1 } ∷ row ∷ rows))
+    by true = ((exist.0.0, omega arith), exist.1)
+    by false = ((has, omega arith), exist)
+
+rows_exist : (profile : Profile) (ns : List ℕ) → All (λ n. IsTrue (has_processor profile n)) ns → Exist profile (rows_of ns)
+unfolding rows_of Exist
+rows_exist profile [] all = tt
+rows_exist profile (n ∷ ns) all = step_exists profile n (rows_of ns) (All-head (λ k. IsTrue (has_processor profile k)) n ns all) (rows_exist profile ns (All-tail (λ k. IsTrue (has_processor profile k)) n ns all))
+
+some_rows : (n : ℕ) (rows : List StepsInARow) → slice_split is_comma (join_with_byte 44 (map row_text (step_and_rows n rows))) ≡ map row_text (step_and_rows n rows)
+some_rows n [] = rows_split (record { processor = n; count = 1 }) []
+some_rows n (row ∷ rows) = by (eqb row.processor n)
+  where
+    by : (b : Bool) → slice_split is_comma (join_with_byte 44 (map row_text (cond b (record row { count = row.count + 1 } ∷ rows) (record { processor = n; count = 1 } ∷ row ∷ rows)))) ≡ map row_text (cond b (record row { count = row.count + 1 } ∷ rows) (record { processor = n; count = 1 } ∷ row ∷ rows))
+    by true = rows_split (record row { count = row.count + 1 }) rows
+    by false = rows_split (record { processor = n; count = 1 }) (row ∷ rows)
+
+items_are : (n : ℕ) (ns : List ℕ) → numbers_of (order_text (n ∷ ns)) ≡ map row_text (rows_of (n ∷ ns))
+unfolding numbers_of order_text rows_of
+items_are n ns = some_rows n (rows_of ns)
+
+pub read_back : (profile : Profile) (order : List ℕ) → 0 < length order → length order ≤ 999999 → All (λ n. IsTrue (has_processor profile n)) order → listed_steps profile (order_text order) ≡ Some order
+unfolding listed_steps
+read_back profile [] some few all = absurd (omega (arith, some))
+read_back profile (n ∷ ns) some few all =
+    let order = n ∷ ns in
+    let are = steps_are order in
+    ap (λ (texts : List (List ℕ)). option_and_then (λ steps. cond (nat_le (length steps) 999999) (Some steps) None) (all_steps profile texts)) (items_are n ns)
+    ∙ ap (option_and_then (λ steps. cond (nat_le (length steps) 999999) (Some steps) None)) (all_read profile (rows_of order) (rows_exist profile order all) (omega (arith, few, ap length are)) ∙ ap (λ (ks : List ℕ). Some ks) are)
+    ∙ ap (λ (b : Bool). cond b (Some order) None) (le-leb (length order) 999999 few)
+
+-- ---- what is left of an order
+
+Has : Profile → ℕ → Type 0
+Has profile n = IsTrue (has_processor profile n)
+
+turn_has : (profile : Profile) (turn : ℕ) → Has profile (processor_in_turn profile turn)
+unfolding Has
+turn_has profile turn =
+    let place = turn % processors_in profile in
+    let within = rest_within profile turn in
+    let most = most_processors profile in
+    has_at profile place (omega (arith, within, most)) ∙ lt-ltb place (processors_in profile) within
+
+barrel_has : (profile : Profile) (turns : ℕ) → All (Has profile) (barrel profile turns)
+barrel_has profile zero = All-nil (Has profile)
+barrel_has profile (suc turns) = All-push (Has profile) (barrel profile turns) (processor_in_turn profile turns) (barrel_has profile turns) (turn_has profile turns)
+
+left_has : (profile : Profile) (first : List ℕ) (steps : ℕ) → All (Has profile) first → All (Has profile) (order_left first profile steps)
+unfolding order_left
+left_has profile first steps all = All-drop (Has profile) steps (first ++ barrel profile (turns_of_rounds profile (steps - length first))) (All-append (Has profile) first (barrel profile (turns_of_rounds profile (steps - length first))) all (barrel_has profile (turns_of_rounds profile (steps - length first))))
+
+few_left : (profile : Profile) (listed steps : ℕ) → listed ≤ 999999 → listed + turns_of_rounds profile (steps - listed) - steps ≤ 999999
+few_left Ten listed steps few = omega (arith, few)
+few_left Twenty listed steps few = omega (arith, few)
+
+left_few : (profile : Profile) (first : List ℕ) (steps : ℕ) → length first ≤ 999999 → length (order_left first profile steps) ≤ 999999
+unfolding order_left
+left_few profile first steps few =
+    let turns = turns_of_rounds profile (steps - length first) in
+    let all = length-append first (barrel profile turns) in
+    let made = length-barrel profile turns in
+    omega (arith, length-drop steps (first ++ barrel profile turns), all, made, few_left profile (length first) steps few)
+
+pub left_read : (profile : Profile) (first : List ℕ) (steps : ℕ) → length first ≤ 999999 → All (λ n. IsTrue (has_processor profile n)) first → 0 < length (order_left first profile steps)
+    → listed_steps profile (order_text (order_left first profile steps)) ≡ Some (order_left first profile steps)
+unfolding Has
+left_read profile first steps few all some = read_back profile (order_left first profile steps) some (left_few profile first steps few) (left_has profile first steps all)
