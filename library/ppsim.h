@@ -14,7 +14,7 @@ extern "C" {
 enum {
     PPSIM_WRITTEN = 0,    /* out begins with the text, of `length` bytes */
     PPSIM_REFUSED = 1,    /* the deck or the trace, at `line`; or the deck can't be dumped */
-    PPSIM_BAD_NUMBER = 2, /* an argument is out of its range; out is as it was */
+    PPSIM_BAD_NUMBER = 2, /* an argument is out of its range, or no list; out is as it was */
     PPSIM_NO_MEMORY = 4,  /* the memory does not suffice */
     PPSIM_TOO_LONG = 5    /* the text has `length` bytes, more than the room; out is as it was */
 };
@@ -53,35 +53,39 @@ static inline ppsim_memory ppsim_memory_in(void *bytes, size_t size) {
 }
 
 #define PPSIM_DECK_AND_ROOM const uint8_t *deck, size_t deck_length, uint8_t *out, size_t room
+#define PPSIM_RUN const uint8_t *order, size_t order_length, PPSIM_DECK_AND_ROOM
 
 /* processors is 10 or 20, turns 0 to PPSIM_LAST_TURN. */
-ppsim_answer ppsim_barrel(ppsim_memory *, uint32_t processors, uint32_t turns, PPSIM_DECK_AND_ROOM);
 ppsim_answer ppsim_list(ppsim_memory *, uint32_t processors, PPSIM_DECK_AND_ROOM);
-ppsim_answer ppsim_dump(ppsim_memory *, uint32_t processors, uint32_t turns, PPSIM_DECK_AND_ROOM);
-ppsim_answer ppsim_state(ppsim_memory *, uint32_t processors, uint32_t turns, PPSIM_DECK_AND_ROOM);
 ppsim_answer ppsim_ends(ppsim_memory *, uint32_t processors, uint32_t turns, PPSIM_DECK_AND_ROOM);
-ppsim_answer ppsim_sessions(ppsim_memory *, uint32_t processors, uint32_t turns,
-                            PPSIM_DECK_AND_ROOM);
-ppsim_answer ppsim_races(ppsim_memory *, uint32_t processors, uint32_t turns, PPSIM_DECK_AND_ROOM);
+
+/* order lists the processors of the first steps, as "0:3,1": three steps of processor 0, then one
+   of processor 1 (processors in octal, steps in decimal). After these, or if it is empty, the turns
+   of the barrel begin. */
+ppsim_answer ppsim_barrel(ppsim_memory *, uint32_t processors, uint32_t turns, PPSIM_RUN);
+ppsim_answer ppsim_dump(ppsim_memory *, uint32_t processors, uint32_t turns, PPSIM_RUN);
+ppsim_answer ppsim_state(ppsim_memory *, uint32_t processors, uint32_t turns, PPSIM_RUN);
+ppsim_answer ppsim_sessions(ppsim_memory *, uint32_t processors, uint32_t turns, PPSIM_RUN);
+ppsim_answer ppsim_races(ppsim_memory *, uint32_t processors, uint32_t turns, PPSIM_RUN);
 
 /* pp is a processor of the machine, or PPSIM_NAMED; from, as turns, is the first turn shown. */
 ppsim_answer ppsim_steps(ppsim_memory *, uint32_t processors, uint32_t turns, uint8_t pp,
-                         uint32_t from, PPSIM_DECK_AND_ROOM);
+                         uint32_t from, PPSIM_RUN);
 
 /* The words from first to last, which is at most 07777, or 0377777 in central memory. */
 ppsim_answer ppsim_memory_words(ppsim_memory *, uint32_t processors, uint32_t turns, uint8_t pp,
-                                uint32_t first, uint32_t last, PPSIM_DECK_AND_ROOM);
+                                uint32_t first, uint32_t last, PPSIM_RUN);
 ppsim_answer ppsim_central_words(ppsim_memory *, uint32_t processors, uint32_t turns,
-                                 uint32_t first, uint32_t last, PPSIM_DECK_AND_ROOM);
+                                 uint32_t first, uint32_t last, PPSIM_RUN);
 
 /* The turns from one on and before another, at most PPSIM_MOST_DRAWN of them. */
-ppsim_answer ppsim_draw(ppsim_memory *, uint32_t processors, uint32_t from, uint32_t to,
-                        PPSIM_DECK_AND_ROOM);
+ppsim_answer ppsim_draw(ppsim_memory *, uint32_t processors, uint32_t from, uint32_t to, PPSIM_RUN);
 
 /* opened lists channels in octal, as "1,5,13", or none. */
 ppsim_answer ppsim_check(ppsim_memory *, const uint8_t *opened, size_t opened_length,
                          const uint8_t *trace, size_t trace_length, uint8_t *out, size_t room);
 
+#undef PPSIM_RUN
 #undef PPSIM_DECK_AND_ROOM
 
 #ifdef __cplusplus

@@ -12,6 +12,10 @@ PP00 P=0101 A=000005 STOPPED
 >>> ppsim.barrel("PP 12", turns=20)
 Traceback (most recent call last):
 ppsim.Fault: deck fault 5 at line 1
+
+Of those that take an `order` it lists the processors of the first steps of the run, like "0:3,1":
+three steps of processor 0, then one of processor 1 (processors in octal, steps in decimal). After
+these, or without any, the turns of the barrel begin.
 """
 
 import ctypes
@@ -37,7 +41,7 @@ class Fault(Exception):
 
 
 class NumberFault(Fault, ValueError):
-    """A number is out of its range."""
+    """A number is out of its range, or an order lists no steps of the machine."""
 
 
 class MemoryFault(Fault, MemoryError):
@@ -71,23 +75,27 @@ _U8, _U32, _TEXT = ctypes.c_uint8, ctypes.c_uint32, [ctypes.c_char_p, ctypes.c_s
 _NUMBERS = {"barrel": [_U32, _U32], "list": [_U32], "dump": [_U32, _U32], "state": [_U32, _U32],
             "ends": [_U32, _U32], "sessions": [_U32, _U32], "races": [_U32, _U32],
             "memory_words": [_U32, _U32, _U8, _U32, _U32], "central_words": [_U32] * 4,
-            "steps": [_U32, _U32, _U8, _U32], "draw": [_U32, _U32, _U32], "check": _TEXT}
+            "steps": [_U32, _U32, _U8, _U32], "draw": [_U32, _U32, _U32], "check": []}
+_WITHOUT_LIST = ["list", "ends"]
 for _name, _types in _NUMBERS.items():
     _export = getattr(_library, f"ppsim_{_name}")
     _export.restype = _Answer
-    _export.argtypes = [ctypes.POINTER(_Memory), *_types, *_TEXT, *_TEXT]
+    _lists = [] if _name in _WITHOUT_LIST else _TEXT
+    _export.argtypes = [ctypes.POINTER(_Memory), *_types, *_lists, *_TEXT, *_TEXT]
 
 
-def _call(name: str, numbers: list, text: str | bytes) -> str:
+def _call(name: str, numbers: list[int], text: str | bytes, listed: str = "") -> str:
     given = text.encode() if isinstance(text, str) else bytes(text)
     limits = [255 if it is _U8 else 2**32 - 1 for it in _NUMBERS[name]]
-    if name != "check" and any(not 0 <= it <= most for it, most in zip(numbers, limits)):
+    if any(not 0 <= it <= most for it, most in zip(numbers, limits)):
         raise NumberFault("number out of range", _BAD_NUMBER)
+    entries = listed.encode()
+    lists = [] if name in _WITHOUT_LIST else [entries, len(entries)]
     while True:
         memory, out = _buffers.memory, _buffers.out
         size = memory.size
         answer = getattr(_library, f"ppsim_{name}")(
-            ctypes.byref(memory), *numbers, given, len(given), out, len(out))
+            ctypes.byref(memory), *numbers, *lists, given, len(given), out, len(out))
         if answer.status == _TOO_LONG:
             _buffers.set_sizes(size, answer.length)
         elif answer.status == _NO_MEMORY and size < _LAST_SIZE:
@@ -106,9 +114,9 @@ def _call(name: str, numbers: list, text: str | bytes) -> str:
     return words
 
 
-def barrel(deck: str | bytes, *, turns: int, processors: int = 10) -> str:
-    """The events of a run in the barrel, and how processors and channels stand then."""
-    return _call("barrel", [processors, turns], deck)
+def barrel(deck: str | bytes, *, turns: int, processors: int = 10, order: str = "") -> str:
+    """The events of a run, and how processors and channels stand then."""
+    return _call("barrel", [processors, turns], deck, order)
 
 
 def listing(deck: str | bytes, *, processors: int = 10) -> str:
@@ -116,14 +124,14 @@ def listing(deck: str | bytes, *, processors: int = 10) -> str:
     return _call("list", [processors], deck)
 
 
-def dump(deck: str | bytes, *, turns: int, processors: int = 10) -> str:
+def dump(deck: str | bytes, *, turns: int, processors: int = 10, order: str = "") -> str:
     """What the machine holds after a run, as a deck to go on from."""
-    return _call("dump", [processors, turns], deck)
+    return _call("dump", [processors, turns], deck, order)
 
 
-def state(deck: str | bytes, *, turns: int, processors: int = 10) -> str:
+def state(deck: str | bytes, *, turns: int, processors: int = 10, order: str = "") -> str:
     """How things stand after a run, and what it has changed."""
-    return _call("state", [processors, turns], deck)
+    return _call("state", [processors, turns], deck, order)
 
 
 def ends(deck: str | bytes, *, turns: int, processors: int = 10) -> str:
@@ -132,41 +140,41 @@ def ends(deck: str | bytes, *, turns: int, processors: int = 10) -> str:
 
 
 def memory(deck: str | bytes, *, turns: int, pp: int, first: int = 0, last: int = 0o7777,
-           processors: int = 10) -> str:
+           processors: int = 10, order: str = "") -> str:
     """The words of the memory of processor `pp` after a run, from `first` to `last`."""
-    return _call("memory_words", [processors, turns, pp, first, last], deck)
+    return _call("memory_words", [processors, turns, pp, first, last], deck, order)
 
 
 def central(deck: str | bytes, *, turns: int, first: int = 0, last: int = 0o377777,
-            processors: int = 10) -> str:
+            processors: int = 10, order: str = "") -> str:
     """The words of central memory after a run that are not 0, from `first` to `last`."""
-    return _call("central_words", [processors, turns, first, last], deck)
+    return _call("central_words", [processors, turns, first, last], deck, order)
 
 
-def sessions(deck: str | bytes, *, turns: int, processors: int = 10) -> str:
+def sessions(deck: str | bytes, *, turns: int, processors: int = 10, order: str = "") -> str:
     """The sessions of each channel, and what the turns of each processor did."""
-    return _call("sessions", [processors, turns], deck)
+    return _call("sessions", [processors, turns], deck, order)
 
 
-def races(deck: str | bytes, *, turns: int, processors: int = 10) -> str:
+def races(deck: str | bytes, *, turns: int, processors: int = 10, order: str = "") -> str:
     """Which steps race, or that the run tells the result of every order of steps."""
-    return _call("races", [processors, turns], deck)
+    return _call("races", [processors, turns], deck, order)
 
 
 def steps(deck: str | bytes, *, turns: int, pp: int | None = None, start: int = 0,
-          processors: int = 10) -> str:
+          processors: int = 10, order: str = "") -> str:
     """The steps from turn `start` on: of processor `pp`, or of those in use: named by the deck, or waiting at dead start."""
     if pp == _NAMED:
         raise NumberFault("number out of range", _BAD_NUMBER)
-    return _call("steps", [processors, turns, _NAMED if pp is None else pp, start], deck)
+    return _call("steps", [processors, turns, _NAMED if pp is None else pp, start], deck, order)
 
 
-def draw(deck: str | bytes, *, turns: int, start: int = 0, processors: int = 10) -> str:
+def draw(deck: str | bytes, *, turns: int, start: int = 0, processors: int = 10,
+         order: str = "") -> str:
     """An SVG of the turns from `start` on and before `turns`, at most 2,000 of them."""
-    return _call("draw", [processors, start, turns], deck)
+    return _call("draw", [processors, start, turns], deck, order)
 
 
 def check(trace: str | bytes, *, opened: Iterable[int] = ()) -> str:
     """The verdict on a channel trace. The channels of these numbers were open before it."""
-    listed = ",".join(f"{it:o}" for it in opened).encode()
-    return _call("check", [listed, len(listed)], trace)
+    return _call("check", [], trace, ",".join(f"{it:o}" for it in opened))

@@ -5,6 +5,7 @@ const WRITTEN = 0, BAD_NUMBER = 2, NO_MEMORY = 4, TOO_LONG = 5; // statuses of a
 const LAST_TURN = 999999, MOST_DRAWN = 2000, STEPS_SHOWN = 200, MOST_BUTTONS = 2000;
 const MOST_BYTES = 1048577, MOST_IN_ADDRESS = 32768; // the first is one more than a deck may have
 const NAMED = 255; // in place of a processor's number: those in use
+const WITHOUT_LIST = ['list', 'ends']; // the others take a list: channels, or an order of steps
 const LAST_PLACE = 0o7777, LAST_ADDRESS = 0o377777;
 
 // ---- the library
@@ -12,28 +13,28 @@ let library, idle = null;
 const aligned = n => Math.ceil(n / 16) * 16;
 
 /** Calls an export over these bytes. An instance that gave its memory back serves again. */
-function call(name, numbers, input, channels, megabytes = 4) {
+function call(name, numbers, input, list = '', megabytes = 4) {
   const instance = idle ?? new WebAssembly.Instance(library), { exports } = instance;
   if (instance !== idle) exports.memory.grow(BigInt(16 * megabytes));
   idle = null;
   const bytes = new Uint8Array(exports.memory.buffer), view = new DataView(bytes.buffer);
-  // One after another: the answer, where the memory for the work is, a list of channels, the input,
-  // the room for the text, the memory for the work.
-  const listed = bytesOf(channels ?? ''), answer = aligned(Number(exports.__heap_base.value));
-  const memory = answer + 32, list = memory + 16, start = list + listed.length;
+  // One after another: the answer, where the memory for the work is, the list, the input, the room
+  // for the text, the memory for the work.
+  const listed = bytesOf(list), answer = aligned(Number(exports.__heap_base.value));
+  const memory = answer + 32, place = memory + 16, start = place + listed.length;
   const room = aligned(start + input.length), size = aligned((bytes.length - room) / 2) - 16;
   const lent = [room + size, size].map(BigInt);
   lent.forEach((it, n) => view.setBigUint64(memory + 8 * n, it, true));
-  bytes.set(listed, list);
+  bytes.set(listed, place);
   bytes.set(input, start);
-  const first = channels === undefined ? numbers : [BigInt(list), BigInt(listed.length)];
-  exports[`ppsim_${name}`](BigInt(answer), BigInt(memory), ...first,
-    BigInt(start), BigInt(input.length), BigInt(room), BigInt(size));
+  const lists = WITHOUT_LIST.includes(name) ? [] : [place, listed.length].map(BigInt);
+  exports[`ppsim_${name}`](BigInt(answer), BigInt(memory), ...numbers, ...lists, BigInt(start),
+    BigInt(input.length), BigInt(room), BigInt(size));
   const status = view.getUint32(answer, true), line = Number(view.getBigUint64(answer + 8, true));
   const isCut = status === NO_MEMORY || status === TOO_LONG;
   const isBack = lent.every((it, n) => view.getBigUint64(memory + 8 * n, true) === it);
   if (isBack && !isCut && megabytes === 4) idle = instance; // one that has grown does not shrink
-  if (isCut && megabytes < 1024) return call(name, numbers, input, channels, 4 * megabytes);
+  if (isCut && megabytes < 1024) return call(name, numbers, input, list, 4 * megabytes);
   const words = bytes.subarray(room, room + Number(view.getBigUint64(answer + 16, true)));
   const said = isCut ? 'out of memory' : status === BAD_NUMBER ? 'number out of range' : null;
   return { status, line, text: said ?? new TextDecoder().decode(words) };

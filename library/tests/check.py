@@ -9,21 +9,22 @@ sys.path.insert(0, str(folder))
 import ppsim  # noqa: E402
 
 EXAMPLES = pathlib.Path(__file__).resolve().parents[2] / "crates/pages/data/examples"
+ORDER = "1:40,0:3,11,2:2,1"
 CALLS = {
-    "barrel --turns 300": lambda deck, p: ppsim.barrel(deck, turns=300, processors=p),
-    "list": lambda deck, p: ppsim.listing(deck, processors=p),
-    "dump --turns 300": lambda deck, p: ppsim.dump(deck, turns=300, processors=p),
-    "state --turns 123": lambda deck, p: ppsim.state(deck, turns=123, processors=p),
-    "ends --turns 300": lambda deck, p: ppsim.ends(deck, turns=300, processors=p),
+    "barrel --turns 300": lambda deck, **more: ppsim.barrel(deck, turns=300, **more),
+    "list": lambda deck, **more: ppsim.listing(deck, **more),
+    "dump --turns 300": lambda deck, **more: ppsim.dump(deck, turns=300, **more),
+    "state --turns 123": lambda deck, **more: ppsim.state(deck, turns=123, **more),
+    "ends --turns 300": lambda deck, **more: ppsim.ends(deck, turns=300, **more),
     "memory --turns 300 --pp 1 --first 76 --last 210":
-        lambda deck, p: ppsim.memory(deck, turns=300, pp=1, first=0o76, last=0o210, processors=p),
-    "central --turns 300": lambda deck, p: ppsim.central(deck, turns=300, processors=p),
-    "sessions --turns 300": lambda deck, p: ppsim.sessions(deck, turns=300, processors=p),
-    "races --turns 300": lambda deck, p: ppsim.races(deck, turns=300, processors=p),
-    "steps --turns 5000": lambda deck, p: ppsim.steps(deck, turns=5000, processors=p),
+        lambda deck, **more: ppsim.memory(deck, turns=300, pp=1, first=0o76, last=0o210, **more),
+    "central --turns 300": lambda deck, **more: ppsim.central(deck, turns=300, **more),
+    "sessions --turns 300": lambda deck, **more: ppsim.sessions(deck, turns=300, **more),
+    "races --turns 300": lambda deck, **more: ppsim.races(deck, turns=300, **more),
+    "steps --turns 5000": lambda deck, **more: ppsim.steps(deck, turns=5000, **more),
     "steps --turns 90 --pp 1 --from 30":
-        lambda deck, p: ppsim.steps(deck, turns=90, pp=1, start=30, processors=p),
-    "draw --turns 90 --from 30": lambda deck, p: ppsim.draw(deck, turns=90, start=30, processors=p),
+        lambda deck, **more: ppsim.steps(deck, turns=90, pp=1, start=30, **more),
+    "draw --turns 90 --from 30": lambda deck, **more: ppsim.draw(deck, turns=90, start=30, **more),
 }
 differ = same = 0
 
@@ -61,7 +62,11 @@ for path in sorted(EXAMPLES.glob("*.deck")):
     deck = path.read_bytes()
     for processors in (10, 20):
         for words, call in CALLS.items():
-            compare(f"{words} --processors {processors}", deck, lambda: call(deck, processors))
+            line = f"{words} --processors {processors}"
+            compare(line, deck, lambda: call(deck, processors=processors))
+            if words.split()[0] not in ["list", "ends"]:
+                compare(f"{line} --order {ORDER}", deck,
+                        lambda: call(deck, processors=processors, order=ORDER))
 for path in sorted(EXAMPLES.glob("*.text")):
     trace = path.read_bytes()
     compare("check", trace, lambda: ppsim.check(trace))
@@ -70,6 +75,9 @@ raises(ppsim.NumberFault, lambda: ppsim.state("", turns=-1))
 raises(ValueError, lambda: ppsim.state("", turns=2**32 + 5))
 raises(ppsim.NumberFault, lambda: ppsim.steps("", turns=1, pp=255))
 raises(ppsim.NumberFault, lambda: ppsim.memory("", turns=1, pp=0o12))
+raises(ppsim.NumberFault, lambda: ppsim.state("", turns=1, order="12"))
+raises(ppsim.NumberFault, lambda: ppsim.state("", turns=1, order="0,"))
+raises(ppsim.NumberFault, lambda: ppsim.state("", turns=1, order="0:1000000"))
 raises(ppsim.NumberFault, lambda: ppsim.central("", turns=1, last=0o400000))
 raises(ppsim.Fault, lambda: ppsim.listing("\u00e9"))
 print(f"module and program: {same} the same, {differ} differ")

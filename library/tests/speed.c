@@ -11,7 +11,7 @@
 
 extern char **environ;
 static _Alignas(16) unsigned char memory[1 << 22];
-static uint8_t deck[1 << 16], text[1 << 16];
+static uint8_t deck[1 << 16], text[1 << 16], order[1];
 
 static double now(void) {
     struct timespec t;
@@ -41,7 +41,8 @@ int main(int argc, char **argv) {
     long calls = 0, runs = 0;
     ppsim_memory whole = {memory, sizeof memory};
     for (; end - start < 1; calls++, end = now()) {
-        if (ppsim_barrel(&whole, 10, 40, deck, length, text, sizeof text).status) return 2;
+        if (ppsim_barrel(&whole, 10, 40, order, 0, deck, length, text, sizeof text).status)
+            return 2;
     }
     double per_call = (end - start) / (double)calls;
     for (start = end; end - start < 1; runs++, end = now())

@@ -34,6 +34,7 @@ const OPTIONS = {
   check: ['opened'],
 };
 const NAMES = Object.keys(OPTIONS), LAST = { memory: '7777', central: '377777' };
+const hasOrder = name => name in OPTIONS && !['list', 'ends', 'check'].includes(name);
 
 /** The call for these words, or nothing where the library has none, as for what is no number. */
 function callFor([name, ...words], input) {
@@ -41,7 +42,8 @@ function callFor([name, ...words], input) {
   if (!known || words.length % 2) return null;
   for (let n = 0; n < words.length; n += 2) {
     const option = words[n].replace(/^--/, '');
-    if (!known.includes(option) || option in given || words[n + 1] === '') return null;
+    const isKnown = known.includes(option) || (option === 'order' && hasOrder(name));
+    if (!isKnown || option in given || words[n + 1] === '') return null;
     given[option] = words[n + 1];
   }
   if (name === 'check') return () => call(name, [], input, given.opened ?? '');
@@ -62,7 +64,8 @@ function callFor([name, ...words], input) {
     const turns = Number(numbers.pop());
     if (turns < Number(given.to) || turns > 999999) return null;
   }
-  return () => call(name in LAST ? `${name}_words` : name, numbers.map(Number), input);
+  const exported = name in LAST ? `${name}_words` : name;
+  return () => call(exported, numbers.map(Number), input, given.order);
 }
 
 let same = 0, refused = 0, differ = 0, others = 0;
@@ -153,6 +156,15 @@ function changed(bytes) {
   return made;
 }
 
+/** An order of some steps, now and then one that a machine of 10 processors has not. */
+function order() {
+  const items = Array.from({ length: 1 + random(6) }, () => {
+    const number = random(50) ? random(10) : 16 + random(10);
+    return number.toString(8) + (random(2) ? `:${1 + random(12)}` : '');
+  });
+  return items.join(',');
+}
+
 function compareRandom() {
   const examples = path.join(data, 'examples'), names = fs.readdirSync(examples);
   const kept = end => names.filter(it => it.endsWith(end))
@@ -167,6 +179,7 @@ function compareRandom() {
     const isChosen = known.includes('pp') && (name === 'memory' || random(2));
     if (isChosen) words.push('--pp', random(10).toString(8));
     if (known.includes('processors')) words.push('--processors', of);
+    if (hasOrder(name) && random(2)) words.push('--order', order());
     compare(words.map(String), changed(all[random(all.length)]));
   }
 }
@@ -175,21 +188,23 @@ function compareRandom() {
 
 const KEPT = 0xa5;
 
-/** A call with this much memory and this much room; and whether the memory was given back, and
-    nothing else written. */
-function squeezed(name, numbers, input, memory, room) {
+/** A call with this much memory and this much room, and with this order, if it takes one; and
+    whether the memory was given back, and nothing else written. */
+function squeezed(name, numbers, input, memory, room, order = '') {
   const { exports } = new WebAssembly.Instance(library);
   exports.memory.grow(BigInt(1024));
   const bytes = new Uint8Array(exports.memory.buffer), view = new DataView(bytes.buffer);
   const aligned = n => Math.ceil(n / 16) * 16;
   const answer = aligned(Number(exports.__heap_base.value)), place = answer + 32;
-  const start = place + 16, end = start + input.length, out = aligned(end) + 16;
+  const list = place + 16, start = list + order.length, end = start + input.length;
+  const out = aligned(end) + 16, lists = name === 'list' ? [] : [list, order.length].map(BigInt);
   const work = aligned(out + room) + 16;
   bytes.fill(KEPT, answer);
+  bytes.set(Buffer.from(order), list);
   bytes.set(input, start);
   view.setBigUint64(place, BigInt(work), true);
   view.setBigUint64(place + 8, BigInt(memory), true);
-  exports[`ppsim_${name}`](BigInt(answer), BigInt(place), ...numbers,
+  exports[`ppsim_${name}`](BigInt(answer), BigInt(place), ...numbers, ...lists,
     BigInt(start), BigInt(input.length), BigInt(out), BigInt(room));
   const isKept = (from, to) => bytes.subarray(from, to).every(it => it === KEPT);
   const isBack = view.getBigUint64(place, true) === BigInt(work)
@@ -224,6 +239,11 @@ function squeeze() {
     const { status, isInside } = squeezed('state', [10, 40], deck, memory, 4096);
     expect(`memory of ${memory}`, status === 4 && isInside);
   }
+  const long = '0:999999', little = 1 << 20;
+  for (const [order, memory, status] of [['', little, 0], [long, little, 4], [long, ample, 0]]) {
+    const it = squeezed('barrel', [10, 40], deck, memory, 4096, order);
+    expect(`the order ${order} in memory of ${memory}`, it.status === status && it.isInside);
+  }
   for (const size of [1048576, 1048577, 1500000]) {
     const { status, isInside } = squeezed('list', [10], Buffer.alloc(size, '* '), 1 << 24, 4096);
     expect(`a deck of ${size}`, status === (size > 1048576 ? 1 : 0) && isInside);
@@ -241,6 +261,10 @@ function squeeze() {
       const { status, isInside, isKept } = squeezed(name, numbers, deck, ample, 64);
       expect(`${name} ${numbers}`, status === 2 && isInside && isKept);
     }
+  }
+  for (const order of ['12', '0,', ',', ' ', '0:', ':3', '0:0', '000', '0:1000000', `${long},0`]) {
+    const { status, isInside, isKept } = squeezed('state', [10, 40], deck, ample, 64, order);
+    expect(`the order ${order}`, status === 2 && isInside && isKept);
   }
 }
 

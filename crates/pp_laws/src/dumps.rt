@@ -31,7 +31,8 @@ pub fn goes_on_law()
 
 /// An order of steps is read by `--order` as it is printed, if it has steps, and no more than a run
 /// has, each of a processor of the machine. So a dump names the very order that is left.
-#[tactic(auto, using(crate::proofs::OrderReadLemmas::read_back, crate::proofs::OrderReadLemmas::left_read))]
+#[tactic(auto, using(crate::proofs::OrderReadLemmas::read_back, // any order, and what is left
+crate::proofs::OrderReadLemmas::left_read))]
 pub fn order_text_law()
     ensures order { (profile : Profile) (order : List ℕ)
         → 0 < length order → length order ≤ 999999

@@ -88,7 +88,8 @@ pub fn races_text_law()
         → IsQuiet (run others deck.machine)
         → AreAlike (run others deck.machine)
         (run (run_of first turns deck) deck.machine) }
-    ensures going_on { (first : List ℕ) (turns : ℕ) (deck : LoadedDeck) (text before others : List ℕ)
+    ensures going_on { (first : List ℕ) (turns : ℕ) (deck : LoadedDeck)
+        (text before others : List ℕ)
         → IsRacesText first turns deck text → text ≡ before ++ verdict_line Same
         → IsEmbeddedIn (run_of first turns deck) others
         → AreAlike (run others deck.machine)

@@ -1,9 +1,10 @@
 -- What a host learns of a work, and what stands in its room then.
-use Rattle.std.specs.Prelude.{◌≡◌, ◌≤◌, ◌<◌, ℕ, Bool, List, [], ◌++◌, length, drop, Option, Some, Result, Ok, Err, ◌⊎◌}
+use Rattle.std.specs.Prelude.{◌≡◌, ◌≤◌, ◌<◌, ℕ, Bool, List, [], ◌++◌, length, drop, MatchOption, Option, Some, Result, Ok, Err, ◌⊎◌}
 use Rattle.pp_sim.specs.Program.{IsDone}
 use Rattle.pp_sim.specs.declared.text_fault.TextFault.{TextFault}
-use Rattle.pp_command.specs.declared.work.Work.{Work}
-use Rattle.ppsim_library.specs.Numbers.{AreChannels}
+use Rattle.pp_command.specs.declared.{text_of.TextOf.TextOf, work.Work.Work}
+use Rattle.pp_numbers.specs.declared.profile.Profile.{Profile}
+use Rattle.ppsim_library.specs.Numbers.{AreChannels, order_of}
 use Rattle.ppsim_library.specs.declared.answer.Answer.{Answer}
 
 -- every work but that with one thread per processor
@@ -52,21 +53,31 @@ Shows (Ok done) text a old new = IsWritten text a old new
 Shows (Err f) text a old new = IsRefused f a old new
 
 -- THE PROMISE: the work was done over these bytes, as the program does it over its input, onto an
--- empty output; and its outcome and its text show in the answer and in the room
-pub record Tells (work : Work) (input : List ℕ) (a : Answer) (old new : List ℕ) : Type 0 where
+-- empty output, and if it has a run, these processors came first in it; its outcome and its text
+-- show in the answer and in the room
+pub record Tells (first : List ℕ) (work : Work) (input : List ℕ) (a : Answer) (old new : List ℕ) :
+    Type 0 where
   pub outcome : Result (Unit {0}) TextFault
   pub text : List ℕ
   pub after : Option (List ℕ)
-  pub done : IsDone (Unit {0}) work [] outcome (Some input) after (Some []) (Some text)
+  pub done : IsDone (Unit {0}) work first outcome (Some input) after (Some []) (Some text)
   pub shown : Shows outcome text a old new
 
 -- a number is out of its range, and the room is as it was
 abbrev pub RefusesNumber : Answer → (old new : List ℕ) → Type 0
 RefusesNumber a old new = (a.status ≡ 2) × (a.line ≡ 0) × (a.length ≡ 0) × (new ≡ old)
 
+-- THE PROMISE of a call on a deck that is run: it makes this text, in whose run the processors of
+-- a list come first, or refuses what is no list of steps; or memory for the list was refused
+abbrev pub TellsInOrder : Profile → List ℕ → TextOf → List ℕ → Answer → (old new : List ℕ) → Type 0
+TellsInOrder profile order text deck a old new =
+    MatchOption (order_of profile order) (RefusesNumber a old new)
+    (λ first. Tells first (Work.Deck profile text) deck a old new)
+    ⊎ IsRefused TextFault.Memory a old new
+
 -- THE PROMISE of a call on a trace: the answer gives the outcome of its check, begun with the
 -- channels of a list open, or refuses what is no list of channels
 abbrev pub TellsOfTrace : List ℕ → List ℕ → Answer → (old new : List ℕ) → Type 0
 TellsOfTrace listed trace a old new =
-    ((flags : List Bool) × AreChannels listed flags × Tells (Work.Check flags) trace a old new)
+    ((flags : List Bool) × AreChannels listed flags × Tells [] (Work.Check flags) trace a old new)
     ⊎ (RefusesNumber a old new × ((flags : List Bool) → AreChannels listed flags → ⊥))

@@ -2,6 +2,7 @@
 use Rattle.std.specs.Prelude.{◌≡◌, ℕ, ◌-◌, ◌==◌, ◌&&◌, Bool, true, false, nat_le, nat_lt, List, [], ◌∷◌, replicate, slice_set, Option, None, Some, if◌then◌else◌}
 use Rattle.pp_numbers.specs.ChannelNo.{channel_count}
 use Rattle.pp_command.specs.ChannelList.{AreListed}
+use Rattle.pp_command.specs.OrderList.{listed_steps}
 use Rattle.pp_numbers.specs.declared.{bounds.Bounds.Bounds, window.Window.Window, profile.Profile.Profile}
 use Rattle.pp_numbers.specs.PpNo.{processor_count, processor_index}
 use Rattle.pp_numbers.specs.Profile.{has_processor}
@@ -37,6 +38,12 @@ bounds_of size first last = if nat_le first last && nat_lt last size
 abbrev pub window_of : ℕ → ℕ → Option Window
 window_of from to = if nat_le from to && nat_le (to - from) 2000
     then Some (record { from = from; to = to }) else None
+
+-- the processors of the first steps that a text lists, or none if it is empty; nothing if it is no
+-- list of steps
+abbrev pub order_of : Profile → List ℕ → Option (List ℕ)
+order_of profile [] = Some []
+order_of profile (b ∷ bs) = listed_steps profile (b ∷ bs)
 
 -- these flags are those of the channels in this list, or of none if it is empty
 abbrev pub AreChannels : List ℕ → List Bool → Type 0

@@ -11,8 +11,8 @@ use std::alloc::Allocator;
 #[derive(Clone, Copy)]
 pub struct Answer {
     /// 0: the text is written. 1: the deck or the trace is refused, or the deck can't be dumped as
-    /// it stands. 2: a number is out of its range, or a list is no list of channels. 4: memory was
-    /// refused. 5: the text is longer than the room for it, and nothing is written.
+    /// it stands. 2: a number is out of its range, or a list is no list of channels or of steps. 4:
+    /// memory was refused. 5: the text is longer than the room for it, and nothing is written.
     pub status: u32,
     /// The line at which a deck or a trace is refused, from 1 on (decimal); 0 if no line is.
     pub line: u64,

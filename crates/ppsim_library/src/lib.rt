@@ -1,46 +1,70 @@
 //! The simulator for hosts that are not Rattle: for C, what calls C, and as a WebAssembly module.
 //! Each call works in memory that its host lends, and gives it back or says that it keeps it.
+//! A call that runs a deck, but `ppsim_ends`, takes the processors of the first steps by a list
+//! `order`, like `0:3,1` (processors in octal, and how many steps each makes, in decimal); in an
+//! empty one none comes first, and the run is in the barrel.
 #![tactic(auto)]
 
 mod answer;
 mod numbers;
 mod over_bytes;
 
-ghost use Rattle.std.specs.Prelude.{◌≡◌, MatchOption, None, false, max};
+ghost use Rattle.std.specs.Prelude.{◌≡◌, MatchOption, None, [], false, max};
 ghost use Rattle.fixed_arena.specs.Lending.{IsGivenBack};
-ghost use Rattle.ppsim_library.specs.Answered.{NeedsNoThreads, RefusesNumber, Tells, TellsOfTrace};
+ghost use Rattle.ppsim_library.specs.Answered.{NeedsNoThreads, RefusesNumber, Tells, TellsInOrder, TellsOfTrace};
 ghost use Rattle.ppsim_library.specs.Numbers.{bounds_of, only_of, processor_of, profile_of, window_of};
 ghost use Rattle.pp_command.specs.declared.{text_of.TextOf.TextOf, work.Work.Work};
 
 use crate::answer::{Answer, refused_number};
 use crate::numbers::{bounds_of, channels_of, only_of, processor_of, profile_of, window_of};
-use crate::over_bytes::tell;
+use crate::over_bytes::{tell, tell_in_order};
 use fixed_arena::{Memory, Slot, arena_in};
+use pp_numbers::Profile;
 use pp_sim::{ChosenSteps, TextOf, Work};
 
 /// Does this work in the memory, and gives it back, or leaves its place empty.
 fn tell_in(memory: &mut Memory, work: Work, input: &[u8], out: &mut [u8]) -> Answer
     requires { NeedsNoThreads work }
-    ensures done { Tells work input.now result out.old out.new }
+    ensures done { Tells [] work input.now result out.old out.new }
     ensures memory { IsGivenBack memory.old memory.new }
 {
     let slot = Slot::take_from(memory);
-    let answer = tell(&arena_in(&slot), work, input, out);
+    let answer = tell(&arena_in(&slot), work, &[], input, out);
     slot.give_back(memory);
     answer
 }
 
-/// The text of a run of `turns` turns in the barrel.
+/// Makes this text of a deck in the memory, with the processors of a list first in its run, and
+/// gives the memory back, or leaves its place empty.
+fn run_in(
+    memory: &mut Memory,
+    profile: Profile,
+    order: &[u8],
+    text: TextOf,
+    deck: &[u8],
+    out: &mut [u8],
+) -> Answer
+    ensures done { TellsInOrder profile order.now text deck.now result out.old out.new }
+    ensures memory { IsGivenBack memory.old memory.new }
+{
+    let slot = Slot::take_from(memory);
+    let answer = tell_in_order(&arena_in(&slot), profile, order, text, deck, out);
+    slot.give_back(memory);
+    answer
+}
+
+/// The text of a run of `turns` turns.
 #[unsafe(no_mangle)]
 pub extern "C" fn ppsim_barrel(
     memory: &mut Memory,
     processors: u32,
     turns: u32,
+    order: &[u8],
     deck: &[u8],
     out: &mut [u8],
 ) -> Answer
     ensures done { MatchOption (profile_of processors turns) (RefusesNumber result out.old out.new)
-        (λ profile. Tells (Work.Deck profile (TextOf.Barrel turns)) deck.now
+        (λ profile. TellsInOrder profile order.now (TextOf.Barrel turns) deck.now
         result out.old out.new) }
     ensures memory { IsGivenBack memory.old memory.new }
 {
@@ -48,7 +72,7 @@ pub extern "C" fn ppsim_barrel(
         return refused_number();
     };
     let text = TextOf::Barrel(turns);
-    tell_in(memory, Work::Deck { profile, text }, deck, out)
+    run_in(memory, profile, order, text, deck, out)
 }
 
 /// The listing. Nothing is run.
@@ -60,7 +84,7 @@ pub extern "C" fn ppsim_list(
     out: &mut [u8],
 ) -> Answer
     ensures done { MatchOption (profile_of processors 0) (RefusesNumber result out.old out.new)
-        (λ profile. Tells (Work.Deck profile TextOf.List) deck.now result out.old out.new) }
+        (λ profile. Tells [] (Work.Deck profile TextOf.List) deck.now result out.old out.new) }
     ensures memory { IsGivenBack memory.old memory.new }
 {
     let Some(profile) = profile_of(processors, 0) else {
@@ -76,11 +100,12 @@ pub extern "C" fn ppsim_dump(
     memory: &mut Memory,
     processors: u32,
     turns: u32,
+    order: &[u8],
     deck: &[u8],
     out: &mut [u8],
 ) -> Answer
     ensures done { MatchOption (profile_of processors turns) (RefusesNumber result out.old out.new)
-        (λ profile. Tells (Work.Deck profile (TextOf.Dump turns)) deck.now
+        (λ profile. TellsInOrder profile order.now (TextOf.Dump turns) deck.now
         result out.old out.new) }
     ensures memory { IsGivenBack memory.old memory.new }
 {
@@ -88,7 +113,7 @@ pub extern "C" fn ppsim_dump(
         return refused_number();
     };
     let text = TextOf::Dump(turns);
-    tell_in(memory, Work::Deck { profile, text }, deck, out)
+    run_in(memory, profile, order, text, deck, out)
 }
 
 /// The state report after `turns` turns.
@@ -97,11 +122,12 @@ pub extern "C" fn ppsim_state(
     memory: &mut Memory,
     processors: u32,
     turns: u32,
+    order: &[u8],
     deck: &[u8],
     out: &mut [u8],
 ) -> Answer
     ensures done { MatchOption (profile_of processors turns) (RefusesNumber result out.old out.new)
-        (λ profile. Tells (Work.Deck profile (TextOf.State turns)) deck.now
+        (λ profile. TellsInOrder profile order.now (TextOf.State turns) deck.now
         result out.old out.new) }
     ensures memory { IsGivenBack memory.old memory.new }
 {
@@ -109,7 +135,7 @@ pub extern "C" fn ppsim_state(
         return refused_number();
     };
     let text = TextOf::State(turns);
-    tell_in(memory, Work::Deck { profile, text }, deck, out)
+    run_in(memory, profile, order, text, deck, out)
 }
 
 /// How a run ends, as far as `turns` turns show.
@@ -122,7 +148,7 @@ pub extern "C" fn ppsim_ends(
     out: &mut [u8],
 ) -> Answer
     ensures done { MatchOption (profile_of processors turns) (RefusesNumber result out.old out.new)
-        (λ profile. Tells (Work.Deck profile (TextOf.Ends turns)) deck.now
+        (λ profile. Tells [] (Work.Deck profile (TextOf.Ends turns)) deck.now
         result out.old out.new) }
     ensures memory { IsGivenBack memory.old memory.new }
 {
@@ -143,13 +169,14 @@ pub extern "C" fn ppsim_memory_words(
     pp: u8,
     first: u32,
     last: u32,
+    order: &[u8],
     deck: &[u8],
     out: &mut [u8],
 ) -> Answer
     ensures done { MatchOption (profile_of processors turns) (RefusesNumber result out.old out.new)
         (λ profile. MatchOption (processor_of profile pp) (RefusesNumber result out.old out.new)
         (λ n. MatchOption (bounds_of 0o10000 first last) (RefusesNumber result out.old out.new)
-        (λ bounds. Tells (Work.Deck profile (TextOf.Memory turns n bounds)) deck.now
+        (λ bounds. TellsInOrder profile order.now (TextOf.Memory turns n bounds) deck.now
         result out.old out.new))) }
     ensures memory { IsGivenBack memory.old memory.new }
 {
@@ -167,7 +194,7 @@ pub extern "C" fn ppsim_memory_words(
         processor,
         bounds,
     };
-    tell_in(memory, Work::Deck { profile, text }, deck, out)
+    run_in(memory, profile, order, text, deck, out)
 }
 
 /// The central words that are not 0 after `turns` turns, at the addresses from `first` to `last`,
@@ -179,13 +206,14 @@ pub extern "C" fn ppsim_central_words(
     turns: u32,
     first: u32,
     last: u32,
+    order: &[u8],
     deck: &[u8],
     out: &mut [u8],
 ) -> Answer
     ensures done { MatchOption (profile_of processors turns) (RefusesNumber result out.old out.new)
         (λ profile. MatchOption (bounds_of 0o400000 first last)
         (RefusesNumber result out.old out.new)
-        (λ bounds. Tells (Work.Deck profile (TextOf.Central turns bounds)) deck.now
+        (λ bounds. TellsInOrder profile order.now (TextOf.Central turns bounds) deck.now
         result out.old out.new)) }
     ensures memory { IsGivenBack memory.old memory.new }
 {
@@ -196,7 +224,7 @@ pub extern "C" fn ppsim_central_words(
         return refused_number();
     };
     let text = TextOf::Central { turns, bounds };
-    tell_in(memory, Work::Deck { profile, text }, deck, out)
+    run_in(memory, profile, order, text, deck, out)
 }
 
 /// The sessions of a run of `turns` turns.
@@ -205,11 +233,12 @@ pub extern "C" fn ppsim_sessions(
     memory: &mut Memory,
     processors: u32,
     turns: u32,
+    order: &[u8],
     deck: &[u8],
     out: &mut [u8],
 ) -> Answer
     ensures done { MatchOption (profile_of processors turns) (RefusesNumber result out.old out.new)
-        (λ profile. Tells (Work.Deck profile (TextOf.Sessions turns false)) deck.now
+        (λ profile. TellsInOrder profile order.now (TextOf.Sessions turns false) deck.now
         result out.old out.new) }
     ensures memory { IsGivenBack memory.old memory.new }
 {
@@ -220,7 +249,7 @@ pub extern "C" fn ppsim_sessions(
         turns,
         words: false,
     };
-    tell_in(memory, Work::Deck { profile, text }, deck, out)
+    run_in(memory, profile, order, text, deck, out)
 }
 
 /// The races of a run of `turns` turns.
@@ -229,11 +258,12 @@ pub extern "C" fn ppsim_races(
     memory: &mut Memory,
     processors: u32,
     turns: u32,
+    order: &[u8],
     deck: &[u8],
     out: &mut [u8],
 ) -> Answer
     ensures done { MatchOption (profile_of processors turns) (RefusesNumber result out.old out.new)
-        (λ profile. Tells (Work.Deck profile (TextOf.Races turns)) deck.now
+        (λ profile. TellsInOrder profile order.now (TextOf.Races turns) deck.now
         result out.old out.new) }
     ensures memory { IsGivenBack memory.old memory.new }
 {
@@ -241,7 +271,7 @@ pub extern "C" fn ppsim_races(
         return refused_number();
     };
     let text = TextOf::Races(turns);
-    tell_in(memory, Work::Deck { profile, text }, deck, out)
+    run_in(memory, profile, order, text, deck, out)
 }
 
 /// The steps of a run of `turns` turns, from turn `from` on: of processor `pp` alone, or at 255
@@ -253,18 +283,19 @@ pub extern "C" fn ppsim_steps(
     turns: u32,
     pp: u8,
     from: u32,
+    order: &[u8],
     deck: &[u8],
     out: &mut [u8],
 ) -> Answer
     ensures done { MatchOption (profile_of processors (max turns from))
         (RefusesNumber result out.old out.new)
         (λ profile. MatchOption (only_of profile pp) (RefusesNumber result out.old out.new)
-        (λ only. Tells (Work.Deck profile (TextOf.Steps turns (record {
+        (λ only. TellsInOrder profile order.now (TextOf.Steps turns (record {
           processors = only;
           channels = None;
           from = from;
           to = turns;
-        }))) deck.now
+        })) deck.now
         result out.old out.new)) }
     ensures memory { IsGivenBack memory.old memory.new }
 {
@@ -283,7 +314,7 @@ pub extern "C" fn ppsim_steps(
             to: turns,
         },
     };
-    tell_in(memory, Work::Deck { profile, text }, deck, out)
+    run_in(memory, profile, order, text, deck, out)
 }
 
 /// The drawing of the turns from `from` up to but not including `to`.
@@ -293,12 +324,13 @@ pub extern "C" fn ppsim_draw(
     processors: u32,
     from: u32,
     to: u32,
+    order: &[u8],
     deck: &[u8],
     out: &mut [u8],
 ) -> Answer
     ensures done { MatchOption (profile_of processors to) (RefusesNumber result out.old out.new)
         (λ profile. MatchOption (window_of from to) (RefusesNumber result out.old out.new)
-        (λ window. Tells (Work.Deck profile (TextOf.Draw window)) deck.now
+        (λ window. TellsInOrder profile order.now (TextOf.Draw window) deck.now
         result out.old out.new)) }
     ensures memory { IsGivenBack memory.old memory.new }
 {
@@ -309,7 +341,7 @@ pub extern "C" fn ppsim_draw(
         return refused_number();
     };
     let text = TextOf::Draw(window);
-    tell_in(memory, Work::Deck { profile, text }, deck, out)
+    run_in(memory, profile, order, text, deck, out)
 }
 
 /// The check of a channel trace. The channels of the list `opened`, like `1,5,13` (octal), are open

@@ -1,10 +1,11 @@
 //! The numbers that a host passes.
 
-ghost use Rattle.std.specs.Prelude.{◌≡◌, Bool, List, MatchOption};
-ghost use Rattle.ppsim_library.specs.Numbers.{AreChannels, bounds_of, only_of, processor_of, profile_of, window_of};
+ghost use Rattle.std.specs.Prelude.{◌≡◌, Bool, IfOk, List, MatchOption, option_map};
+ghost use Rattle.ppsim_library.specs.Numbers.{AreChannels, bounds_of, only_of, order_of, processor_of, profile_of, window_of};
 
-use pp_command::listed_channels;
+use pp_command::{listed_channels, listed_order};
 use pp_numbers::{Bounds, CHANNELS, MOST_TURNS, PROCESSORS, PpNo, Profile, Window};
+use std::alloc::{AllocError, Allocator};
 
 /// The last turn of a run (decimal).
 const LAST_TURN: u32 = 999_999;
@@ -66,6 +67,23 @@ pub fn window_of(from: u32, to: u32) -> Option<Window>
     } else {
         None
     }
+}
+
+/// The processors of the first steps, by a list like `0:3,1,11:20` (numbers of processors in octal,
+/// of steps in decimal), or none if the list is empty; nothing if it is no list of steps of this
+/// machine.
+pub fn order_of<A: Allocator>(
+    alloc: A,
+    profile: Profile,
+    listed: &[u8],
+) -> Result<Option<Vec<PpNo, A>>, AllocError>
+    ensures { IfOk result (λ order. option_map (λ first. first.items) order
+        ≡ order_of profile listed.now) }
+{
+    if listed.is_empty() {
+        return Ok(Some(Vec::new(alloc)));
+    }
+    listed_order(alloc, profile, listed)
 }
 
 /// The channels of a list like `1,5,13` (octal), by flags in the order of their places; no channel

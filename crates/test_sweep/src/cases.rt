@@ -7,7 +7,7 @@ use test_bench::{HANDOFF, LOST_AND_WAITING};
 pub(crate) type Case = (&'static [&'static str], &'static str, u64);
 
 /// Command lines that are done, or whose deck or trace is refused.
-pub(crate) const CASES: [Case; 20] = [
+pub(crate) const CASES: [Case; 22] = [
     (&["ppsim", "barrel", "--turns", "40"], HANDOFF, 5),
     (
         &["ppsim", "barrel", "--turns", "80", "--processors", "20"],
@@ -16,12 +16,18 @@ pub(crate) const CASES: [Case; 20] = [
     ),
     (&["ppsim", "list"], CENTRAL_AND_WAITING, 5),
     (&["ppsim", "dump", "--turns", "20"], LOOP, 4),
+    (&["ppsim", "dump", "--turns", "21"], LOOP, 5),
     (
         &["ppsim", "steps", "--turns", "40", "--pp", "1"],
         HANDOFF,
         6,
     ),
     (&["ppsim", "state", "--turns", "40"], HANDOFF, 5),
+    (
+        &["ppsim", "state", "--turns", "40", "--order", "0:3,1"],
+        HANDOFF,
+        5,
+    ),
     (&["ppsim", "ends", "--turns", "40"], HANDOFF, 5),
     (
         &["ppsim", "memory", "--turns", "40", "--pp", "1"],
