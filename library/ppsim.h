@@ -22,6 +22,7 @@ enum {
 enum {
     PPSIM_LAST_TURN = 999999,
     PPSIM_MOST_DRAWN = 2000, /* turns in a drawing */
+    PPSIM_MOST_STATES = 9999999,
     PPSIM_NAMED = 255        /* in place of a processor's number: those in use */
 };
 
@@ -58,6 +59,10 @@ static inline ppsim_memory ppsim_memory_in(void *bytes, size_t size) {
 /* processors is 10 or 20, turns 0 to PPSIM_LAST_TURN. */
 ppsim_answer ppsim_list(ppsim_memory *, uint32_t processors, PPSIM_DECK_AND_ROOM);
 ppsim_answer ppsim_ends(ppsim_memory *, uint32_t processors, uint32_t turns, PPSIM_DECK_AND_ROOM);
+
+/* states is 1 to PPSIM_MOST_STATES: how many standings are kept at most. */
+ppsim_answer ppsim_orders(ppsim_memory *, uint32_t processors, uint32_t states,
+                          PPSIM_DECK_AND_ROOM);
 
 /* order lists the processors of the first steps, as "0:3,1": three steps of processor 0, then one
    of processor 1 (processors in octal, steps in decimal). After these, or if it is empty, the turns

@@ -24,7 +24,7 @@ import threading
 from collections.abc import Iterable
 
 __all__ = ["Fault", "MemoryFault", "NumberFault", "barrel", "central", "check", "draw", "dump",
-           "ends", "listing", "memory", "races", "sessions", "state", "steps"]
+           "ends", "listing", "memory", "orders", "races", "sessions", "state", "steps"]
 
 _BAD_NUMBER, _NO_MEMORY, _TOO_LONG = 2, 4, 5
 _NAMED = 255
@@ -73,10 +73,11 @@ _buffers = _Buffers()
 _library = ctypes.CDLL(str(pathlib.Path(__file__).with_name("libppsim.so")))
 _U8, _U32, _TEXT = ctypes.c_uint8, ctypes.c_uint32, [ctypes.c_char_p, ctypes.c_size_t]
 _NUMBERS = {"barrel": [_U32, _U32], "list": [_U32], "dump": [_U32, _U32], "state": [_U32, _U32],
-            "ends": [_U32, _U32], "sessions": [_U32, _U32], "races": [_U32, _U32],
+            "ends": [_U32, _U32], "orders": [_U32, _U32], "sessions": [_U32, _U32],
+            "races": [_U32, _U32],
             "memory_words": [_U32, _U32, _U8, _U32, _U32], "central_words": [_U32] * 4,
             "steps": [_U32, _U32, _U8, _U32], "draw": [_U32, _U32, _U32], "check": []}
-_WITHOUT_LIST = ["list", "ends"]
+_WITHOUT_LIST = ["list", "ends", "orders"]
 for _name, _types in _NUMBERS.items():
     _export = getattr(_library, f"ppsim_{_name}")
     _export.restype = _Answer
@@ -159,6 +160,11 @@ def sessions(deck: str | bytes, *, turns: int, processors: int = 10, order: str 
 def races(deck: str | bytes, *, turns: int, processors: int = 10, order: str = "") -> str:
     """Which steps race, or that the run tells the result of every order of steps."""
     return _call("races", [processors, turns], deck, order)
+
+
+def orders(deck: str | bytes, *, states: int, processors: int = 10) -> str:
+    """All endings over every order of steps, as far as this many standings show."""
+    return _call("orders", [processors, states], deck)
 
 
 def steps(deck: str | bytes, *, turns: int, pp: int | None = None, start: int = 0,

@@ -21,6 +21,7 @@ CALLS = {
     "central --turns 300": lambda deck, **more: ppsim.central(deck, turns=300, **more),
     "sessions --turns 300": lambda deck, **more: ppsim.sessions(deck, turns=300, **more),
     "races --turns 300": lambda deck, **more: ppsim.races(deck, turns=300, **more),
+    "orders --states 300": lambda deck, **more: ppsim.orders(deck, states=300, **more),
     "steps --turns 5000": lambda deck, **more: ppsim.steps(deck, turns=5000, **more),
     "steps --turns 90 --pp 1 --from 30":
         lambda deck, **more: ppsim.steps(deck, turns=90, pp=1, start=30, **more),
@@ -64,7 +65,7 @@ for path in sorted(EXAMPLES.glob("*.deck")):
         for words, call in CALLS.items():
             line = f"{words} --processors {processors}"
             compare(line, deck, lambda: call(deck, processors=processors))
-            if words.split()[0] not in ["list", "ends"]:
+            if words.split()[0] not in ["list", "ends", "orders"]:
                 compare(f"{line} --order {ORDER}", deck,
                         lambda: call(deck, processors=processors, order=ORDER))
 for path in sorted(EXAMPLES.glob("*.text")):
@@ -73,6 +74,7 @@ for path in sorted(EXAMPLES.glob("*.text")):
     compare("check --opened 1,13", trace, lambda: ppsim.check(trace, opened=[1, 0o13]))
 raises(ppsim.NumberFault, lambda: ppsim.state("", turns=-1))
 raises(ValueError, lambda: ppsim.state("", turns=2**32 + 5))
+raises(ppsim.NumberFault, lambda: ppsim.orders("", states=0))
 raises(ppsim.NumberFault, lambda: ppsim.steps("", turns=1, pp=255))
 raises(ppsim.NumberFault, lambda: ppsim.memory("", turns=1, pp=0o12))
 raises(ppsim.NumberFault, lambda: ppsim.state("", turns=1, order="12"))

@@ -78,6 +78,13 @@ static void numbers(void) {
         expect(it.status == PPSIM_BAD_NUMBER && is_kept(text, ROOM), "a run's numbers", i);
         expect_back(MEMORY);
     }
+    static const uint32_t searches[][2] = {{10, 0}, {11, 1}, {10, 10000000}, {20, UINT32_MAX}};
+    for (size_t i = 0; i < sizeof searches / sizeof *searches; i++) {
+        ppsim_answer it = ppsim_orders(memory_of(MEMORY), searches[i][0], searches[i][1], deck,
+                                       deck_size, text, ROOM);
+        expect(it.status == PPSIM_BAD_NUMBER && is_kept(text, ROOM), "a search's numbers", i);
+        expect_back(MEMORY);
+    }
     for (size_t i = 0; i < sizeof windows / sizeof *windows; i++) {
         ppsim_answer it = ppsim_draw(memory_of(MEMORY), 10, windows[i][0], windows[i][1], none, 0,
                                      deck, deck_size, text, ROOM);

@@ -28,13 +28,14 @@ WebAssembly.Memory.prototype.grow = function (pages) {
 const OPTIONS = {
   barrel: ['processors', 'turns'], dump: ['processors', 'turns'], state: ['processors', 'turns'],
   sessions: ['processors', 'turns'], races: ['processors', 'turns'], list: ['processors'],
-  ends: ['processors', 'turns'], memory: ['processors', 'turns', 'pp', 'first', 'last'],
+  ends: ['processors', 'turns'], orders: ['processors', 'states'],
+  memory: ['processors', 'turns', 'pp', 'first', 'last'],
   central: ['processors', 'turns', 'first', 'last'],
   steps: ['processors', 'turns', 'pp', 'from'], draw: ['processors', 'from', 'to', 'turns'],
   check: ['opened'],
 };
 const NAMES = Object.keys(OPTIONS), LAST = { memory: '7777', central: '377777' };
-const hasOrder = name => name in OPTIONS && !['list', 'ends', 'check'].includes(name);
+const hasOrder = name => name in OPTIONS && !['list', 'ends', 'orders', 'check'].includes(name);
 
 /** The call for these words, or nothing where the library has none, as for what is no number. */
 function callFor([name, ...words], input) {
@@ -175,6 +176,7 @@ function compareRandom() {
     const all = name === 'check' ? traces : decks, known = OPTIONS[name];
     const words = [name];
     if (known.includes('turns')) words.push('--turns', turns);
+    if (known.includes('states')) words.push('--states', 1 + random(300));
     if (known.includes('from')) words.push('--from', random(turns + 1));
     const isChosen = known.includes('pp') && (name === 'memory' || random(2));
     if (isChosen) words.push('--pp', random(10).toString(8));
@@ -197,7 +199,8 @@ function squeezed(name, numbers, input, memory, room, order = '') {
   const aligned = n => Math.ceil(n / 16) * 16;
   const answer = aligned(Number(exports.__heap_base.value)), place = answer + 32;
   const list = place + 16, start = list + order.length, end = start + input.length;
-  const out = aligned(end) + 16, lists = name === 'list' ? [] : [list, order.length].map(BigInt);
+  const isBare = ['list', 'orders'].includes(name), out = aligned(end) + 16;
+  const lists = isBare ? [] : [list, order.length].map(BigInt);
   const work = aligned(out + room) + 16;
   bytes.fill(KEPT, answer);
   bytes.set(Buffer.from(order), list);
@@ -251,6 +254,7 @@ function squeeze() {
   const most = 4294967295, wrong = {
     barrel: [[0, 0], [11, 1], [most, 1], [10, 1000000], [20, most]],
     list: [[0], [19]],
+    orders: [[0, 1], [11, 1], [10, 0], [10, 10000000], [20, most]],
     steps: [[10, 1, 10, 0], [10, 1, 254, 0], [10, 1000000, 255, 0], [10, 5, 255, 1000000]],
     draw: [[10, 2, 1], [10, 0, 2001], [10, 999000, 1000000], [10, most, 0], [5, 0, 1]],
     memory_words: [[10, 1, 10, 0, 1], [10, 1, 255, 0, 1], [10, 1, 0, 5, 4], [10, 1, 0, 0, 0o10000]],

@@ -19,7 +19,7 @@ use std::sync::Wait;
 use std::thread::Threads;
 
 /// The pages whose commands are run. Links at the top of the repository lead to the first four.
-const PAGES: [&str; 24] = [
+const PAGES: [&str; 25] = [
     "README.md",
     "TUTORIAL.md",
     "VIEWS.md",
@@ -38,6 +38,7 @@ const PAGES: [&str; 24] = [
     "cases/order.md",
     "cases/races.md",
     "cases/races_by_chance.md",
+    "cases/orders.md",
     "cases/check.md",
     "cases/decks.md",
     "cases/operations.md",

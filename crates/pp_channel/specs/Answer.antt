@@ -5,6 +5,7 @@ use Rattle.std.specs.Prelude.{◌≡◌, ℕ, Bool, true, false, not, ◌&&◌, 
 use Rattle.std.specs.Option.{option_or}
 use Rattle.pp_channel.specs.declared.{event.Event.Event, chan_op.ChanOp.ChanOp, channel_state.ChannelState.ChannelState, seen.Seen.Seen, reply.Reply.Reply, flags.Flags.Flags, numbered.Numbered.Numbered}
 use Rattle.pp_channel.specs.History.{IsLawful, active, full, waiting, HasTwelveBitWords}
+use Rattle.pp_channel.specs.Session.{word_put}
 
 abbrev pub flags_of : List Event → Flags
 flags_of h = record { active = active h; full = full h }
@@ -113,6 +114,15 @@ reply_by op state (Some e) = reply_made e
 
 abbrev pub state_reply : ChanOp → ChannelState → Reply
 state_reply op state = reply_by op state (event_by op state.flags state.register)
+
+-- the state of a channel after an event of its own, or after none
+abbrev pub state_with : ChannelState → Option Event → ChannelState
+state_with state None = state
+state_with state (Some e) = record { flags = flags_after e; register = word_put e }
+
+-- and after an operation
+abbrev pub state_after : ChanOp → ChannelState → ChannelState
+state_after op state = state_with state (event_by op state.flags state.register)
 
 -- The reply to an operation on a channel with the history h.
 abbrev pub reply_to : ChanOp → List Event → Reply

@@ -1,5 +1,5 @@
 ghost use Rattle.std.specs.Prelude.{◌≡◌, [], ◌∷◌, ◌++◌, List, IfSome, IfNone};
-ghost use Rattle.pp_channel.specs.Answer.{channel_state, event_by, event_of, history_after, operation_of, reply_to, state_reply};
+ghost use Rattle.pp_channel.specs.Answer.{channel_state, event_by, event_of, history_after, operation_of, reply_to, state_after, state_reply};
 ghost use Rattle.pp_channel.specs.History.{HasTwelveBitWord, IsLawful};
 ghost use Rattle.pp_channel.specs.declared.event.Event.{Event};
 
@@ -89,6 +89,7 @@ impl ChannelState {
     /// it is full with that word.
     pub fn act(&mut self, op: ChanOp) -> Reply
         ensures table { result ≡ state_reply op self.old }
+        ensures state { self.new ≡ state_after op self.old }
         ensures reply { (h : List Event) → self.old ≡ channel_state h → result ≡ reply_to op h }
         ensures after { (h : List Event) → IsLawful h → self.old ≡ channel_state h
             → self.new ≡ channel_state (history_after op h) }

@@ -92,10 +92,10 @@ pub picture : (fits : Bool) (name : Text) (value_of : Text → Option Text) (pro
 picture true name value_of profile w draw reads is = (draw, reads, is.0 refl)
 picture false name value_of profile w draw reads is = grind (arith, no_picture)
 
--- without a number of turns there is no text but a listing
-pub no_turns : (name : Text) (value_of : Text → Option Text) (profile : Profile) → name ≢ codes "list" → ((turns : ℕ) → ReadsTurns value_of turns → ⊥) → (text : TextOf) → AsksForText name value_of profile text → ⊥
+-- without a number of turns there is no text but a listing and all endings
+pub no_turns : (name : Text) (value_of : Text → Option Text) (profile : Profile) → name ≢ codes "list" → name ≢ codes "orders" → ((turns : ℕ) → ReadsTurns value_of turns → ⊥) → (text : TextOf) → AsksForText name value_of profile text → ⊥
 unfolding ReadsWindow
-no_turns name value_of profile other none text k = grind (arith, other, none, k)
+no_turns name value_of profile other orders none text k = grind (arith, other, orders, none, k)
 
 -- where the text of an option is there, and is no number, it says no profile
 pub no_profile : {B : Type 0} (of : B → Text) (o : Option B) (text : Option Text) → is_some o ≡ true → option_map of o ≡ text → ((n : ℕ) → ReadsNumber text n → ⊥) → (profile : Profile) → ReadsProfile text profile → ⊥

@@ -85,6 +85,7 @@ commands = steps (codes "barrel") []
     ∷ optional_value (codes "last") ∷ [])
     ∷ steps (codes "central") (optional_value (codes "first") ∷ optional_value (codes "last") ∷ [])
     ∷ steps (codes "sessions") (flag_option (codes "words") ∷ []) ∷ steps (codes "races") []
+    ∷ (codes "orders", number_option (codes "states") ∷ processors_option ∷ [])
     ∷ steps (codes "draw") (optional_value (codes "from") ∷ optional_value (codes "to") ∷ [])
     ∷ (codes "check", optional_value (codes "opened") ∷ []) ∷ []
 
@@ -144,6 +145,11 @@ ReadsEnd turns (Some text) to = ReadsNumber (Some text) to × (to ≤ turns)
 abbrev pub ReadsTurns : (Text → Option Text) → ℕ → Type 0
 ReadsTurns value_of turns = ReadsNumber (value_of (codes "turns")) turns × (turns ≤ 999999)
 
+-- how many standings are kept
+abbrev pub ReadsStates : (Text → Option Text) → ℕ → Type 0
+ReadsStates value_of states =
+    ReadsNumber (value_of (codes "states")) states × (1 ≤ states) × (states ≤ 9999999)
+
 -- the turns to draw, of those that are run: from one on, and before another
 unfoldable pub ReadsWindow : (Text → Option Text) → Window → Type 0
 ReadsWindow value_of w = (turns : ℕ) × ReadsTurns value_of turns
@@ -191,6 +197,8 @@ AsksForText name value _ (TextOf.Sessions turns words) = (name ≡ codes "sessio
     × ReadsTurns value turns × ReadsFlag (value (codes "words")) words
 AsksForText name value _ (TextOf.Races turns) = (name ≡ codes "races") × ReadsTurns value turns
 AsksForText name value _ (TextOf.Ends turns) = (name ≡ codes "ends") × ReadsTurns value turns
+AsksForText name value _ (TextOf.Orders states) =
+    (name ≡ codes "orders") × ReadsStates value states
 AsksForText name value profile (TextOf.Memory turns n bounds) = (name ≡ codes "memory")
     × ReadsTurns value turns × ReadsProcessor profile (value (codes "pp")) n
     × ReadsBounds 0o10000 value bounds

@@ -1,6 +1,6 @@
 -- Orders of steps, like `0:3,1,11:20`: processors, each in one or two octal digits, with a comma
--- between them. One that makes several steps in a row has a colon behind it, and their number, in one
--- to six decimal digits.
+-- between them. One that makes several steps in a row has a colon behind it, and their number, in
+-- one to six decimal digits.
 use Rattle.std.specs.Prelude.{ℕ, suc, ◌+◌, ◌==◌, Bool, List, [], ◌∷◌, ◌++◌, Option, None, Some, drop, length, nat_le, position, replicate, take, if◌then◌else◌}
 use Rattle.std.specs.Option.{option_and_then, option_map}
 use Rattle.pp_numbers.specs.Profile.{has_processor}

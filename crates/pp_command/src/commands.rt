@@ -2,7 +2,7 @@
 
 use crate::command::ValueForm::{Flag, Number, Text};
 use crate::command::{CommandForm, CommandHelp, OptionForm};
-use crate::number_range::{DRAWN_FROM, FROM, PATIENCE, STEPS, TO, TURNS};
+use crate::number_range::{DRAWN_FROM, FROM, PATIENCE, STATES, STEPS, TO, TURNS};
 
 /// An example of a command, over a file with these lines; and what stands before it.
 macro_rules! example {
@@ -117,13 +117,13 @@ const FIRST_OPTION: OptionForm = option!(required: false, "first", Text("N",
         "The first address to print (octal; 0 if not given)"));
 
 const ORDER_OPTION: OptionForm = option!(required: false, "order", Text("LIST",
-        "Make these steps first, as 0:3,1,11:20 (octal, counts decimal); then those of the barrel"));
+        "The first steps, as 0:3,1,11:20 (processors octal, counts decimal); then come the turns"));
 
 /// `--turns N [--order LIST] [--processors N]`
 const RUN_OPTIONS: &[OptionForm] = &[TURNS_OPTION, ORDER_OPTION, PROCESSORS_OPTION];
 
 /// The commands, in the order in which help lists them.
-pub(crate) const COMMANDS: [CommandHelp; 13] = [
+pub(crate) const COMMANDS: [CommandHelp; 14] = [
     command! {
         name: "barrel",
         about: "Runs a deck in the barrel, one step a turn, and prints what happened",
@@ -359,6 +359,28 @@ so an order that another channel or a word of memory brings about is not seen, a
 polls a channel each look counts. SAME IN EVERY ORDER never stands where something differs.",
         example: handoff_example!("races --turns 40"),
         options: RUN_OPTIONS,
+    },
+    command! {
+        name: "orders",
+        about: "Lists every way in which a deck can end, over all orders of steps",
+        long_about: "\
+Lists every way in which a deck can end, over all orders in which its processors may take their
+steps, with no regard to turns.
+
+Reads the deck from FILE or standard input. Prints to standard output ENDINGS and how many there
+are. Then for each ending a line ORDER, with an order of steps that leads into it, in the form of
+--order; a line for each processor that the deck names or that waited at dead start, as it stands
+after this order, with GOES ON at its end if it goes on for ever; the words of processors and of
+central memory that differ from those loaded, as lines of a deck; and the state of each channel that
+has a history. What goes wrong is one line on standard error.
+
+An ending is what no order of steps leaves, and each part of which is reached from each: a machine
+in which nothing can move, or one of which some processors go on for ever. To find them all, ways
+in which the machine may stand are kept: its processors and memories, and the flags and the register
+of each channel. If more than N would have to be, the first line ends with OR MORE, and some endings
+may be missing.",
+        example: handoff_example!("orders --states 1000"),
+        options: &[option!(required: true, "states", Number(STATES)), PROCESSORS_OPTION],
     },
     command! {
         name: "draw",

@@ -2,9 +2,9 @@
 
 ghost use Rattle.std.specs.Prelude.{◌≡◌, ◌-◌, ◌≤◌, ◌↔◌, IsTrue, codes, option_map, IfOk, IfSome, IsSome};
 ghost use Rattle.pp_numbers.specs.Limits.{AreLimits};
-ghost use Rattle.pp_command.specs.CommandLine.{Finds, ReadsAddress, ReadsBounds, ReadsChosen, ReadsNumber, ReadsOrder, ReadsProcessor, ReadsProcessors, ReadsProfile, ReadsTurn, ReadsFlag, ReadsTurns, ReadsWindow, value_in};
+ghost use Rattle.pp_command.specs.CommandLine.{Finds, ReadsAddress, ReadsBounds, ReadsChosen, ReadsNumber, ReadsOrder, ReadsProcessor, ReadsProcessors, ReadsProfile, ReadsTurn, ReadsFlag, ReadsStates, ReadsTurns, ReadsWindow, value_in};
 
-use crate::number_range::{FROM, PATIENCE, STEPS, TURNS};
+use crate::number_range::{FROM, PATIENCE, STATES, STEPS, TURNS};
 use crate::processor_list::listed_processors;
 use crate::{listed_channels, listed_order};
 use clap::ArgMatches;
@@ -60,6 +60,13 @@ pub(crate) fn turns_of(matches: &ArgMatches<'_>) -> Option<u32>
     ensures { Finds (ReadsTurns (value_in matches.now)) result }
 {
     number_of(matches, "turns").filter(|turns| TURNS.contains(*turns))
+}
+
+/// The number of standings that the options say, if it is in range.
+pub(crate) fn states_of(matches: &ArgMatches<'_>) -> Option<u32>
+    ensures { Finds (ReadsStates (value_in matches.now)) result }
+{
+    number_of(matches, "states").filter(|states| STATES.contains(*states))
 }
 
 /// The processor of a machine of this profile that `--pp` gives, in octal, if there is one.

@@ -4,8 +4,8 @@ ghost use Rattle.std.specs.Prelude.{◌≢◌, codes};
 ghost use Rattle.pp_command.specs.CommandLine.{AsksForText, Finds, ReadsTurns, value_in};
 
 use crate::option_values::{
-    bounds_of, channels_of, fits_a_picture, is_flagged, processor_of, processors_of, turn_of,
-    turns_of, window_of,
+    bounds_of, channels_of, fits_a_picture, is_flagged, processor_of, processors_of, states_of,
+    turn_of, turns_of, window_of,
 };
 use clap::ArgMatches;
 use pp_numbers::{Bounds, CHANNELS, PROCESSORS, PpNo, Profile, Window};
@@ -65,6 +65,10 @@ pub enum TextOf {
     /// settled at its end, and which central words are shared; or that it determines the result of
     /// every order of steps.
     Races(u32),
+    /// All endings over every order of steps, each with an order that leads into it and how things
+    /// stand then, as far as this many standings show (decimal): a command line gives 1 to
+    /// 9,999,999.
+    Orders(u32),
     /// The steps chosen of a run of this many turns. Memory grows with the lines of held steps, and
     /// not with the others.
     Steps {
@@ -89,6 +93,7 @@ pub(crate) fn text_of(name: &str, matches: &ArgMatches<'_>, profile: Profile) ->
 {
     match name {
         "list" => Some(TextOf::List),
+        "orders" => Some(TextOf::Orders(states_of(matches)?)),
         "draw" => {
             let window = window_of(matches)?;
             fits_a_picture(window).then_some(TextOf::Draw(window))
@@ -100,6 +105,7 @@ pub(crate) fn text_of(name: &str, matches: &ArgMatches<'_>, profile: Profile) ->
 /// The text of a deck that a command asks for which makes a run, and draws none.
 fn run_text_of(name: &str, matches: &ArgMatches<'_>, profile: Profile) -> Option<TextOf>
     requires list { name.now ≢ codes "list" }
+    requires orders { name.now ≢ codes "orders" }
     requires draw { name.now ≢ codes "draw" }
     ensures { Finds (AsksForText name.now (value_in matches.now) profile) result }
 {

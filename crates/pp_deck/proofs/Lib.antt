@@ -1,3 +1,4 @@
+mod StatedLemmas
 mod WordsLemmas
 -- facts of the definitions, which proofs of other crates cite
 pub mod DeckLawLemmas

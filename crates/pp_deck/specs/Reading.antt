@@ -4,10 +4,11 @@ use Rattle.pp_machine.specs.MachineState.{MachineState, processor_of, new_machin
 use Rattle.pp_machine.specs.Processor.{Processor, runs_from}
 use Rattle.pp_numbers.specs.PpNo.{processor_count, processor_index}
 use Rattle.pp_numbers.specs.declared.profile.Profile.{Profile}
-use Rattle.pp_deck.specs.DeckLine.{Line, central_words, section, start, words, dead_start}
+use Rattle.pp_deck.specs.DeckLine.{Line, central_line, central_size, central_words, keyword_of, section, start, words, dead_start}
 use Rattle.pp_deck.specs.DeckLoad.{section_of, asks_dead_start}
 use Rattle.pp_deck.specs.DeckMeaning.{LoadedDeck, set_by}
-use Rattle.pp_deck.specs.declared.flaw.Flaw.{Flaw}
+use Rattle.pp_deck.specs.DeckText.{Fields}
+use Rattle.pp_deck.specs.declared.{flaw.Flaw.Flaw, keyword.Keyword.Keyword}
 
 -- machine and names so far, whose section it is, and whether dead start was asked for
 pub record Progress : Type 0 where
@@ -84,3 +85,13 @@ on_read use_of (Err flaw) = Err flaw
 abbrev pub Leaves : {A : Type 0} → A → Result (Unit {0}) Flaw → Result A Flaw → Type 0
 Leaves left (Ok done) read = read ≡ Ok left
 Leaves left (Err flaw) read = read ≡ Err flaw
+
+abbrev pub IsStatedBy : Result ℕ Flaw → Keyword → Fields → Type 0
+IsStatedBy size Keyword.Central fields = central_line fields ≡ on_read central_size size
+IsStatedBy size keyword fields = size ≡ Ok 0o10000
+
+-- a size is that which the first line with fields states, where that is no `CENTRAL` line the size
+-- of a deck that states none; or the flaw is that of the line
+abbrev pub IsStated : Result ℕ Flaw → Option Fields → Type 0
+IsStated size (Some (first ∷ fields)) = IsStatedBy size (keyword_of first) fields
+IsStated size line = size ≡ Ok 0o10000

@@ -1,11 +1,13 @@
 //! Decks.
 
-ghost use Rattle.std.specs.Prelude.{ℕ, ◌≡◌, ◌≢◌, ◌≤◌, ◌<◌, Ok, Err, IfOk, IfErr, length, position};
+ghost use Rattle.std.specs.Prelude.{ℕ, ◌≡◌, ◌≢◌, ◌≤◌, ◌<◌, Ok, Err, IfOk, IfErr, find, length, position};
 ghost use Rattle.pp_deck.specs.DeckText.{lines_of};
-ghost use Rattle.pp_deck.specs.DeckMeaning.{deck_meaning, meaning_of_lines, size_of, is_foreign, line_of_byte};
+ghost use Rattle.pp_deck.specs.DeckMeaning.{deck_meaning, has_fields, meaning_of_lines, is_foreign, line_of_byte};
+ghost use Rattle.pp_deck.specs.Reading.{IsStated};
 ghost use Rattle.pp_machine.specs.Central.{IsCentralSize};
 
 use crate::deck_line::central_size_in;
+use crate::flaw::Flaw;
 use crate::keyword::Keyword;
 use crate::lines::Lines;
 use crate::reading::Reading;
@@ -89,21 +91,22 @@ fn line_of_byte(text: &[u8], place: usize) -> u32
     ended as u32 + 1
 }
 
-/// The size of central memory that the text of a deck asks for.
-pub(crate) fn central_size(text: &[u8]) -> u32
-    ensures value { result ≡ size_of (lines_of text.now) }
-    ensures range { IsCentralSize result }
+/// The size of central memory that the first line with fields sets, or its flaw if it is a
+/// `CENTRAL` line with one.
+fn stated_size(text: &[u8]) -> Result<u32, Flaw>
+    ensures line { IsStated result (find has_fields (lines_of text.now)) }
+    ensures range { IfOk result IsCentralSize }
 {
     let mut lines = Lines::of(text);
     while let Some(mut fields) = lines.next_line() {
         if let Some(first) = fields.next_field() {
             return match Keyword::of(first) {
-                Keyword::Central => central_size_in(&mut fields).unwrap_or(DEFAULT_SIZE),
-                _ => DEFAULT_SIZE,
+                Keyword::Central => central_size_in(&mut fields),
+                _ => Ok(DEFAULT_SIZE),
             };
         }
     }
-    DEFAULT_SIZE
+    Ok(DEFAULT_SIZE)
 }
 
 /// The deck of a text that is ASCII and not too long: its lines are read up to the first fault, and
@@ -121,7 +124,9 @@ fn deck_of_lines<A: Allocator + Copy>(
     ensures memory_at_no_line { IfErr result (λ fault. fault.code ≡ DeckCode.Memory
         → fault.line ≡ 0) }
 {
-    let Ok(mut reading) = Reading::new(alloc, profile, central_size(text)) else {
+    let stated = stated_size(text);
+    let size = stated.unwrap_or(DEFAULT_SIZE);
+    let Ok(mut reading) = Reading::new(alloc, profile, size) else {
         return Err(OUT_OF_MEMORY);
     };
     let mut lines = Lines::of(text);
@@ -130,7 +135,7 @@ fn deck_of_lines<A: Allocator + Copy>(
     while let Some(mut fields) = lines.next_line() {
         number += 1;
         if let Some(first) = fields.next_field() {
-            if let Err(flaw) = reading.read_line(is_after_fields, first, &mut fields) {
+            if let Err(flaw) = reading.read_line(is_after_fields, &stated, first, &mut fields) {
                 return Err(DeckFault {
                     line: number,
                     code: flaw.code(),

@@ -1,13 +1,11 @@
-ghost use Rattle.std.specs.Prelude.{◌≡◌, ◌≤◌, ◌∷◌, ◌^◌, length, is_some, Err, IfOk, IsErrOf, OnOk, ◌↔◌, if◌then◌else◌};
+ghost use Rattle.std.specs.Prelude.{◌≡◌, ◌≤◌, ◌∷◌, ◌^◌, length, is_some, false, Err, IfOk, IsErrOf, OnOk, ◌↔◌, if◌then◌else◌};
 ghost use Rattle.pp_machine.specs.Central.{IsCentralSize};
-ghost use Rattle.pp_deck.specs.DeckLine.{section_line, start_line, words_line, central_words_line, line_after};
+ghost use Rattle.pp_deck.specs.DeckLine.{section_line, start_line, words_line, central_line, central_size, central_words_line, keyword_of, line_after};
 ghost use Rattle.pp_machine.specs.DeadStart.{IsBeforeFirstTurn};
 ghost use Rattle.pp_deck.specs.DeckMeaning.{unnamed_in, with_dead_start};
 ghost use Rattle.pp_deck.specs.Reading.{before_lines, after_line, deck_so_far, on_read, Leaves};
 
-use crate::deck_line::{
-    central_size_in, end_line, next_number, set_central_words, set_words, start_a,
-};
+use crate::deck_line::{end_line, next_number, set_central_words, set_words, start_a};
 use crate::flaw::Flaw;
 use crate::keyword::Keyword;
 use crate::octal_number::word12;
@@ -84,16 +82,20 @@ impl<A: Allocator> Reading<A> {
     }
 
     /// Reads a line with this first field and these after it. `is_after_fields` says whether a
-    /// line with fields stands before it.
+    /// line with fields stands before it; if none does and this is a `CENTRAL` line, its size is
+    /// the one stated.
     #[tactic(auto, unfolding(crate::specs::DeckLine::line_after, // the line after it
     crate::specs::DeckLine::central_words_line, crate::specs::Reading::after_line))]
     pub(crate) fn read_line(
         &mut self,
         is_after_fields: bool,
+        stated: &Result<u32, Flaw>,
         first: &[u8],
         fields: &mut Fields,
     ) -> Result<(), Flaw>
-        requires { length self.old.machine.central ≤ 2 ^ 17 }
+        requires size { length self.old.machine.central ≤ 2 ^ 17 }
+        requires stated { is_after_fields ≡ false → keyword_of first.now ≡ Keyword.Central
+            → central_line fields.old ≡ on_read central_size stated.now }
         ensures { Leaves self.new result (on_read (after_line self.old)
             (line_after self.old.machine.profile
             (length self.old.machine.central) is_after_fields (is_some self.old.current)
@@ -101,7 +103,10 @@ impl<A: Allocator> Reading<A> {
     {
         match Keyword::of(first) {
             Keyword::Central if is_after_fields => Err(Flaw::UnknownLine),
-            Keyword::Central => central_size_in(fields).and(Ok(())),
+            Keyword::Central => match stated {
+                Ok(_) => Ok(()),
+                Err(flaw) => Err(*flaw),
+            },
             Keyword::CentralWords => {
                 let address = Word18::truncated(next_number(fields, 6)? as u32);
                 set_central_words(&mut self.machine, address, fields)

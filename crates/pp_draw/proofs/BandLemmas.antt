@@ -114,17 +114,17 @@ each_stands front back count said k text less is =
     subst (λ (t : List ℕ). StandsWithin t (front ++ each_below count said ++ back)) is
     (stands_front (said k) (front ++ each_below count said) back (stands_back (said k) front (each_below count said) (one_of_each count said k less)))
 
-pub channel_stands : (w : Window) (shown : List Bool) (m : MachineState) (steps : List SeenStep) (c : ℕ) → IsTrue (names_channel c) → StandsWithin (channel_lane w m c) (drawing w shown m steps)
+pub channel_stands : (w : Window) (shown : List Bool) (m : MachineState) (earlier : List (Option SeenStep)) (steps : List SeenStep) (c : ℕ) → IsTrue (names_channel c) → StandsWithin (channel_lane w m c) (drawing w shown m earlier steps)
 unfolding drawing
-channel_stands w shown m steps c names =
+channel_stands w shown m earlier steps c names =
     stands_front (channel_lane w m c) _ (foot_text (lanes_above processor_count shown m))
     (each_stands _ _ channel_count (λ (p : ℕ). channel_lane w m (channel_number p)) (channel_index c) (channel_lane w m c) (channel_places.place_below c names) (ap (channel_lane w m) (channel_places.number_of_place c names)))
 
-pub processor_stands : (w : Window) (shown : List Bool) (m : MachineState) (steps : List SeenStep) (n : ℕ) → IsTrue (names_processor n) → StandsWithin (processor_lane w shown m steps n) (drawing w shown m steps)
+pub processor_stands : (w : Window) (shown : List Bool) (m : MachineState) (earlier : List (Option SeenStep)) (steps : List SeenStep) (n : ℕ) → IsTrue (names_processor n) → StandsWithin (processor_lane w shown m earlier steps n) (drawing w shown m earlier steps)
 unfolding drawing
-processor_stands w shown m steps n names =
-    each_stands _ (foot_text (lanes_above processor_count shown m)) processor_count (λ (p : ℕ). processor_lane w shown m steps (processor_number p)) (processor_index n) (processor_lane w shown m steps n) (processor_places.place_below n names)
-    (ap (processor_lane w shown m steps) (processor_places.number_of_place n names))
+processor_stands w shown m earlier steps n names =
+    each_stands _ (foot_text (lanes_above processor_count shown m)) processor_count (λ (p : ℕ). processor_lane w shown m earlier steps (processor_number p)) (processor_index n) (processor_lane w shown m earlier steps n) (processor_places.place_below n names)
+    (ap (processor_lane w shown m earlier steps) (processor_places.number_of_place n names))
 
 -- ---- and below one another
 

@@ -51,6 +51,16 @@ takes contents start old new whole lane after next rest h so_far =
       rest = append_assoc so_far.printed more (still_drawn after rest) ∙ ap (λ (t : List ℕ). so_far.printed ++ t) (sym (same rest)) ∙ so_far.rest;
     }
 
+-- or none does
+pub takes_if : {W : Type 0} (contents : W → Option (List ℕ)) (start old new : TextWriter W) (whole : List ℕ) (lane after : Lane) (next : Option Phase) (rest : List Phase)
+    → ((printed : List ℕ) × Prints contents old new printed × ((others : List Phase) → still_drawn lane (cons_option next others) ≡ printed ++ still_drawn after others))
+    → LeadsTo contents start old whole lane (cons_option next rest) → LeadsTo contents start new whole after rest
+takes_if contents start old new whole lane after next rest (more, prints, same) so_far = record {
+  printed = so_far.printed ++ more;
+  prints = prints_then contents start old new so_far.printed more so_far.prints prints;
+  rest = append_assoc so_far.printed more (still_drawn after rest) ∙ ap (λ (t : List ℕ). so_far.printed ++ t) (sym (same rest)) ∙ so_far.rest;
+}
+
 -- after its head no phase of a lane has come yet
 pub comes_first : {W : Type 0} (contents : W → Option (List ℕ)) (start now : TextWriter W) (w : Window) (name said front : List ℕ) (lane : Lane) (phases left : List Phase)
     → lane ≡ record { window = w; name = said; current = None; free = 0 } → said ≡ name → left ≡ phases → Prints contents start now front

@@ -4,3 +4,4 @@ mod BandLemmas
 mod LawLemmas
 mod ConditionLemmas
 mod TurnLemmas
+mod SeenLemmas

@@ -1,15 +1,17 @@
 -- How a lane stands in a turn.
-use Rattle.std.proofs.Common.{◌≡◌, ℕ, ◌+◌, ◌-◌, ◌<◌, ◌≤◌, ◌^◌, ◌&&◌, Bool, true, false, cond, eqb, leb, List, [], ◌∷◌, map, Option, None, Some, refl, sym, ap, ◌∙◌, arith}
-use Rattle.std.specs.Prelude.{◌↔◌, IfSome, IsTrue}
-use Rattle.std.specs.List.{filter, last_or}
-use Rattle.std.specs.Option.{option_map}
-use Rattle.std.proofs.lemmas.Bool.{cond-false, le-leb, leb-false, leb-true, lt-leb}
+use Rattle.std.proofs.Common.{◌≡◌, ℕ, ◌+◌, ◌-◌, ◌<◌, ◌≤◌, ◌^◌, ◌&&◌, Bool, true, false, cond, eqb, leb, List, [], ◌∷◌, ◌++◌, get_or, inl, inr, map, Option, None, Some, refl, sym, ap, ◌∙◌, arith}
+use Rattle.std.specs.Prelude.{◌↔◌, IfSome, IsTrue, fold}
+use Rattle.std.specs.List.{cons_option, filter, last_or}
+use Rattle.std.specs.Option.{option_map, option_to_list}
+use Rattle.std.proofs.lemmas.Bool.{and_parts, cases_lt, cond-false, le-leb, leb-false, leb-true, lt-leb}
+use Rattle.std.proofs.lemmas.List.{get_or_past}
 use Rattle.pp_machine.specs.MachineState.{MachineState}
 use Rattle.pp_machine.specs.MachineStep.{counted, stepped}
-use Rattle.pp_numbers.specs.PpNo.{processor_count}
-use Rattle.pp_run.specs.RunSteps.{RunStep, run_steps}
-use Rattle.pp_draw.specs.Condition.{changes, goes_on, phases_from, processor_phases}
-use Rattle.pp_draw.specs.SeenStep.{is_shown, seen, seen_in_window}
+use Rattle.pp_numbers.specs.PpNo.{names_processor, processor_count, processor_index, processor_number, processor_places}
+use Rattle.pp_numbers.proofs.TableLemmas.{get_or-tabulate, length-tabulate}
+use Rattle.pp_run.specs.RunSteps.{RunStep, is_of, run_steps, seen_of}
+use Rattle.pp_draw.specs.Condition.{changes, goes_on, own_earlier, phases_from, processor_phases}
+use Rattle.pp_draw.specs.SeenStep.{earlier, earlier_steps, earlier_with, is_shown, seen, seen_in_window}
 use Rattle.pp_draw.specs.DrawingLaw.{last_step, look_at, look_in}
 use Rattle.pp_draw.specs.declared.{condition.Look.Look, condition.Phase.Phase, seen_step.SeenStep.SeenStep}
 use Rattle.pp_draw.specs.declared.condition.Look.TheVariants.{Processor}
@@ -121,17 +123,160 @@ last_begun w n turn x shows o q same (s ∷ more) last = ap (last_or q) (begun_m
     by_test true false is last rest = rest o q same last
     by_test false false is last rest = rest o q same last
 
+-- ---- with the last step before those that are shown
+
+-- which comes before the turns of those
+late_shown : (w : Window) (n turn : ℕ) (steps : List RunStep) → turn < w.from - processor_count → begun turn (phases w n steps) ≡ []
+late_shown w n turn [] early = refl
+late_shown w n turn (s ∷ more) early = grind (arith, begun_more w n turn s more, late_shown w n turn more early, leb-true)
+
+abbrev all_phases : Window → ℕ → Option SeenStep → List RunStep → List Phase
+all_phases w n last steps = processor_phases n (option_to_list last ++ filter (is_shown w) (map seen steps))
+
+-- it begins a phase, if it is the processor's
+one_earlier : (P : List Phase → Type 0) (w : Window) (n : ℕ) (last : Option SeenStep) (steps : List RunStep)
+    → ((e : SeenStep) → last ≡ Some e → P (record { since = e.turn; look = Processor e.condition } ∷ phases w n steps)) → P (phases w n steps) → P (all_phases w n last steps)
+one_earlier P w n None steps begins goes_by = goes_by
+one_earlier P w n (Some e) steps begins goes_by = by_test (eqb e.pp n) (begins e refl)
+  where
+    by_test : (own : Bool) → P (record { since = e.turn; look = Processor e.condition } ∷ phases w n steps)
+        → P (cons_option (cond own (Some (record { since = e.turn; look = Processor e.condition })) None) (phases w n steps))
+    by_test true comes = comes
+    by_test false comes = goes_by
+
+-- none of the last steps is shown
+not_shown : (w : Window) (steps : List SeenStep) (o : Option SeenStep) → ((e : SeenStep) → o ≡ Some e → is_shown w e ≡ false) → (e : SeenStep) → fold (earlier_with w) o steps ≡ Some e → is_shown w e ≡ false
+not_shown w [] o so_far e is = so_far e is
+not_shown w (s ∷ more) o so_far e is = not_shown w more (earlier_with w o s) (λ x. grind (arith, so_far x)) e is
+
+none_shown : (w : Window) (n : ℕ) (ns : List ℕ) (m : MachineState) (e : SeenStep) → get_or (earlier_steps w ns m) (processor_index n) None ≡ Some e → is_shown w e ≡ false
+none_shown w n ns m e is = elim (cases_lt (processor_index n) processor_count) [
+  | inl below ↦ not_shown w (seen_of seen (processor_number (processor_index n)) (run_steps ns m)) None (λ x none. absurd (cc)) e
+      (sym (get_or-tabulate processor_count (λ place. earlier w (seen_of seen (processor_number place) (run_steps ns m))) (processor_index n) None below) ∙ is)
+  | inr past ↦ let none = get_or_past (earlier_steps w ns m) (processor_index n) None (omega (arith, past, length-tabulate processor_count (λ place. earlier w (seen_of seen (processor_number place) (run_steps ns m))))) in absurd (cc)
+]
+
+all_in_order : (w : Window) (n turn : ℕ) (last : Option SeenStep) (ns : List ℕ) (m : MachineState) → ((e : SeenStep) → last ≡ Some e → is_shown w e ≡ false) → m.turns < 2 ^ 64
+    → BeginInOrder turn (all_phases w n last (run_steps ns m))
+all_in_order w n turn last ns m before low =
+    let rest = in_order w n turn ns m low in
+    one_earlier (BeginInOrder turn) w n last (run_steps ns m)
+    (λ e is. ((λ late. late_shown w n turn (run_steps ns m) (omega (arith, leb-false e.turn turn late, leb-false (w.from - processor_count) e.turn (before e is)))), rest)) rest
+
+-- the last step up to the turn, if it is shown, begins the last of all phases that have begun
+last_of_all : (w : Window) (n turn : ℕ) (x : RunStep) → is_shown w (seen x) ≡ true → (last : Option SeenStep) (steps : List RunStep)
+    → last_step n turn steps ≡ Some x → last_or None (begun turn (all_phases w n last steps)) ≡ Some (phase_of x)
+last_of_all w n turn x shows last steps is =
+    let rest = last_begun w n turn x shows None None (λ e. absurd (cc)) steps is in
+    let on = λ (q : Option Phase). last_begun w n turn x shows None q (λ e. absurd (cc)) steps is in
+    one_earlier (λ ps. last_or None (begun turn ps) ≡ Some (phase_of x)) w n last steps (λ e earlier. grind (arith, on)) rest
+
 pub last_at_turn : (w : Window) (n : ℕ) (ns : List ℕ) (m : MachineState) (turn : ℕ) → m.turns < 2 ^ 64
     → IfSome (last_step n turn (run_steps ns m)) (λ (step : RunStep). w.from ≤ step.before.turns + processor_count
-    → look_at turn (phases_from None (processor_phases n (seen_in_window w ns m))) ≡ Some (Processor (seen step).condition))
+    → look_at turn (phases_from None (processor_phases n (own_earlier n (earlier_steps w ns m) ++ seen_in_window w ns m))) ≡ Some (Processor (seen step).condition))
 last_at_turn w n ns m turn low = by_last (last_step n turn steps) refl
   where
     steps : List RunStep
     steps = run_steps ns m
 
-    by_last : (last : Option RunStep) → last_step n turn steps ≡ last
-        → IfSome last (λ (step : RunStep). w.from ≤ step.before.turns + processor_count → look_at turn (phases_from None (phases w n steps)) ≡ Some (Processor (seen step).condition))
+    last : Option SeenStep
+    last = get_or (earlier_steps w ns m) (processor_index n) None
+
+    by_last : (o : Option RunStep) → last_step n turn steps ≡ o
+        → IfSome o (λ (step : RunStep). w.from ≤ step.before.turns + processor_count → look_at turn (phases_from None (all_phases w n last steps)) ≡ Some (Processor (seen step).condition))
     by_last None is = tt
     by_last (Some step) is = λ near.
-        drawn_at turn (phases w n steps) (in_order w n turn ns m low)
-        ∙ ap (option_map look_in) (last_begun w n turn step (le-leb (w.from - processor_count) step.before.turns (omega (arith, near))) None None (λ e. absurd (cc)) steps is)
+        drawn_at turn (all_phases w n last steps) (all_in_order w n turn last ns m (none_shown w n ns m) low)
+        ∙ ap (option_map look_in) (last_of_all w n turn step (le-leb (w.from - processor_count) step.before.turns (omega (arith, near))) last steps is)
+
+-- ---- in the window, where the last step is long before it
+
+-- once steps are shown, all that come after are
+later_shown : (w : Window) (n turn : ℕ) (x : RunStep) → is_shown w (seen x) ≡ false → (o : Option RunStep) → (o ≡ Some x → ⊥) → (ks : List ℕ) (m : MachineState) → m.turns < 2 ^ 64
+    → w.from - processor_count ≤ m.turns → last_or o (filter (is_early n turn) (run_steps ks m)) ≡ Some x → ⊥
+later_shown w n turn x hidden o other [] m low after last = other last
+later_shown w n turn x hidden o other (k ∷ ks) m low after last =
+    let counts = turns_counted k m in
+    let step : RunStep = record { processor = k; before = m } in
+    let on : (p : Option RunStep) → (p ≡ Some x → ⊥) → last_or p (filter (is_early n turn) (run_steps ks (stepped k m))) ≡ Some x → ⊥ =
+    λ p no is. later_shown w n turn x hidden p no ks (stepped k m) (omega (arith, low, counts)) (omega (arith, low, after, counts)) is in
+    grind (arith, last, on (Some step) (λ e. let same : step ≡ x = cc in let bad : true ≡ false = sym (le-leb (w.from - processor_count) m.turns after) ∙ ap (λ s. is_shown w (seen s)) same ∙ hidden in cc), on o other)
+
+-- so none is, before one that is not
+none_begun : (w : Window) (n turn : ℕ) (x : RunStep) → is_shown w (seen x) ≡ false → (o : Option RunStep) (ks : List ℕ) (m : MachineState) → m.turns < 2 ^ 64
+    → last_or o (filter (is_early n turn) (run_steps ks m)) ≡ Some x → begun turn (phases w n (run_steps ks m)) ≡ []
+none_begun w n turn x hidden o [] m low last = refl
+none_begun w n turn x hidden o (k ∷ ks) m low last =
+    let step : RunStep = record { processor = k; before = m } in
+    let more : List RunStep = run_steps ks (stepped k m) in
+    let below : (stepped k m).turns < 2 ^ 64 = omega (arith, low, turns_counted k m) in
+    let on : (p : Option RunStep) → last_or p (filter (is_early n turn) more) ≡ Some x → begun turn (phases w n more) ≡ [] = λ p is. none_begun w n turn x hidden p ks (stepped k m) below is in
+    let later : last_or (Some step) (filter (is_early n turn) more) ≡ Some x → is_shown w (seen step) ≡ true → ⊥ = λ is shows. later_shown w n turn x hidden (Some step)
+    (λ e. let same : step ≡ x = cc in let bad : true ≡ false = sym shows ∙ ap (λ s. is_shown w (seen s)) same ∙ hidden in cc) ks (stepped k m) below
+    (omega (arith, low, turns_counted k m, leb-true (w.from - processor_count) m.turns shows)) is in
+    begun_more w n turn step more ∙ grind (arith, last, on, later)
+
+-- and the last step is that before the window
+is_earlier : (w : Window) (n turn : ℕ) (x : RunStep) → w.from ≤ turn → is_shown w (seen x) ≡ false → (o : Option RunStep) (q : Option SeenStep) → (o ≡ Some x → q ≡ Some (seen x)) → (steps : List RunStep)
+    → last_or o (filter (is_early n turn) steps) ≡ Some x → fold (earlier_with w) q (seen_of seen n steps) ≡ Some (seen x)
+is_earlier w n turn x begun_by hidden o q same [] last = same last
+is_earlier w n turn x begun_by hidden o q same (s ∷ more) last = by_test (eqb s.processor n) (leb s.before.turns turn) (leb w.from s.before.turns) (is_shown w (seen s)) (λ p r follows is. is_earlier w n turn x begun_by hidden p r follows more is) refl refl refl last
+  where
+    by_test : (own early after shown : Bool)
+        → ((p : Option RunStep) (r : Option SeenStep) → (p ≡ Some x → r ≡ Some (seen x)) → last_or p (filter (is_early n turn) more) ≡ Some x → fold (earlier_with w) r (seen_of seen n more) ≡ Some (seen x))
+        → leb s.before.turns turn ≡ early → leb w.from s.before.turns ≡ after → is_shown w (seen s) ≡ shown
+        → last_or o (cond (own && early) (s ∷ filter (is_early n turn) more) (filter (is_early n turn) more)) ≡ Some x
+        → fold (earlier_with w) q (map seen (cond own (s ∷ filter (is_of n) more) (filter (is_of n) more))) ≡ Some (seen x)
+    by_test false early after shown on begins late shows is = on o q same is
+    by_test true true true shown on begins late shows is = ap (λ (b : Bool). fold (earlier_with w) (cond b q (cond (is_shown w (seen s)) None (Some (seen s)))) (seen_of seen n more)) late
+        ∙ on (Some s) q (λ e. let here : s ≡ x = cc in absurd (omega (arith, leb-true w.from s.before.turns late, leb-false (w.from - processor_count) x.before.turns hidden, ap (λ (y : RunStep). y.before.turns) here))) is
+    by_test true false true shown on begins late shows is = ap (λ (b : Bool). fold (earlier_with w) (cond b q (cond (is_shown w (seen s)) None (Some (seen s)))) (seen_of seen n more)) late
+        ∙ on o q same is
+    by_test true false false shown on begins late shows is = absurd (omega (arith, begun_by, leb-false s.before.turns turn begins, leb-false w.from s.before.turns late))
+    by_test true true false true on begins late shows is = ap (λ (b : Bool). fold (earlier_with w) (cond b q (cond (is_shown w (seen s)) None (Some (seen s)))) (seen_of seen n more)) late
+        ∙ ap (λ (b : Bool). fold (earlier_with w) (cond b None (Some (seen s))) (seen_of seen n more)) shows
+        ∙ on (Some s) None (λ e. let here : s ≡ x = cc in let bad : true ≡ false = sym shows ∙ ap (λ y. is_shown w (seen y)) here ∙ hidden in cc) is
+    by_test true true false false on begins late shows is = ap (λ (b : Bool). fold (earlier_with w) (cond b q (cond (is_shown w (seen s)) None (Some (seen s)))) (seen_of seen n more)) late
+        ∙ ap (λ (b : Bool). fold (earlier_with w) (cond b None (Some (seen s))) (seen_of seen n more)) shows
+        ∙ on (Some s) (Some (seen s)) (λ e. let here : s ≡ x = cc in ap (λ (y : RunStep). Some (seen y)) here) is
+
+-- a step that is the last of these is one of them
+is_one : (n turn : ℕ) (x : RunStep) (o : Option RunStep) → (o ≡ Some x → is_early n turn x ≡ true) → (steps : List RunStep) → last_or o (filter (is_early n turn) steps) ≡ Some x → is_early n turn x ≡ true
+is_one n turn x o so_far [] last = so_far last
+is_one n turn x o so_far (s ∷ more) last =
+    let on : (p : Option RunStep) → (p ≡ Some x → is_early n turn x ≡ true) → last_or p (filter (is_early n turn) more) ≡ Some x → is_early n turn x ≡ true = λ p holds is. is_one n turn x p holds more is in
+    grind (arith, last, so_far, on)
+
+pub last_in_window : (w : Window) (n : ℕ) (ns : List ℕ) (m : MachineState) (turn : ℕ) → m.turns < 2 ^ 64 → IsTrue (names_processor n) → w.from ≤ turn
+    → IfSome (last_step n turn (run_steps ns m)) (λ (step : RunStep).
+    look_at turn (phases_from None (processor_phases n (own_earlier n (earlier_steps w ns m) ++ seen_in_window w ns m))) ≡ Some (Processor (seen step).condition))
+last_in_window w n ns m turn low names after = by_last (last_step n turn steps) refl
+  where
+    steps : List RunStep
+    steps = run_steps ns m
+
+    last : Option SeenStep
+    last = get_or (earlier_steps w ns m) (processor_index n) None
+
+    own : last ≡ earlier w (seen_of seen n steps)
+    own = get_or-tabulate processor_count (λ place. earlier w (seen_of seen (processor_number place) steps)) (processor_index n) None (processor_places.place_below n names)
+        ∙ ap (λ k. earlier w (seen_of seen k steps)) (processor_places.number_of_place n names)
+
+    alone : (x : RunStep) → is_early n turn x ≡ true → begun turn (phases w n steps) ≡ [] → last_or None (begun turn (all_phases w n (Some (seen x)) steps)) ≡ Some (phase_of x)
+    alone x early none = grind (arith, early, none, and_parts)
+
+    hidden_one : (step : RunStep) → last_step n turn steps ≡ Some step → is_shown w (seen step) ≡ false → last_or None (begun turn (all_phases w n last steps)) ≡ Some (phase_of step)
+    hidden_one step is hidden =
+        ap (λ (o : Option SeenStep). last_or None (begun turn (all_phases w n o steps))) (own ∙ is_earlier w n turn step after hidden None None (λ e. absurd (cc)) steps is)
+        ∙ alone step (is_one n turn step None (λ e. absurd (cc)) steps is) (none_begun w n turn step hidden None ns m low is)
+
+    found : (step : RunStep) (shown : Bool) → last_step n turn steps ≡ Some step → is_shown w (seen step) ≡ shown → last_or None (begun turn (all_phases w n last steps)) ≡ Some (phase_of step)
+    found step true is shows = last_of_all w n turn step shows last steps is
+    found step false is hidden = hidden_one step is hidden
+
+    by_last : (o : Option RunStep) → last_step n turn steps ≡ o
+        → IfSome o (λ (step : RunStep). look_at turn (phases_from None (all_phases w n last steps)) ≡ Some (Processor (seen step).condition))
+    by_last None is = tt
+    by_last (Some step) is =
+        drawn_at turn (all_phases w n last steps) (all_in_order w n turn last ns m (none_shown w n ns m) low)
+        ∙ ap (option_map look_in) (found step (is_shown w (seen step)) is refl)

@@ -1,6 +1,8 @@
 -- How channels and processors stand, in phases, and how that is shown.
-use Rattle.std.specs.Prelude.{ℕ, Bool, true, false, ◌==◌, List, [], ◌∷◌, ◌++◌, Option, None, Some, codes, if◌then◌else◌}
+use Rattle.std.specs.Prelude.{ℕ, Bool, true, false, ◌==◌, List, [], ◌∷◌, ◌++◌, Option, None, Some, codes, slice_index_or, if◌then◌else◌}
 use Rattle.std.specs.List.{filter_map}
+use Rattle.std.specs.Option.{option_to_list}
+use Rattle.pp_numbers.specs.PpNo.{processor_index}
 use Rattle.pp_word.specs.Numeral.{octal}
 use Rattle.pp_channel.specs.declared.event.Event.TheVariants.{Activate, Disconnect, Put, Take, Function}
 use Rattle.pp_machine.specs.MachineState.{MachineState, is_opened}
@@ -69,6 +71,10 @@ phase_for n step = if step.pp == n
 
 abbrev pub processor_phases : ℕ → List SeenStep → List Phase
 processor_phases n steps = filter_map (phase_for n) steps
+
+-- its step of the last steps before those that are shown, if it has one
+abbrev pub own_earlier : ℕ → List (Option SeenStep) → List SeenStep
+own_earlier n earlier = option_to_list (slice_index_or earlier (processor_index n) None)
 
 -- those of these phases, after a look, that do not go on under the look before them
 abbrev pub changes : Look → List Phase → List Phase

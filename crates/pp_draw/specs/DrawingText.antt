@@ -1,5 +1,5 @@
 -- The drawing of a run: a lane for each channel used and each processor shown, in a frame.
-use Rattle.std.specs.Prelude.{ℕ, zero, suc, ◌+◌, ◌==◌, Bool, false, not, List, [], ◌++◌, None, codes, length, slice_index_or, if◌then◌else◌}
+use Rattle.std.specs.Prelude.{ℕ, zero, suc, ◌+◌, ◌==◌, Bool, false, not, List, [], ◌++◌, Option, None, codes, length, slice_index_or, if◌then◌else◌}
 use Rattle.std.specs.Int.{from_bool}
 use Rattle.pp_numbers.specs.ChannelNo.{channel_count, channel_index, channel_number}
 use Rattle.pp_channel.specs.History.{active, waiting}
@@ -11,10 +11,10 @@ use Rattle.pp_deck.specs.InUse.{in_use}
 use Rattle.pp_text.specs.PrintedText.{channel_text, each_below, state_text}
 use Rattle.pp_word.specs.Numeral.{octal}
 use Rattle.pp_numbers.specs.declared.window.Window.{Window}
-use Rattle.pp_draw.specs.Condition.{channel_phases, phases_from, processor_phases}
+use Rattle.pp_draw.specs.Condition.{channel_phases, own_earlier, phases_from, processor_phases}
 use Rattle.pp_draw.specs.Frame.{band_width, foot_text, head_text, legend_text, style_text, text_tag, ticks_text}
 use Rattle.pp_draw.specs.Lane.{drawn_from, lane_head}
-use Rattle.pp_draw.specs.SeenStep.{seen_in_window}
+use Rattle.pp_draw.specs.SeenStep.{earlier_steps, seen_in_window}
 use Rattle.pp_draw.specs.declared.{condition.Phase.Phase, seen_step.SeenStep.SeenStep}
 
 -- how many of 0, 1, .. and count - 1 pass a test
@@ -50,22 +50,26 @@ is_flagged shown place = slice_index_or shown place false
 abbrev pub lanes_above : ℕ → List Bool → MachineState → ℕ
 lanes_above place shown m = used_among channel_count m + count_below place (is_flagged shown)
 
--- the lane of processor n, if it is shown
-unfoldable pub processor_lane : Window → List Bool → MachineState → List SeenStep → ℕ → List ℕ
-processor_lane w shown m steps n = if is_flagged shown (processor_index n)
+-- the lane of processor n, if it is shown, by its last step before the others and by those
+unfoldable pub processor_lane : Window → List Bool → MachineState → List (Option SeenStep)
+    → List SeenStep → ℕ → List ℕ
+processor_lane w shown m earlier steps n = if is_flagged shown (processor_index n)
     then lane_text w (lanes_above (processor_index n) shown m) (codes "PP" ++ octal 2 n)
-    (processor_phases n steps) (state_text (processor_of n m).state) else []
+    (processor_phases n (own_earlier n earlier ++ steps))
+    (state_text (processor_of n m).state) else []
 
 -- THE TEXT of the drawing of a machine after a run to the window's end, by the steps in the window
-unfoldable pub drawing : Window → List Bool → MachineState → List SeenStep → List ℕ
-drawing w shown m steps =
+unfoldable pub drawing : Window → List Bool → MachineState → List (Option SeenStep)
+    → List SeenStep → List ℕ
+drawing w shown m earlier steps =
     let rows = lanes_above processor_count shown m in
     head_text w rows ++ style_text ++ legend_text ++ ticks_text w rows
     ++ each_below channel_count (λ place. channel_lane w m (channel_number place))
-    ++ each_below processor_count (λ place. processor_lane w shown m steps (processor_number place))
+    ++ each_below processor_count (λ place.
+    processor_lane w shown m earlier steps (processor_number place))
     ++ foot_text rows
 
 -- the drawing of a loaded deck, by the steps of its run
 abbrev pub drawing_of_run : Window → List ℕ → LoadedDeck → List ℕ
 drawing_of_run w steps deck = drawing w (in_use deck) (run steps deck.machine)
-    (seen_in_window w steps deck.machine)
+    (earlier_steps w steps deck.machine) (seen_in_window w steps deck.machine)

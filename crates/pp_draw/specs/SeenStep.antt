@@ -1,13 +1,13 @@
 -- How the steps of a run find their processors.
-use Rattle.std.specs.Prelude.{ℕ, ◌-◌, Bool, nat_le, List, map, Option, None, Some}
+use Rattle.std.specs.Prelude.{ℕ, ◌-◌, Bool, nat_le, List, fold, map, Option, None, Some, if◌then◌else◌}
 use Rattle.std.specs.List.{filter}
-use Rattle.pp_numbers.specs.PpNo.{processor_count}
+use Rattle.pp_numbers.specs.PpNo.{each_processor, processor_count}
 use Rattle.pp_numbers.specs.declared.window.Window.{Window}
 use Rattle.pp_machine.specs.MachineState.{MachineState, processor_of}
 use Rattle.pp_machine.specs.MachineStep.{step_outcome}
 use Rattle.pp_machine.specs.NeedAndEffect.{need}
 use Rattle.pp_machine.specs.declared.{block.Block.Block, need.Need.Need, outcome.Outcome.Outcome, pp_state.PpState.PpState}
-use Rattle.pp_run.specs.RunSteps.{RunStep, run_steps}
+use Rattle.pp_run.specs.RunSteps.{RunStep, run_steps, seen_of}
 use Rattle.pp_draw.specs.declared.condition.Condition.TheVariants.{Running, InBlock, HeldBy, Stopped, Faulted}
 use Rattle.pp_draw.specs.declared.{condition.Condition.Condition, seen_step.Found.Found, seen_step.SeenStep.SeenStep}
 
@@ -37,6 +37,19 @@ seen step =
 -- before it, whose steps say how the processors stand where the window begins
 abbrev pub is_shown : Window → SeenStep → Bool
 is_shown w step = nat_le (w.from - processor_count) step.turn
+
+-- of the steps of one processor the last before the window, unless it is shown: in an order it may
+-- be long before the round
+abbrev pub earlier_with : Window → Option SeenStep → SeenStep → Option SeenStep
+earlier_with w last step =
+    if nat_le w.from step.turn then last else if is_shown w step then None else Some step
+
+abbrev pub earlier : Window → List SeenStep → Option SeenStep
+earlier w steps = fold (earlier_with w) None steps
+
+-- that of each processor, in the order of the barrel, in a run of a machine to the window's end
+abbrev pub earlier_steps : Window → List ℕ → MachineState → List (Option SeenStep)
+earlier_steps w steps m = each_processor (λ n. earlier w (seen_of seen n (run_steps steps m)))
 
 -- the steps that are shown, of a run of a machine to the end of the window
 abbrev pub seen_in_window : Window → List ℕ → MachineState → List SeenStep

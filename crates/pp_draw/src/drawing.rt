@@ -1,18 +1,22 @@
 //! The drawing of a run: its rows of lanes, channels before processors, in a frame.
 
-ghost use Rattle.std.specs.Prelude.{◌≡◌, ◌+◌, ◌≤◌};
+ghost use Rattle.std.specs.Prelude.{◌≡◌, ◌+◌, ◌++◌, ◌≤◌, ℕ, List};
+ghost use Rattle.std.specs.List.{cons_option};
 ghost use Rattle.pp_numbers.specs.ChannelNo.{channel_count};
 ghost use Rattle.pp_numbers.specs.PpNo.{processor_count, processor_number};
 ghost use Rattle.pp_text.specs.PrintedText.{each_below};
 ghost use Rattle.pp_text.specs.TextWriter.{Prints};
 ghost use Rattle.pp_text.specs.Written.{IsWritten};
+ghost use Rattle.pp_draw.specs.Condition.{phase_for};
 ghost use Rattle.pp_draw.specs.DrawingText.{channel_lane, drawing, is_used, lanes_above, processor_lane, used_among};
+ghost use Rattle.pp_draw.specs.Lane.{still_drawn};
+ghost use Rattle.pp_draw.specs.declared.condition.Phase.{Phase};
 
 use crate::frame::{
     band_width, print_foot, print_head, print_legend, print_style, print_text_tag, print_ticks,
 };
 use crate::lane::Lane;
-use crate::{Look, SeenStep};
+use crate::{Look, SeenStep, SeenSteps};
 use pp_channel::{CHANNELS, ChannelNo, Event};
 use pp_machine::{Machine, PROCESSORS, PpNo};
 use pp_numbers::Window;
@@ -26,15 +30,15 @@ use std::io::Write;
 /// each processor shown, by its steps in the window; and flushes the writer. The machine is as
 /// after the last turn of the window. The text goes out in pieces, and takes no memory. Where the
 /// writer fails, the rest of the text is lost.
-pub fn write_drawing<A: Allocator, W: Write>(
+pub fn write_drawing<A: Allocator, B: Allocator, W: Write>(
     writer: &mut W,
     machine: &Machine<A>,
     shown: &[bool; PROCESSORS],
-    steps: &[SeenStep],
+    steps: &SeenSteps<B>,
     window: Window,
 ) -> Result<(), WriteFault>
-    ensures { IsWritten (drawing window shown.now machine.now steps.now) result
-        (W.contents writer.old) (W.contents writer.new) }
+    ensures { IsWritten (drawing window shown.now machine.now steps.now.earlier
+        steps.now.shown.items) result (W.contents writer.old) (W.contents writer.new) }
 {
     let rows = lanes_above(machine, shown, PROCESSORS);
     let mut text = TextWriter::new(writer);
@@ -51,15 +55,16 @@ pub fn write_drawing<A: Allocator, W: Write>(
 }
 
 /// Prints the lanes of the processors shown.
-fn print_processor_lanes<A: Allocator, W: Write>(
+fn print_processor_lanes<A: Allocator, B: Allocator, W: Write>(
     text: &mut TextWriter<W>,
     window: Window,
     shown: &[bool; PROCESSORS],
     machine: &Machine<A>,
-    steps: &[SeenStep],
+    steps: &SeenSteps<B>,
 )
     ensures { Prints W.contents text.old text.new (each_below processor_count
-        (λ place. processor_lane window shown.now machine.now steps.now (processor_number place))) }
+        (λ place. processor_lane window shown.now machine.now steps.now.earlier
+        steps.now.shown.items (processor_number place))) }
 {
     for place in 0..PROCESSORS {
         print_processor_lane(text, window, shown, machine, steps, PpNo::at(place));
@@ -131,29 +136,41 @@ fn print_channel_lane<A: Allocator, W: Write>(
 /// Prints the lane of a processor, if it is shown.
 #[tactic(auto, unfolding(crate::specs::DrawingText::processor_lane, // if it is shown
 crate::specs::DrawingText::lane_text))]
-fn print_processor_lane<A: Allocator, W: Write>(
+fn print_processor_lane<A: Allocator, B: Allocator, W: Write>(
     text: &mut TextWriter<W>,
     window: Window,
     shown: &[bool; PROCESSORS],
     machine: &Machine<A>,
-    steps: &[SeenStep],
+    steps: &SeenSteps<B>,
     n: PpNo,
 )
     ensures { Prints W.contents text.old text.new
-        (processor_lane window shown.now machine.now steps.now n) }
+        (processor_lane window shown.now machine.now steps.now.earlier steps.now.shown.items n) }
 {
     if !shown[n.index()] {
         return;
     }
     let row = lanes_above(machine, shown, n.index());
     let mut lane = Lane::begin(text, window, processor_name(n), row);
-    for step in steps {
-        if step.pp.get() == n.get() {
-            lane.take(text, step.turn, Look::Processor(step.condition));
-        }
+    if let Some(step) = &steps.earlier[n.index()] {
+        take_step(&mut lane, text, n, step);
+    }
+    for step in steps.shown.as_slice() {
+        take_step(&mut lane, text, n, step);
     }
     lane.finish(text);
     print_text_tag(text, *b"e", band_width(window) + 8, 26);
     print_state_text(text, machine.pp(n).state());
     text.print(b"</text>\n</g>\n");
+}
+
+/// Takes a step into the lane of a processor, if it is its own.
+fn take_step<W: Write>(lane: &mut Lane, text: &mut TextWriter<W>, n: PpNo, step: &SeenStep)
+    ensures { (printed : List ℕ) × Prints W.contents text.old text.new printed
+        × ((rest : List Phase) → still_drawn lane.old (cons_option (phase_for n step.now) rest)
+        ≡ printed ++ still_drawn lane.new rest) }
+{
+    if step.pp.get() == n.get() {
+        lane.take(text, step.turn, Look::Processor(step.condition));
+    }
 }

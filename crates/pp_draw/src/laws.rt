@@ -13,8 +13,8 @@ ghost use Rattle.pp_machine.specs.MachineStep.{counted};
 ghost use Rattle.pp_numbers.specs.PpNo.{names_processor, processor_count, processor_index};
 ghost use Rattle.pp_run.specs.RunSteps.{run_steps};
 ghost use Rattle.pp_numbers.specs.declared.window.Window.{Window};
-ghost use Rattle.pp_draw.specs.Condition.{channel_phases, goes_on, is_sent, phases_from, processor_phases};
-ghost use Rattle.pp_draw.specs.SeenStep.{is_shown, seen, seen_in_window};
+ghost use Rattle.pp_draw.specs.Condition.{channel_phases, goes_on, is_sent, own_earlier, phases_from, processor_phases};
+ghost use Rattle.pp_draw.specs.SeenStep.{earlier_steps, is_shown, seen, seen_in_window};
 ghost use Rattle.pp_draw.specs.DrawingLaw.{EndsAt, IsTurnOf, StandsWithin, goes_on_from, last_step, look_at, look_in};
 ghost use Rattle.pp_draw.specs.DrawingText.{channel_lane, drawing, is_flagged, is_used, lanes_above, processor_lane, used_among};
 ghost use Rattle.pp_draw.specs.Frame.{band_width};
@@ -56,7 +56,15 @@ pub fn drawing_law()
     ensures at_turn { (w : Window) (n : ℕ) (ns : List ℕ) (m : MachineState) (turn : ℕ)
         → m.turns < 2 ^ 64 → IfSome (last_step n turn (run_steps ns m)) (λ step.
         w.from ≤ step.before.turns + processor_count
-        → look_at turn (phases_from None (processor_phases n (seen_in_window w ns m)))
+        → look_at turn (phases_from None (processor_phases n
+        (own_earlier n (earlier_steps w ns m) ++ seen_in_window w ns m)))
+        ≡ Some (Processor (seen step).condition)) }
+    // In the window it is, however long before it that step was.
+    ensures in_window { (w : Window) (n : ℕ) (ns : List ℕ) (m : MachineState) (turn : ℕ)
+        → m.turns < 2 ^ 64 → IsTrue (names_processor n) → w.from ≤ turn
+        → IfSome (last_step n turn (run_steps ns m)) (λ step.
+        look_at turn (phases_from None (processor_phases n
+        (own_earlier n (earlier_steps w ns m) ++ seen_in_window w ns m)))
         ≡ Some (Processor (seen step).condition)) }
     // No gap is between a part and the next, and they do not overlap.
     ensures adjoin { (w : Window) (phase next : Phase) (after : Option Phase)
@@ -79,11 +87,14 @@ pub fn drawing_law()
     // The lane of a channel that is not used is empty, and so is that of a processor that is not
     // shown.
     ensures channels { (w : Window) (shown : List Bool) (m : MachineState)
-        (steps : List SeenStep) (c : ℕ) → IsTrue (names_channel c)
-        → StandsWithin (channel_lane w m c) (drawing w shown m steps) }
+        (earlier : List (Option SeenStep)) (steps : List SeenStep) (c : ℕ)
+        → IsTrue (names_channel c)
+        → StandsWithin (channel_lane w m c) (drawing w shown m earlier steps) }
     ensures processors { (w : Window) (shown : List Bool) (m : MachineState)
-        (steps : List SeenStep) (n : ℕ) → IsTrue (names_processor n)
-        → StandsWithin (processor_lane w shown m steps n) (drawing w shown m steps) }
+        (earlier : List (Option SeenStep)) (steps : List SeenStep) (n : ℕ)
+        → IsTrue (names_processor n)
+        → StandsWithin (processor_lane w shown m earlier steps n)
+        (drawing w shown m earlier steps) }
     // The lane of a higher number lies lower.
     ensures channel_rows { (m : MachineState) (c d : ℕ) → IsTrue (names_channel c)
         → IsTrue (names_channel d) → IsTrue (is_used m c) → c < d

@@ -23,4 +23,4 @@ pub use drawing::write_drawing;
 pub use lane::Part;
 pub use laws::drawing_law;
 pub use pp_numbers::{MOST_TURNS, Window};
-pub use seen_step::{SeenStep, run_seeing_steps};
+pub use seen_step::{SeenStep, SeenSteps, run_seeing_steps};

@@ -3,8 +3,9 @@
 ghost use Rattle.std.specs.Prelude.{◌≡◌, map, IfErr, IfOk, IsTrue};
 ghost use Rattle.std.specs.List.{filter};
 ghost use Rattle.pp_machine.specs.Run.{IsRunOf};
-ghost use Rattle.pp_run.specs.RunSteps.{IsCutAt};
-ghost use Rattle.pp_draw.specs.SeenStep.{condition_by, found_in, is_shown, seen, seen_in_window};
+ghost use Rattle.pp_numbers.specs.PpNo.{each_processor};
+ghost use Rattle.pp_run.specs.RunSteps.{IsCutAt, seen_of};
+ghost use Rattle.pp_draw.specs.SeenStep.{condition_by, earlier, earlier_steps, earlier_with, found_in, is_shown, seen, seen_in_window};
 
 use crate::Condition;
 use pp_channel::Memory;
@@ -24,34 +25,51 @@ pub struct SeenStep {
     pub condition: Condition,
 }
 
+/// Those steps of a run that are drawn.
+#[derive(Drop)]
+pub struct SeenSteps<A: Allocator> {
+    /// The last step of each processor before the window, in the order of the barrel, unless it is
+    /// among the others.
+    pub earlier: [Option<SeenStep>; PROCESSORS],
+    /// Each step in the window, and in the round before it.
+    pub shown: Vec<SeenStep, A>,
+}
+
 /// Makes the steps of an order, and says how each step in a window, and in the round before it,
-/// found its processor.
+/// found its processor; and how its last step before the window did, if that is earlier.
 pub fn run_seeing_steps<A: Allocator, B: Allocator>(
     alloc: A,
     machine: &mut Machine<A>,
     order: &Order<B>,
     window: Window,
-) -> Result<Vec<SeenStep, A>, Cut>
+) -> Result<SeenSteps<A>, Cut>
     ensures run { IsRunOf order.now result machine.old machine.new }
+    ensures earlier { IfOk result (λ steps.
+        steps.earlier ≡ earlier_steps window order.now machine.old) }
     ensures seen { IfOk result (λ steps.
-        steps.items ≡ seen_in_window window order.now machine.old) }
+        steps.shown.items ≡ seen_in_window window order.now machine.old) }
     // A run is cut only where an event or a step had to be kept.
     ensures cut_at { IfErr result (λ c.
         IsCutAt (λ step. IsTrue (is_shown window (seen step))) order.now machine.old c.done) }
 {
-    let mut shown = ShownSteps {
+    let mut seen = InWindow {
         window,
-        steps: Vec::new(alloc),
+        earlier: [None; PROCESSORS],
+        shown: Vec::new(alloc),
     };
-    run_observed(machine, order, &mut shown)?;
-    Ok(shown.steps)
+    run_observed(machine, order, &mut seen)?;
+    Ok(SeenSteps {
+        earlier: seen.earlier,
+        shown: seen.shown,
+    })
 }
 
-/// The steps that are shown in a window.
+/// The steps that are drawn in a window.
 #[derive(Drop)]
-struct ShownSteps<A: Allocator> {
+struct InWindow<A: Allocator> {
     window: Window,
-    steps: Vec<SeenStep, A>,
+    earlier: [Option<SeenStep>; PROCESSORS],
+    shown: Vec<SeenStep, A>,
 }
 
 /// What is noted of a machine and a processor before a step.
@@ -63,11 +81,12 @@ struct Found {
     block: Option<Block>,
 }
 
-impl<A: Allocator> Observer<A> for ShownSteps<A> {
+impl<A: Allocator> Observer<A> for InWindow<A> {
     type Note = Found;
 
-    ghost HasSeen = { λ start steps shown. (shown.window ≡ start.window)
-        × (shown.steps.items ≡ filter (is_shown start.window) (map seen steps)) };
+    ghost HasSeen = { λ start steps now. (now.window ≡ start.window)
+        × (now.earlier ≡ each_processor (λ n. earlier start.window (seen_of seen n steps)))
+        × (now.shown.items ≡ filter (is_shown start.window) (map seen steps)) };
 
     ghost IsNote = { λ found step. found ≡ found_in step };
 
@@ -94,10 +113,32 @@ impl<A: Allocator> Observer<A> for ShownSteps<A> {
             pp: n,
             condition: condition_by(found, outcome),
         };
-        if u64::from(self.window.from).saturating_sub(PROCESSORS as u64) <= step.turn {
-            self.steps.push(step)?;
+        let place = n.index();
+        self.earlier[place] = earlier_with(self.window, &self.earlier[place], &step);
+        if is_shown(self.window, &step) {
+            self.shown.push(step)?;
         }
         Ok(())
+    }
+}
+
+/// Whether a step is in the window, or in the round before it.
+fn is_shown(window: Window, step: &SeenStep) -> bool
+    ensures { result ≡ is_shown window step.now }
+{
+    u64::from(window.from).saturating_sub(PROCESSORS as u64) <= step.turn
+}
+
+/// The last step of a processor before the window, unless it is shown, with one step more.
+fn earlier_with(window: Window, last: &Option<SeenStep>, step: &SeenStep) -> Option<SeenStep>
+    ensures { result ≡ earlier_with window last.now step.now }
+{
+    if u64::from(window.from) <= step.turn {
+        *last
+    } else if is_shown(window, step) {
+        None
+    } else {
+        Some(*step)
     }
 }
 

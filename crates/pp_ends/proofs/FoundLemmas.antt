@@ -7,6 +7,7 @@ use Rattle.pp_numbers.specs.Profile.{processors_in}
 use Rattle.pp_machine.specs.Run.{barrel, run}
 use Rattle.pp_numbers.specs.declared.profile.Profile.{Profile}
 use Rattle.pp_numbers.specs.declared.profile.Profile.TheVariants.{Ten, Twenty}
+use Rattle.pp_numbers.proofs.ProfileLemmas.{more_rounds}
 use Rattle.pp_ends.specs.Endings.{FirstRepeats, Repeats, StandAlike, after_turns}
 use Rattle.pp_ends.specs.Rounds.{AreAlikeAfter, IsPeriod, IsStart, PeriodWithin, StartWithin, after_rounds}
 use Rattle.pp_ends.proofs.RepeatLemmas.{IsLawfulMachine, after_more, run_alike, run_lawful}
@@ -22,24 +23,16 @@ whole : (p : Profile) (i : ℕ) → (i * processors_in p) % processors_in p ≡ 
 whole Ten i = omega arith
 whole Twenty i = omega arith
 
-sum_of : (p : Profile) (i d : ℕ) → (i + d) * processors_in p ≡ i * processors_in p + d * processors_in p
-sum_of Ten i d = omega arith
-sum_of Twenty i d = omega arith
-
 in_rounds : (p : Profile) (u : ℕ) → u % processors_in p ≡ 0 → u ≡ (u / processors_in p) * processors_in p
 in_rounds Ten u e = omega (arith, e)
 in_rounds Twenty u e = omega (arith, e)
-
-pub in_first_round : (p : Profile) (place : ℕ) → place < processors_in p → place % processors_in p ≡ place
-in_first_round Ten place low = omega (arith, low)
-in_first_round Twenty place low = omega (arith, low)
 
 pub after_none : (m : MachineState) → after_rounds 0 m ≡ m
 after_none m = let none : 0 * processors_in m.profile ≡ 0 = omega arith in ap (λ (t : ℕ). after_turns t m) none
 
 after_add : (i d : ℕ) (m : MachineState) → after_rounds (i + d) m ≡ run (barrel m.profile (d * processors_in m.profile)) (after_rounds i m)
 after_add i d m =
-    ap (λ (t : ℕ). after_turns t m) (sum_of m.profile i d)
+    ap (λ (t : ℕ). after_turns t m) (more_rounds m.profile i d)
     ∙ after_more (i * processors_in m.profile) (d * processors_in m.profile) m (whole m.profile i)
 
 pub after_one : (i : ℕ) (m : MachineState) → run (barrel m.profile (processors_in m.profile)) (after_rounds i m) ≡ after_rounds (i + 1) m
@@ -133,7 +126,7 @@ module _ (m : MachineState) (lawful : IsLawfulMachine m) where
         start = start;
         length_is = every;
         some = by_profile (λ n. k % n ≡ 0 → 1 ≤ k / n) (λ whole. omega (arith, whole, r.some)) (λ whole. omega (arith, whole, r.some)) p r.rounds;
-        alike = subst (λ (t : ℕ). StandAlike (after_rounds i m) (after_turns t m)) (sym (sum_of p i l))
+        alike = subst (λ (t : ℕ). StandAlike (after_rounds i m) (after_turns t m)) (sym (more_rounds p i l))
             (subst (λ (t : ℕ). StandAlike (after_turns t m) (after_turns (i * processors_in p + l * processors_in p) m)) start
             (subst (λ (t : ℕ). StandAlike (after_turns u m) (after_turns (t + l * processors_in p) m)) start
             (subst (λ (t : ℕ). StandAlike (after_turns u m) (after_turns (u + t) m)) every r.alike)));
@@ -193,7 +186,7 @@ module _ (m : MachineState) (lawful : IsLawfulMachine m) where
           some = by_profile (λ n. 0 < period * n) (omega (arith, p.some)) (omega (arith, p.some)) q;
           first_rounds = whole q start;
           rounds = whole q period;
-          alike = subst (λ (t : ℕ). StandAlike (after_rounds start m) (after_turns t m)) (sum_of q start period) s.alike;
+          alike = subst (λ (t : ℕ). StandAlike (after_rounds start m) (after_turns t m)) (more_rounds q start period) s.alike;
         };
         within = by_profile (λ n. start + period ≤ turns / n → start * n + period * n ≤ turns) (λ low. omega (arith, low)) (λ low. omega (arith, low)) q (omega (arith, s.within, p.most));
         least = λ u k repeats.

@@ -22,11 +22,7 @@ earlier n from to turn m i apart = let before = i.before in
 -- a turn in which the processor doesn't move
 stays_more : (found : Option Loop) (n from to : ℕ) (m : MachineState) → ¬ MovesIn n from (to + 1) to m
     → TellsLoop found n from to m → TellsLoop found n from (to + 1) m
-stays_more None n from to m rests none = λ turn i.
-    elim (cases_eq turn to) [
-      | inl is ↦ rests (subst (λ (t : ℕ). MovesIn n from (to + 1) t m) is i)
-      | inr apart ↦ none turn (earlier n from to turn m i apart)
-    ]
+stays_more None n from to m rests none = grind (arith, cases_eq, earlier)
 stays_more (Some loop) n from to m rests is = record {
   lowest = (is.lowest.0, later n from to is.lowest.0 m is.lowest.1, is.lowest.2);
   highest = (is.highest.0, later n from to is.highest.0 m is.highest.1, is.highest.2);

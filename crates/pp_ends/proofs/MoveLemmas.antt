@@ -1,19 +1,16 @@
 -- A step that makes an event or writes a central word changes its processor.
-use Rattle.std.proofs.Common.{◌≡◌, ◌≢◌, ℕ, ◌-◌, ◌==◌, ◌&&◌, not, Bool, true, false, List, length, refl, sym, ap, ◌∙◌, arith}
+use Rattle.std.proofs.Common.{◌≡◌, ◌≢◌, ℕ, ◌-◌, ◌==◌, Bool, true, false, length, refl, sym, ap, ◌∙◌, arith}
 use Rattle.std.specs.Prelude.{Option, Some, None, if◌then◌else◌, nat_lt}
-use Rattle.pp_channel.specs.Answer.{channel_state, event_of, event_with, flags_of, ready_at, reply_by, reply_made, reply_to}
-use Rattle.pp_channel.specs.History.{waiting}
-use Rattle.pp_channel.specs.declared.{chan_op.ChanOp.ChanOp, event.Event.Event}
+use Rattle.pp_channel.specs.Answer.{channel_state, event_by as made_by, event_with, reply_by, reply_made, state_reply}
+use Rattle.pp_channel.specs.declared.{channel_state.ChannelState.ChannelState, chan_op.ChanOp.ChanOp, event.Event.Event}
 use Rattle.pp_channel.specs.declared.reply.Reply.TheVariants as replies
 use Rattle.pp_machine.specs.Block.{block_word}
 use Rattle.pp_machine.specs.Effect.{faults}
-use Rattle.pp_machine.specs.InstructionTable.{row, works_on_channel}
+use Rattle.pp_machine.specs.InstructionTable.{row}
 use Rattle.pp_machine.specs.MachineState.{MachineState, processor_of, history_of}
 use Rattle.pp_machine.specs.MachineStep.{answer_to, stepped, step_event}
 use Rattle.pp_machine.specs.NeedAndEffect.{answered, if_running, need, next_step, processor_after, step_of}
-use Rattle.pp_machine.specs.Operand.{lower_six, operation}
 use Rattle.pp_machine.specs.Processor.{Processor}
-use Rattle.pp_numbers.specs.Profile.{has_channel}
 use Rattle.pp_machine.specs.Step.{Step, local, probes, takes, does, reads, writes, need_of}
 use Rattle.pp_machine.specs.declared.{answer.Answer.Answer, block.Block.Block, block.BlockKind.BlockKind, need.Need.Need, pp_state.PpState.PpState}
 use Rattle.pp_machine.specs.declared.answer.Answer.TheVariants as answers
@@ -101,10 +98,7 @@ either_changes true pp step other h k = h
 either_changes false pp step other h k = k
 
 step_changes : (block : Option Block) (pp : Processor) → pp.block ≡ block → Changes pp (step_of block pp)
-step_changes None pp is =
-    let op = operation pp in
-    let d = lower_six pp in
-    either_changes (works_on_channel op && not (has_channel pp.profile d)) pp (local (faults pp 3)) (row op pp d) tt (row_changes op pp d)
+step_changes None pp is = grind (arith, either_changes, row_changes)
 step_changes (Some block) pp is = block_step_changes block.kind block.place pp is
 
 -- ---- answers
@@ -129,30 +123,20 @@ taken_by : (word : Option ℕ) (e : Event) → event_with ChanOp.Take word ≡ S
 taken_by None e is = absurd (let bad : None ≡ Some e = is in cc)
 taken_by (Some w) e is = (w, (let same : Event.Take w ≡ e = cc in ap reply_made (sym same)))
 
-reply_is : (op : ChanOp) (h : List Event) (e : Event) → event_of op h ≡ Some e
-    → reply_to op h ≡ reply_made e
-reply_is op h e is = ap (reply_by op (channel_state h)) is
+reply_is : (op : ChanOp) (state : ChannelState) (e : Event) → made_by op state.flags state.register ≡ Some e
+    → state_reply op state ≡ reply_made e
+reply_is op state e is = ap (reply_by op state) is
 
 -- a step that makes an event changes its processor
-event_changes : (step : Step) (pp : Processor) (c : ℕ) (op : ChanOp) (h : List Event) (e : Event)
-    → Changes pp step → need_of step ≡ Channel c op → event_of op h ≡ Some e
-    → answered step pp (answers.Channel (reply_to op h)) ≢ pp
-event_changes (local after) pp c op h e changes needs is = λ _. (let bad : Local ≡ Channel c op = needs in absurd cc)
-event_changes (reads address after) pp c op h e changes needs is = λ _. (let bad : Read address ≡ Channel c op = needs in absurd cc)
-event_changes (writes address word after) pp c op h e changes needs is = λ _. (let bad : Write address word ≡ Channel c op = needs in absurd cc)
-event_changes (probes channel after) pp c op h e changes needs is = λ _.
-    let probe : ChanOp.Probe ≡ op = cc in
-    let none : event_of ChanOp.Probe h ≡ Some e = ap (λ o. event_of o h) probe ∙ is in
-    let bad : None ≡ Some e = made_if (ready_at ChanOp.Probe (flags_of h)) None e none in absurd cc
-event_changes (takes channel after) pp c op h e changes needs is =
-    let take : ChanOp.Take ≡ op = cc in
-    let made = made_if (ready_at ChanOp.Take (flags_of h)) (event_with ChanOp.Take (waiting h)) e (ap (λ o. event_of o h) take ∙ is) in
-    let word = taken_by (waiting h) e made in
-    rw (reply_is op h e is, word.1) (changes word.0)
-event_changes (does channel done after) pp c op h e changes needs is =
-    let same : done ≡ op = cc in
-    let made = made_if (ready_at done (flags_of h)) (event_with done (waiting h)) e (ap (λ o. event_of o h) same ∙ is) in
-    rw (reply_is op h e is, done_by done (waiting h) e changes.1 made) changes.0
+event_changes : (step : Step) (pp : Processor) (c : ℕ) (op : ChanOp) (state : ChannelState) (e : Event)
+    → Changes pp step → need_of step ≡ Channel c op → made_by op state.flags state.register ≡ Some e
+    → answered step pp (answers.Channel (state_reply op state)) ≢ pp
+event_changes (local after) pp c op state e changes needs is = λ _. (let bad : Local ≡ Channel c op = needs in absurd cc)
+event_changes (reads address after) pp c op state e changes needs is = λ _. (let bad : Read address ≡ Channel c op = needs in absurd cc)
+event_changes (writes address word after) pp c op state e changes needs is = λ _. (let bad : Write address word ≡ Channel c op = needs in absurd cc)
+event_changes (probes channel after) pp c op state e changes needs is = grind (arith, made_if)
+event_changes (takes channel after) pp c op state e changes needs is = grind (arith, made_if, taken_by, reply_is)
+event_changes (does channel done after) pp c op state e changes needs is = grind (arith, made_if, reply_is, done_by)
 
 fault_changes : (pp : Processor) (number : ℕ) → pp.state ≡ Running → faults pp number ≢ pp
 fault_changes pp number runs e =
@@ -188,13 +172,13 @@ after_running : (pp : Processor) (answer : Answer) → pp.state ≡ Running
 unfolding processor_after
 after_running pp answer is = ap (λ (s : PpState). if_running s (answered (next_step pp) pp answer) pp) is
 
-pub moves_by_event : (pp : Processor) (c : ℕ) (op : ChanOp) (h : List Event) (e : Event)
-    → need pp ≡ Channel c op → event_of op h ≡ Some e
-    → processor_after pp (answers.Channel (reply_to op h)) ≢ pp
-moves_by_event pp c op h e needs is stays =
+pub moves_by_event : (pp : Processor) (c : ℕ) (op : ChanOp) (state : ChannelState) (e : Event)
+    → need pp ≡ Channel c op → made_by op state.flags state.register ≡ Some e
+    → processor_after pp (answers.Channel (state_reply op state)) ≢ pp
+moves_by_event pp c op state e needs is stays =
     let r = runs pp.state pp (Channel c op) refl (λ bad. cc) needs in
-    event_changes (next_step pp) pp c op h e (step_changes pp.block pp refl) r.needs is
-    (sym (after_running pp (answers.Channel (reply_to op h)) r.state) ∙ stays)
+    event_changes (next_step pp) pp c op state e (step_changes pp.block pp refl) r.needs is
+    (sym (after_running pp (answers.Channel (state_reply op state)) r.state) ∙ stays)
 
 pub moves_by_write : (pp : Processor) (a w : ℕ) (written : Bool) → need pp ≡ Write a w
     → processor_after pp (answers.Wrote written) ≢ pp
@@ -216,7 +200,7 @@ waits_by n m (Write a w) e stays made is same =
     absurd (moves_by_write (processor_of n m) a w (nat_lt a (length m.central)) e stays)
 waits_by n m (Channel c op) e stays None is same = record { processor = same; event = is; central = central_by n m (Channel c op) e }
 waits_by n m (Channel c op) e stays (Some event) is same =
-    absurd (moves_by_event (processor_of n m) c op (history_of c m) event e (sym (event_by_need n c op m e) ∙ is) stays)
+    absurd (moves_by_event (processor_of n m) c op (channel_state (history_of c m)) event e (sym (event_by_need n c op m e) ∙ is) stays)
 
 pub kept_waits : (n : ℕ) (m : MachineState) → processor_of n (stepped n m) ≡ processor_of n m → Waits n m
 kept_waits n m same =

@@ -1,103 +1,31 @@
 -- Machines that stand alike go on alike.
-use Rattle.std.proofs.Common.{◌≡◌, ℕ, zero, suc, ◌+◌, ◌*◌, ◌%◌, List, [], ◌∷◌, ◌++◌, length, append_assoc, append-nil, slice_set, get_or, Option, Some, None, refl, sym, ap, ◌∙◌, subst, inl, inr, arith, ◌<◌}
-use Rattle.std.specs.Prelude.{slice_get, nat_lt}
-use Rattle.std.specs.Option.{option_to_list}
-use Rattle.std.proofs.lemmas.Bool.{cases_eq, cases_lt}
+use Rattle.std.proofs.Common.{◌≡◌, ℕ, zero, suc, ◌+◌, ◌*◌, ◌%◌, List, [], ◌∷◌, length, slice_set, get_or, refl, sym, ap, ◌∙◌, subst, inl, inr, arith, ◌<◌}
+use Rattle.std.proofs.lemmas.Bool.{cases_lt}
 use Rattle.std.proofs.lemmas.List.{get_or_past, ext_get_or}
-use Rattle.pp_channel.specs.Answer.{channel_state, event_by, event_of, history_after, state_reply}
-use Rattle.pp_numbers.specs.ChannelNo.{channel_count, channel_index, channel_places}
-use Rattle.pp_channel.specs.History.{IsLawful}
-use Rattle.pp_channel.specs.declared.{chan_op.ChanOp.ChanOp, channel_state.ChannelState.ChannelState, event.Event.Event}
-use Rattle.pp_channel.proofs.AnswerLemmas.{flags_by_table, lawful_with_event, word_by_table}
+use Rattle.pp_channel.specs.Answer.{channel_state}
+use Rattle.pp_numbers.specs.ChannelNo.{channel_count, channel_index}
 use Rattle.pp_machine.specs.Headline.{HoldsOnEachChannel}
-use Rattle.pp_machine.specs.MachineState.{MachineState, processor_of, history_of}
-use Rattle.pp_machine.specs.MachineStep.{answer_to, central_after, stepped}
+use Rattle.pp_machine.specs.MachineState.{MachineState, processor_of}
+use Rattle.pp_machine.specs.MachineStep.{answer_to, stepped}
 use Rattle.pp_machine.specs.NeedAndEffect.{need, processor_after}
 use Rattle.pp_machine.specs.Processor.{Processor, no_processor}
 use Rattle.pp_numbers.specs.PpNo.{processor_index, processor_number, processor_count, processor_places}
-use Rattle.pp_numbers.specs.Profile.{processor_in_turn, processors_in}
+use Rattle.pp_numbers.specs.Profile.{processors_in}
 use Rattle.pp_machine.specs.Run.{barrel, run}
-use Rattle.pp_machine.specs.declared.{answer.Answer.Answer, need.Need.Need}
-use Rattle.pp_machine.specs.declared.need.Need.TheVariants.{Channel, Read, Write}
 use Rattle.pp_numbers.specs.declared.profile.Profile.{Profile}
 use Rattle.pp_numbers.specs.declared.profile.Profile.TheVariants.{Ten, Twenty}
-use Rattle.pp_machine.proofs.RunLemmas.{run_keeps}
-use Rattle.pp_run.proofs.StepFacts.{central_by, histories_by, history_elsewhere, history_here, length_histories, processors_by}
-use Rattle.pp_run.proofs.Moments.{run_histories}
+use Rattle.pp_machine.proofs.RunLemmas.{run-both}
+use Rattle.pp_run.proofs.StepFacts.{central_by, processors_by}
+use Rattle.pp_run.proofs.AlikeLemmas.{answers_alike, central_alike, channels_alike}
+use Rattle.pp_run.proofs.BarrelLemmas.{barrel_again}
+pub use Rattle.pp_run.proofs.AlikeLemmas.{IsLawfulMachine, run_lawful}
 use Rattle.pp_ends.specs.Endings.{Repeats, StandAlike, after_turns}
 
--- ---- channels
-
--- a machine whose channels keep their laws
-pub record IsLawfulMachine (m : MachineState) : Type 0 where
-  pub channels : length m.histories ≡ channel_count
-  pub headline : HoldsOnEachChannel m
-
-pub run_lawful : (ns : List ℕ) (m : MachineState) → IsLawfulMachine m → IsLawfulMachine (run ns m)
-run_lawful ns m l = record {
-  channels = run_histories ns m ∙ l.channels;
-  headline = run_keeps ns m l.channels l.headline;
-}
-
--- a channel after an operation, by how it stood
-state_by : (h other : List Event) (op : ChanOp) → IsLawful h → IsLawful other
-    → channel_state other ≡ channel_state h → (made : Option Event) → event_of op h ≡ made
-    → channel_state (history_after op other) ≡ channel_state (history_after op h)
-state_by h other op lawful lawful_other same None is =
-    let is_other : event_of op other ≡ None = ap (λ (s : ChannelState). event_by op s.flags s.register) same ∙ is in
-    ap (λ (o : Option Event). channel_state (other ++ option_to_list o)) is_other
-    ∙ ap channel_state (append-nil other) ∙ same ∙ ap channel_state (sym (append-nil h))
-    ∙ ap (λ (o : Option Event). channel_state (h ++ option_to_list o)) (sym is)
-state_by h other op lawful lawful_other same (Some e) is =
-    let is_other : event_of op other ≡ Some e = ap (λ (s : ChannelState). event_by op s.flags s.register) same ∙ is in
-    let more = lawful_with_event h op e lawful is in
-    let more_other = lawful_with_event other op e lawful_other is_other in
-    ap (λ (o : Option Event). channel_state (other ++ option_to_list o)) is_other
-    ∙ rw (flags_by_table h e lawful more, word_by_table h e lawful more, flags_by_table other e lawful_other more_other, word_by_table other e lawful_other more_other) refl
-    ∙ ap (λ (o : Option Event). channel_state (h ++ option_to_list o)) (sym is)
-
 -- ---- one step
-
-answers_alike : (one other : MachineState) → StandAlike one other → (x : Need)
-    → answer_to x other ≡ answer_to x one
-answers_alike one other a (Channel c op) = ap (λ (s : ChannelState). Answer.Channel (state_reply op s)) (a.channels c)
-answers_alike one other a (Read address) = ap (λ (ws : List ℕ). Answer.Read (slice_get ws address)) a.central
-answers_alike one other a (Write address word) = ap (λ (ws : List ℕ). Answer.Wrote (nat_lt address (length ws))) a.central
-answers_alike one other a rest = refl
 
 processor_alike : (n : ℕ) (one other : MachineState) → StandAlike one other
     → processor_of n other ≡ processor_of n one
 processor_alike n one other a = ap (λ (ps : List Processor). get_or ps (processor_index n) no_processor) a.processors
-
-central_alike : (one other : MachineState) → StandAlike one other → (x : Need)
-    → central_after x other ≡ central_after x one
-central_alike one other a (Write address word) = ap (λ (ws : List ℕ). slice_set ws address word) a.central
-central_alike one other a next = a.central
-
-channels_alike : (n c : ℕ) (one other : MachineState) → IsLawfulMachine one → IsLawfulMachine other
-    → StandAlike one other → (x : Need) → need (processor_of n one) ≡ x → need (processor_of n other) ≡ x
-    → channel_state (history_of c (stepped n other)) ≡ channel_state (history_of c (stepped n one))
-channels_alike n c one other l k a (Channel d op) e f = elim (cases_lt (channel_index c) channel_count) [
-  | inr past ↦
-      ap channel_state (get_or_past (stepped n other).histories (channel_index c) [] (omega (arith, past, length_histories n other, k.channels)))
-      ∙ ap channel_state (sym (get_or_past (stepped n one).histories (channel_index c) [] (omega (arith, past, length_histories n one, l.channels))))
-  | inl below ↦
-      let names = channel_places.named_below c below in
-      elim (cases_eq c d) [
-        | inr apart ↦
-            ap channel_state (history_elsewhere n c d op other k.channels f apart) ∙ a.channels c
-            ∙ ap channel_state (sym (history_elsewhere n c d op one l.channels e apart))
-        | inl same ↦
-            let on : need (processor_of n one) ≡ Channel c op = e ∙ ap (λ (b : ℕ). Channel b op) (sym same) in
-            let on_other : need (processor_of n other) ≡ Channel c op = f ∙ ap (λ (b : ℕ). Channel b op) (sym same) in
-            ap channel_state (history_here n c op other k.channels names on_other)
-            ∙ state_by (history_of c one) (history_of c other) op (l.headline c names).lawful (k.headline c names).lawful (a.channels c) (event_of op (history_of c one)) refl
-            ∙ ap channel_state (sym (history_here n c op one l.channels names on))
-      ]
-]
-channels_alike n c one other l k a rest e f =
-    ap (λ (hs : List (List Event)). channel_state (get_or hs (channel_index c) [])) (histories_by n other rest f) ∙ a.channels c
-    ∙ ap (λ (hs : List (List Event)). channel_state (get_or hs (channel_index c) [])) (sym (histories_by n one rest e))
 
 pub stepped_alike : (n : ℕ) (one other : MachineState) → IsLawfulMachine one → IsLawfulMachine other
     → StandAlike one other → StandAlike (stepped n one) (stepped n other)
@@ -108,14 +36,14 @@ stepped_alike n one other l k a =
     let needs : need (processor_of n other) ≡ x = ap need same in
     let after : processor_after (processor_of n other) (answer_to (need (processor_of n other)) other) ≡ processor_after pp (answer_to x one) =
     ap (λ (q : Processor). processor_after q (answer_to (need q) other)) same
-    ∙ ap (processor_after pp) (answers_alike one other a x) in
+    ∙ ap (processor_after pp) (answers_alike one other a.channels a.central x) in
     record {
       processors = processors_by n other
           ∙ ap (λ (q : Processor). slice_set other.processors (processor_index n) q) after
           ∙ ap (λ (ps : List Processor). slice_set ps (processor_index n) (processor_after pp (answer_to x one))) a.processors
           ∙ sym (processors_by n one);
-      central = central_by n other x needs ∙ central_alike one other a x ∙ sym (central_by n one x refl);
-      channels = λ c. channels_alike n c one other l k a x refl needs;
+      central = central_by n other x needs ∙ central_alike one other a.central x ∙ sym (central_by n one x refl);
+      channels = λ c. channels_alike n c one other l k a.channels x refl needs;
     }
 
 -- ---- a list of steps
@@ -126,40 +54,18 @@ run_alike [] one other l k a = a
 run_alike (n ∷ ns) one other l k a =
     run_alike ns (stepped n one) (stepped n other) (run_lawful (n ∷ []) one l) (run_lawful (n ∷ []) other k) (stepped_alike n one other l k a)
 
-run-append_list : (ns ks : List ℕ) (m : MachineState) → run (ns ++ ks) m ≡ run ks (run ns m)
-run-append_list [] ks m = refl
-run-append_list (n ∷ ns) ks m = run-append_list ns ks (stepped n m)
-
 -- ---- rounds
-
-in_turn_again : (p : Profile) (t u : ℕ) → t % processors_in p ≡ 0
-    → processor_in_turn p (t + u) ≡ processor_in_turn p u
-in_turn_again Ten t u whole = ap processor_number (omega (arith, whole))
-in_turn_again Twenty t u whole = ap processor_number (omega (arith, whole))
 
 rounds_more : (p : Profile) (t n : ℕ) → t % processors_in p ≡ 0 → n % processors_in p ≡ 0
     → (t + n) % processors_in p ≡ 0
 rounds_more Ten t n one other = omega (arith, one, other)
 rounds_more Twenty t n one other = omega (arith, one, other)
 
--- after whole rounds the barrel begins anew
-barrel_again : (p : Profile) (t n : ℕ) → t % processors_in p ≡ 0
-    → barrel p (t + n) ≡ barrel p t ++ barrel p n
-barrel_again p t zero whole =
-    let same : t + zero ≡ t = omega arith in
-    ap (barrel p) same ∙ sym (append-nil (barrel p t))
-barrel_again p t (suc n) whole =
-    let next : t + suc n ≡ suc (t + n) = omega arith in
-    ap (barrel p) next
-    ∙ ap (λ (ns : List ℕ). ns ++ processor_in_turn p (t + n) ∷ []) (barrel_again p t n whole)
-    ∙ ap (λ (k : ℕ). (barrel p t ++ barrel p n) ++ k ∷ []) (in_turn_again p t n whole)
-    ∙ append_assoc (barrel p t) (barrel p n) (processor_in_turn p n ∷ [])
-
 pub after_more : (t n : ℕ) (m : MachineState) → t % processors_in m.profile ≡ 0
     → after_turns (t + n) m ≡ run (barrel m.profile n) (after_turns t m)
 after_more t n m whole =
     ap (λ (ns : List ℕ). run ns m) (barrel_again m.profile t n whole)
-    ∙ run-append_list (barrel m.profile t) (barrel m.profile n) m
+    ∙ run-both (barrel m.profile t) (barrel m.profile n) m
 
 -- after each number of periods
 record StandsOn (t n k : ℕ) (m : MachineState) : Type 0 where

@@ -1,5 +1,5 @@
 -- A step after which its processor stands the same leaves it as it was.
-use Rattle.std.proofs.Common.{◌≡◌, ◌≢◌, ℕ, ◌-◌, ◌<◌, ◌==◌, ◌&&◌, not, Bool, true, false, List, length, get_or, slice_set, refl, sym, ap, ◌∙◌, inl, inr, arith}
+use Rattle.std.proofs.Common.{◌≡◌, ◌≢◌, ℕ, ◌-◌, ◌<◌, ◌==◌, not, Bool, true, false, length, refl, sym, ap, ◌∙◌, arith}
 use Rattle.std.specs.Prelude.{Option, Some, None, if◌then◌else◌}
 use Rattle.std.proofs.lemmas.Bool.{cases_lt}
 use Rattle.std.proofs.lemmas.List.{get_or-set_same, set-get_or, set_past}
@@ -10,21 +10,20 @@ use Rattle.pp_word.specs.declared.opcode.Opcode.{Opcode}
 use Rattle.pp_word.specs.declared.opcode.Opcode.TheVariants.{LJM, RJM, UJN, ZJN, NJN, PJN, MJN, EXN, RPN, CRD, CRM, CWM, AJM, IJM, FJM, EJM, IAN, IAM, OAM}
 use Rattle.pp_channel.specs.declared.flags.Flags.{Flags}
 use Rattle.pp_channel.specs.declared.reply.Reply.TheVariants as replies
-use Rattle.pp_machine.specs.Block.{block_word, continues, cut_short, ends, held, keeps_place, starts}
+use Rattle.pp_machine.specs.Block.{block_word, cut_short, held, starts}
 use Rattle.pp_machine.specs.Effect.{branches_where, calls, faults, goes_on, goes_to, is_negative, jumps_where, leads_to_itself}
-use Rattle.pp_machine.specs.InstructionTable.{row, works_on_channel}
+use Rattle.pp_machine.specs.InstructionTable.{row}
 use Rattle.pp_machine.specs.NeedAndEffect.{answered, if_running, next_step, processor_after, step_of}
-use Rattle.pp_machine.specs.Operand.{index, lower_six, operation, second_word}
+use Rattle.pp_machine.specs.Operand.{index, second_word}
 use Rattle.pp_machine.specs.PpMemory.{IsMemory}
 use Rattle.pp_machine.specs.Processor.{Processor, is_running, word_at}
-use Rattle.pp_numbers.specs.Profile.{has_channel}
 use Rattle.pp_machine.specs.Step.{Step, local, probes, takes, does, reads, writes}
 use Rattle.pp_machine.specs.declared.{answer.Answer.Answer, block.Block.Block, block.BlockKind.BlockKind, pp_state.PpState.PpState}
 use Rattle.pp_machine.specs.declared.answer.Answer.TheVariants as answers
 use Rattle.pp_machine.specs.declared.block.BlockKind.TheVariants.{CentralIn, CentralOut, Input, Output}
 use Rattle.pp_machine.specs.declared.pp_state.PpState.TheVariants.{Running}
 use Rattle.pp_ends.specs.declared.stand.Stand.{Stand}
-use Rattle.pp_ends.specs.Stand.{next_in, place_before, stand_of}
+use Rattle.pp_ends.specs.Stand.{next_in, stand_of}
 use Rattle.pp_ends.proofs.MoveLemmas.{goes_by, goes_by_two, five_on}
 
 -- if it stands the same, it is the same
@@ -74,38 +73,12 @@ ends_stays pp after runs ended e =
 
 -- a return jump
 calls_stays : (pp : Processor) (target : ℕ) → length pp.memory ≡ place_count → Stays pp (calls pp target 2)
-calls_stays pp target places e =
-    let word = place_after pp.p 2 in
-    let p : next_place target ≡ pp.p = same_p pp (calls pp target 2) e in
-    let memory : slice_set pp.memory target word ≡ pp.memory = elim (cases_lt target place_count) [
-      | inr past ↦ set_past pp.memory target word (omega (arith, places, past))
-      | inl below ↦
-          let there : place_before pp.p ≡ target = omega (arith, p, below) in
-          let there_after : place_before (next_place target) ≡ target = omega (arith, below) in
-          let stored : get_or (slice_set pp.memory target word) target 0 ≡ get_or pp.memory target 0 =
-          ap (λ (k : ℕ). get_or (slice_set pp.memory target word) k 0) (sym there_after)
-          ∙ ap (λ (s : Stand). s.before) e ∙ ap (λ (k : ℕ). get_or pp.memory k 0) there in
-          let is : word ≡ get_or pp.memory target 0 =
-          sym (get_or-set_same pp.memory target word 0 (omega (arith, places, below))) ∙ stored in
-          ap (λ (w : ℕ). slice_set pp.memory target w) is ∙ set-get_or pp.memory target 0
-    ] in
-    ap (λ (ws : List ℕ). record pp { memory = ws; p = next_place target }) memory
-    ∙ ap (λ (k : ℕ). record pp { p = k }) p
+calls_stays pp target places e = grind (arith, same_p, cases_lt, set_past, get_or-set_same, set-get_or)
 
 -- a block that begins, or is over at once
 starts_stays : (pp : Processor) (count : ℕ) (kind : BlockKind) → pp.block ≡ None
     → length pp.memory ≡ place_count → Stays pp (starts pp count kind)
-starts_stays pp count kind free places =
-    let kept = keeps_place pp in
-    either_stays (count == 0) pp (ends kept) (continues kept kind (second_word pp))
-    (λ e.
-    let first : get_or (slice_set pp.memory 0 (next_place pp.p)) 0 0 ≡ next_place pp.p = get_or-set_same pp.memory 0 (next_place pp.p) 0 (omega (arith, places)) in
-    let p : next_place (get_or (slice_set pp.memory 0 (next_place pp.p)) 0 0) ≡ pp.p = same_p pp (ends kept) e in
-    let again : next_place (next_place pp.p) ≡ pp.p = ap next_place (sym first) ∙ p in
-    absurd (omega (arith, again)))
-    (λ e.
-    let bad : Some (second_word pp) ≡ None = same_block pp (continues kept kind (second_word pp)) e ∙ ap next_in free in
-    absurd (cc))
+starts_stays pp count kind free places = grind (arith, either_stays, get_or-set_same, same_p, same_block)
 
 -- a step all of whose answers leave the processor the same, if it stands the same
 abbrev StepStays : Processor → Step → Type 0
@@ -166,12 +139,7 @@ either_step false pp step other h k = k
 
 step_stays : (block : Option Block) (pp : Processor) → pp.block ≡ block → pp.state ≡ Running
     → length pp.memory ≡ place_count → StepStays pp (step_of block pp)
-step_stays None pp is runs places =
-    let op = operation pp in
-    let d = lower_six pp in
-    either_step (works_on_channel op && not (has_channel pp.profile d)) pp (local (faults pp 3)) (row op pp d)
-    (ends_stays pp (faults pp 3) runs refl)
-    (row_stays op pp d (record { running = runs; free = is; places = places }))
+step_stays None pp is runs places = grind (arith, either_step, ends_stays, row_stays)
 step_stays (Some block) pp is runs places = block_stays block.kind block.place pp (ap next_in is)
 
 cut_stays : (kind : BlockKind) (at place : ℕ) (pp : Processor) → next_in pp.block ≡ Some place

@@ -1,7 +1,7 @@
 -- Steps that wait, and lists of steps of a machine that is quiet.
-use Rattle.std.proofs.Common.{◌≡◌, ℕ, zero, suc, ◌+◌, ◌-◌, ◌<◌, ◌≤◌, List, [], ◌∷◌, append-nil, slice_set, None, refl, sym, ap, ◌∙◌, subst, inl, inr, arith}
+use Rattle.std.proofs.Common.{◌≡◌, get_or, length, ℕ, zero, suc, ◌+◌, ◌-◌, ◌<◌, ◌≤◌, List, [], ◌∷◌, append-nil, slice_set, None, refl, sym, ap, ◌∙◌, subst, inl, inr, arith}
 use Rattle.std.proofs.lemmas.Bool.{cases_eq}
-use Rattle.std.proofs.lemmas.List.{set-get_or}
+use Rattle.std.proofs.lemmas.List.{get_or_read, set-get_or}
 use Rattle.pp_channel.specs.declared.event.Event.{Event}
 use Rattle.pp_machine.specs.MachineState.{MachineState, processor_of}
 use Rattle.pp_machine.specs.MachineStep.{answer_to, central_after, counted, event_for, stepped}
@@ -9,8 +9,10 @@ use Rattle.pp_machine.specs.NeedAndEffect.{need, processor_after}
 use Rattle.pp_machine.specs.Processor.{Processor, no_processor}
 use Rattle.pp_numbers.specs.Profile.{processor_in_turn}
 use Rattle.pp_numbers.specs.PpNo.{processor_index}
-use Rattle.pp_machine.specs.Run.{run}
-use Rattle.pp_machine.proofs.RunLemmas.{barrel_more}
+use Rattle.pp_machine.specs.Run.{barrel, run}
+use Rattle.pp_machine.proofs.OrderLemmas.{turn_of_barrel}
+use Rattle.pp_machine.proofs.RunLemmas.{barrel_more, length-barrel}
+use Rattle.pp_numbers.specs.declared.profile.Profile.{Profile}
 use Rattle.pp_machine.specs.declared.{need.Need.Need, trace.Trace.Trace}
 use Rattle.pp_machine.specs.declared.need.Need.TheVariants.{Nothing, Channel}
 use Rattle.pp_run.specs.Determinacy.{IsQuiet, Waits}
@@ -145,3 +147,10 @@ still_after turn m moves = record {
   waits = λ u low high. absurd (omega (arith, low, high));
   first = λ u e. let same : turn ≡ u = omega (arith, e) in subst (λ (k : ℕ). MovesAt k m) same moves;
 }
+
+-- the processor read from a list of turns
+pub turn_read : (order : List ℕ) (p : Profile) (turns turn n : ℕ) → order ≡ barrel p turns
+    → turn < length order → n ≡ get_or order turn n → n ≡ processor_in_turn p turn
+turn_read order p turns turn n are few read =
+    get_or_read order turn n few read 0 ∙ ap (λ (ns : List ℕ). get_or ns turn 0) are
+    ∙ turn_of_barrel p turns turn (omega (arith, few, ap length are, length-barrel p turns))

@@ -88,7 +88,7 @@ fn is_same_state(one: &ChannelState, other: &ChannelState) -> bool
 }
 
 /// A place at which two processors differ; place 0000 where a register does.
-fn processor_difference(one: &Pp, other: &Pp) -> Option<Word12>
+pub fn processor_difference(one: &Pp, other: &Pp) -> Option<Word12>
     ensures same { IsNone result → one.now ≡ other.now }
     ensures differ { IsSome result → one.now ≢ other.now }
 {
@@ -187,7 +187,7 @@ fn memory_difference(one: &Pp, other: &Pp) -> Option<Word12>
 }
 
 /// The first address at which two central memories differ; address 0 where they aren't as large.
-fn central_difference<A: Allocator>(one: &Central<A>, other: &Central<A>) -> Option<Word18>
+pub fn central_difference<A: Allocator>(one: &Central<A>, other: &Central<A>) -> Option<Word18>
     ensures same { IsNone result → one.now ≡ other.now }
     ensures differ { IsSome result → one.now ≢ other.now }
 {

@@ -12,8 +12,10 @@ mod run;
 mod spots;
 mod stand;
 
+pub use alike::{central_difference, processor_difference};
 pub use ending::Ending;
 pub use ends_text::write_ends;
 pub use laws::ends_law;
 pub use loops::{Loop, find_loops};
 pub use run::find_ending;
+pub use stand::Stand;

@@ -5,10 +5,10 @@ ghost use Rattle.pp_ends.specs.Loops.{AreLoops, TellLoops, noted, widened};
 
 use crate::Ending;
 use crate::quiet::step_telling;
-use crate::run::run_telling;
+use crate::run::{barrel_order, run_telling};
 use pp_channel::Memory;
 use pp_machine::{Machine, PROCESSORS, PpNo};
-use pp_run::{BareMachine, in_turn};
+use pp_run::BareMachine;
 use pp_word::Word12;
 use std::alloc::Allocator;
 
@@ -46,13 +46,17 @@ fn loops_in<A: Allocator + Copy, B: Allocator>(
 ) -> Result<[Option<Loop>; PROCESSORS], Memory>
     ensures { IfOk result (λ loops. TellLoops loops from (from + every) machine.now) }
 {
-    let profile = machine.profile();
+    // No order has more steps than 32 bits count.
+    let Some(end) = from.checked_add(every) else {
+        return Err(Memory);
+    };
+    let order = barrel_order(alloc, machine, end)?;
+    let order = order.processors();
     let mut bare = BareMachine::of(alloc, machine)?;
-    let _still = run_telling(&mut bare, profile, from);
+    let _still = run_telling(&mut bare, &order[..from as usize]);
     let mut loops = [None; PROCESSORS];
-    let start = u64::from(from);
-    for turn in start..start + u64::from(every) {
-        let n = in_turn(profile, turn);
+    for turn in from..end {
+        let n = order[turn as usize];
         let p = bare.pp(n).p();
         let moved = step_telling(&mut bare, n);
         note(&mut loops, n, p, moved);

@@ -60,7 +60,7 @@ pub(crate) fn find_period<A: Allocator + Copy, B: Allocator>(
     ensures { IfOk result (λ period. PeriodWithin period rounds machine.now) }
 {
     let end = bare_after(alloc, machine, rounds)?;
-    let mut later = bare_after(alloc, machine, rounds)?;
+    let mut later = end.copy(alloc)?;
     Ok(period_from(machine, &end, &mut later, rounds))
 }
 

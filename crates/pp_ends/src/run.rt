@@ -1,8 +1,9 @@
 //! How runs end.
 
-ghost use Rattle.std.specs.Prelude.{◌≡◌, ℕ, IfOk, IfSome, IsNone};
+ghost use Rattle.std.specs.Prelude.{◌≡◌, ◌<◌, ◌^◌, ℕ, length, IfOk, IfSome, IsNone};
 ghost use Rattle.pp_run.specs.BareMachine.{StandsFor};
 ghost use Rattle.pp_machine.specs.MachineState.{MachineState};
+ghost use Rattle.pp_machine.specs.Run.{barrel};
 ghost use Rattle.pp_run.specs.Determinacy.{IsQuiet};
 ghost use Rattle.pp_ends.specs.Endings.{IsEnding, IsStillFrom, after_turns};
 
@@ -10,12 +11,13 @@ use crate::Ending;
 use crate::quiet::{is_quiet, is_running, step_telling};
 use crate::rounds::{find_period, find_start, round_of};
 use pp_channel::Memory;
-use pp_machine::{Machine, Profile};
-use pp_run::{BareMachine, in_turn};
+use pp_machine::{Machine, PpNo};
+use pp_run::{BareMachine, Order};
 use std::alloc::Allocator;
 
 /// How a run of this many turns of the barrel (decimal) ends. The machine is only read: at most two
-/// copies make the run, of processors, central memory and the states of the channels.
+/// copies make the run, of processors, central memory and the states of the channels, by a list of
+/// the turns.
 pub fn find_ending<A: Allocator + Copy, B: Allocator>(
     alloc: A,
     machine: &Machine<B>,
@@ -52,8 +54,9 @@ fn quiet_ending<A: Allocator + Copy, B: Allocator>(
     ensures moves { IfOk result (λ found. IsNone found
         → ¬ IsQuiet (after_turns turns machine.now)) }
 {
+    let order = barrel_order(alloc, machine, turns)?;
     let mut bare = BareMachine::of(alloc, machine)?;
-    let from = run_telling(&mut bare, machine.profile(), turns);
+    let from = run_telling(&mut bare, order.processors());
     if !is_quiet(&bare) {
         return Ok(None);
     }
@@ -64,21 +67,30 @@ fn quiet_ending<A: Allocator + Copy, B: Allocator>(
     }
 }
 
-/// Runs these turns of the barrel, and says from which turn on no step moved.
-pub(crate) fn run_telling<A: Allocator>(
-    bare: &mut BareMachine<A>,
-    profile: Profile,
+/// The order of this many turns of the barrel of a machine.
+#[tactic(auto, using(pp_machine::proofs::OrderLemmas::order_of_barrel))]
+pub(crate) fn barrel_order<A: Allocator, B: Allocator>(
+    alloc: A,
+    machine: &Machine<B>,
     turns: u32,
-) -> u32
-    ensures ran { (m : MachineState) → profile ≡ m.profile → StandsFor bare.old m
-        → StandsFor bare.new (after_turns turns m) }
-    ensures still { (m : MachineState) → profile ≡ m.profile → StandsFor bare.old m
-        → IsStillFrom result turns m }
+) -> Result<Order<A>, Memory>
+    ensures { IfOk result (λ order. order ≡ barrel machine.now.profile turns) }
+{
+    Order::of_run(alloc, &[], machine.profile(), turns)
+}
+
+/// Makes these turns of the barrel, and says from which turn on no step moved.
+pub(crate) fn run_telling<A: Allocator>(bare: &mut BareMachine<A>, order: &[PpNo]) -> u32
+    requires { length order.now < 2 ^ 32 }
+    ensures ran { (turns : ℕ) (m : MachineState) → order.now ≡ barrel m.profile turns
+        → StandsFor bare.old m → StandsFor bare.new (after_turns turns m) }
+    ensures still { (turns : ℕ) (m : MachineState) → order.now ≡ barrel m.profile turns
+        → StandsFor bare.old m → IsStillFrom result turns m }
 {
     let mut from = 0;
-    for turn in 0..turns {
-        if step_telling(bare, in_turn(profile, u64::from(turn))) {
-            from = turn + 1;
+    for (turn, n) in order.iter().enumerate() {
+        if step_telling(bare, *n) {
+            from = turn as u32 + 1;
         }
     }
     from

@@ -10,7 +10,7 @@ use pp_word::Word12;
 /// Where a processor stands: a step that moves changes some of this. So a step need not be compared
 /// by the whole memory before and after it.
 #[derive(Clone, Copy, PartialEq, Eq)]
-pub(crate) struct Stand {
+pub struct Stand {
     pub(crate) p: Word12,
     pub(crate) running: bool,
     /// The next place of a block in progress.
@@ -21,7 +21,7 @@ pub(crate) struct Stand {
 
 impl Stand {
     /// Where a processor stands now.
-    pub(crate) fn of(pp: &Pp) -> Stand
+    pub fn of(pp: &Pp) -> Stand
         ensures stand { result ≡ stand_of pp.now }
         ensures widths { IsProcessor pp.now }
     {
@@ -36,7 +36,7 @@ impl Stand {
     }
 
     /// Whether it is the same as another.
-    pub(crate) fn is_same(&self, other: &Stand) -> bool
+    pub fn is_same(&self, other: &Stand) -> bool
         ensures { IsTrue result ↔ (self.now ≡ other.now) }
     {
         *self == *other

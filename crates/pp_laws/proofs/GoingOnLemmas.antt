@@ -1,111 +1,52 @@
 -- A run that goes on, and one from its dump, step by step.
-use Rattle.std.proofs.Common.{◌≡◌, ◌≢◌, ℕ, ◌+◌, ◌^◌, ◌<◌, ◌≤◌, ◌-◌, Bool, true, false, cond, IsTrue, List, [], ◌∷◌, ◌++◌, append-nil, append_assoc, length, map, min, get_or, slice_set, Option, Some, None, Ok, refl, sym, ap, ◌∙◌, subst, inl, inr, arith}
-use Rattle.std.specs.Prelude.{All, filter_map, nat_lt, slice_get}
-use Rattle.std.specs.List.{cons_option}
+use Rattle.std.proofs.Common.{◌≡◌, ◌≢◌, ℕ, ◌+◌, ◌^◌, ◌<◌, ◌≤◌, ◌-◌, Bool, true, false, cond, IsTrue, List, [], ◌∷◌, ◌++◌, append-nil, append_assoc, length, map, Option, Some, None, Ok, refl, sym, ap, ◌∙◌, subst, inl, inr, arith}
+use Rattle.std.specs.Prelude.{filter_map, nat_lt, slice_get}
 use Rattle.std.specs.Option.{option_to_list}
 use Rattle.std.proofs.Math.ListN.{get_or-map}
 use Rattle.std.proofs.lemmas.Bool.{cases_eq, cases_lt, ltb-false}
 use Rattle.std.proofs.lemmas.List.{get_or-replicate, get_or_past, length-map, length-replicate, map-append}
-use Rattle.std.proofs.lemmas.List.Elements.{All-cons, All-nil}
 use Rattle.pp_numbers.specs.ChannelNo.{all_channels, channel_count, channel_index, channel_number, channel_places, names_channel}
 use Rattle.pp_numbers.specs.PpNo.{all_processors, processor_count, processor_index}
 use Rattle.pp_numbers.specs.Tables.{tabulate}
-use Rattle.pp_numbers.proofs.TableLemmas.{get_or-tabulate, length-tabulate}
-use Rattle.pp_channel.specs.Answer.{channel_state, event_by, event_of, history_after, state_reply}
+use Rattle.pp_channel.specs.Answer.{channel_state, event_by, event_of}
 use Rattle.pp_channel.specs.History.{IsLawful, active}
-use Rattle.pp_channel.specs.declared.{chan_op.ChanOp.ChanOp, channel_state.ChannelState.ChannelState, event.Event.Event}
+use Rattle.pp_channel.specs.declared.{channel_state.ChannelState.ChannelState, event.Event.Event}
 use Rattle.pp_channel.specs.declared.event.Event.TheVariants.{Activate}
-use Rattle.pp_channel.proofs.AnswerLemmas.{flags_by_table, lawful_with_event, word_by_table}
 use Rattle.pp_channel.proofs.LawLemmas.{law_of_lawful}
-use Rattle.pp_machine.specs.Headline.{HoldsOnChannel, HoldsOnEachChannel}
+use Rattle.pp_machine.specs.Headline.{HoldsOnChannel}
 use Rattle.pp_machine.specs.MachineState.{MachineState, history_of, processor_of}
-use Rattle.pp_machine.specs.MachineStep.{answer_to, central_after, counted, stepped, trace_after}
+use Rattle.pp_machine.specs.MachineStep.{answer_to, counted, stepped, trace_after}
 use Rattle.pp_machine.specs.NeedAndEffect.{need, processor_after}
 use Rattle.pp_machine.specs.Processor.{Processor, IsAtRest, no_processor}
 use Rattle.pp_machine.specs.Run.{run, run_order}
-use Rattle.pp_machine.specs.declared.{answer.Answer.Answer, need.Need.Need, pp_state.PpState.PpState, trace.Trace.Trace}
-use Rattle.pp_machine.specs.declared.need.Need.TheVariants.{Channel, Read, Write}
+use Rattle.pp_machine.specs.declared.{need.Need.Need, pp_state.PpState.PpState, trace.Trace.Trace}
+use Rattle.pp_machine.specs.declared.need.Need.TheVariants.{Channel}
 use Rattle.pp_machine.specs.declared.pp_state.PpState.TheVariants.{Running, Stopped, Fault}
 use Rattle.pp_machine.proofs.MachineStepLemmas.{stepped_at_rest}
 use Rattle.pp_machine.proofs.OrderLemmas.{length-run_order}
-use Rattle.pp_machine.proofs.RunLemmas.{run_keeps}
 use Rattle.pp_numbers.specs.declared.profile.Profile.{Profile}
 use Rattle.pp_listing.specs.RestOfOrder.{order_left}
+use Rattle.pp_listing.proofs.GoingOnLemmas.{none_given}
 use Rattle.pp_listing.proofs.RestOfOrderLemmas.{run_goes_on}
-use Rattle.pp_run.proofs.StepFacts.{central_by, histories_by, history_elsewhere, history_here, length_histories, length_processors, other_step, own_step}
+use Rattle.pp_run.proofs.AlikeLemmas.{ChannelsAlike, IsLawfulMachine, answers_alike, central_alike, channels_alike, run_lawful}
+use Rattle.pp_run.proofs.Moments.{run_processors}
+use Rattle.pp_run.proofs.StepFacts.{central_by, other_step, own_step, trace_by}
 use Rattle.pp_deck.specs.DeckMeaning.{LoadedDeck, deck_meaning}
 use Rattle.pp_listing.specs.Dump.{after, all_busy, busy_channel, busy_processor, deck_to_go_on, first_busy, left_of}
+use Rattle.pp_listing.specs.declared.going_on.Busy.{Busy}
 use Rattle.pp_listing.specs.declared.going_on.Busy.TheVariants.{Active}
 use Rattle.pp_laws.specs.GoingOn.{GoesOnAs, RestAlike, later}
-
--- ---- channels
+use Rattle.pp_laws.proofs.RisingTurnLemmas.{count_step}
 
 -- a machine with all its processors and channels, of each of which the headline holds
 pub record IsSound (m : MachineState) : Type 0 where
   pub processors : length m.processors ≡ processor_count
-  pub channels : length m.histories ≡ channel_count
-  pub headline : HoldsOnEachChannel m
+  pub lawful : IsLawfulMachine m
 
-pub sound_step : (n : ℕ) (m : MachineState) → IsSound m → IsSound (stepped n m)
-sound_step n m s = record {
-  processors = length_processors n m ∙ s.processors;
-  channels = length_histories n m ∙ s.channels;
-  headline = run_keeps (n ∷ []) m s.channels s.headline;
-}
+sound_run : (ns : List ℕ) (m : MachineState) → IsSound m → IsSound (run ns m)
+sound_run ns m s = record { processors = run_processors ns m ∙ s.processors; lawful = run_lawful ns m s.lawful }
 
--- a channel after an operation, by how it stood
-state_by : (h other : List Event) (op : ChanOp) → IsLawful h → IsLawful other → channel_state other ≡ channel_state h → (made : Option Event) → event_of op h ≡ made → channel_state (history_after op other) ≡ channel_state (history_after op h)
-state_by h other op lawful lawful_other same None is =
-    let is_other : event_of op other ≡ None = ap (λ (s : ChannelState). event_by op s.flags s.register) same ∙ is in
-    ap (λ (o : Option Event). channel_state (other ++ option_to_list o)) is_other
-    ∙ ap channel_state (append-nil other) ∙ same ∙ ap channel_state (sym (append-nil h))
-    ∙ ap (λ (o : Option Event). channel_state (h ++ option_to_list o)) (sym is)
-state_by h other op lawful lawful_other same (Some e) is =
-    let is_other : event_of op other ≡ Some e = ap (λ (s : ChannelState). event_by op s.flags s.register) same ∙ is in
-    let more = lawful_with_event h op e lawful is in
-    let more_other = lawful_with_event other op e lawful_other is_other in
-    ap (λ (o : Option Event). channel_state (other ++ option_to_list o)) is_other
-    ∙ rw (flags_by_table h e lawful more, word_by_table h e lawful more, flags_by_table other e lawful_other more_other, word_by_table other e lawful_other more_other) refl
-    ∙ ap (λ (o : Option Event). channel_state (h ++ option_to_list o)) (sym is)
-
-abbrev ChannelsAlike : MachineState → MachineState → Type 0
-ChannelsAlike one other = (c : ℕ) → channel_state (history_of c other) ≡ channel_state (history_of c one)
-
-channels_alike : (n c : ℕ) (one other : MachineState) → IsSound one → IsSound other → ChannelsAlike one other → (x : Need) → need (processor_of n one) ≡ x → need (processor_of n other) ≡ x
-    → channel_state (history_of c (stepped n other)) ≡ channel_state (history_of c (stepped n one))
-channels_alike n c one other l k alike (Channel d op) e f = elim (cases_lt (channel_index c) channel_count) [
-  | inr past ↦
-      ap channel_state (get_or_past (stepped n other).histories (channel_index c) [] (omega (arith, past, length_histories n other, k.channels)))
-      ∙ ap channel_state (sym (get_or_past (stepped n one).histories (channel_index c) [] (omega (arith, past, length_histories n one, l.channels))))
-  | inl below ↦
-      let names = channel_places.named_below c below in
-      elim (cases_eq c d) [
-        | inr apart ↦
-            ap channel_state (history_elsewhere n c d op other k.channels f apart) ∙ alike c
-            ∙ ap channel_state (sym (history_elsewhere n c d op one l.channels e apart))
-        | inl same ↦
-            let on : need (processor_of n one) ≡ Channel c op = e ∙ ap (λ (b : ℕ). Channel b op) (sym same) in
-            let on_other : need (processor_of n other) ≡ Channel c op = f ∙ ap (λ (b : ℕ). Channel b op) (sym same) in
-            ap channel_state (history_here n c op other k.channels names on_other)
-            ∙ state_by (history_of c one) (history_of c other) op (l.headline c names).lawful (k.headline c names).lawful (alike c) (event_of op (history_of c one)) refl
-            ∙ ap channel_state (sym (history_here n c op one l.channels names on))
-      ]
-]
-channels_alike n c one other l k alike rest e f =
-    ap (λ (hs : List (List Event)). channel_state (get_or hs (channel_index c) [])) (histories_by n other rest f) ∙ alike c
-    ∙ ap (λ (hs : List (List Event)). channel_state (get_or hs (channel_index c) [])) (sym (histories_by n one rest e))
-
--- ---- answers and events
-
-answers_alike : (one other : MachineState) → ChannelsAlike one other → other.central ≡ one.central → (x : Need) → answer_to x other ≡ answer_to x one
-answers_alike one other alike central (Channel c op) = ap (λ (s : ChannelState). Answer.Channel (state_reply op s)) (alike c)
-answers_alike one other alike central (Read address) = ap (λ (ws : List ℕ). Answer.Read (slice_get ws address)) central
-answers_alike one other alike central (Write address word) = ap (λ (ws : List ℕ). Answer.Wrote (nat_lt address (length ws))) central
-answers_alike one other alike central rest = refl
-
-central_alike : (one other : MachineState) → other.central ≡ one.central → (x : Need) → central_after x other ≡ central_after x one
-central_alike one other central (Write address word) = ap (λ (ws : List ℕ). slice_set ws address word) central
-central_alike one other central next = central
+-- ---- events
 
 abbrev entry : ℕ → ℕ → ℕ → Event → Trace
 entry turn n c e = record { turn = turn; pp = n; channel = c; event = e }
@@ -132,17 +73,6 @@ events_alike turns n before one other alike count same rest = same
 pub record IsBeside (turns : ℕ) (dumped one other : MachineState) : Type 0 where
   pub goes_on : GoesOnAs turns dumped one other
   pub count : one.turns ≡ turns + other.turns
-
-trace_step : (n : ℕ) (m : MachineState) (x : Need) → need (processor_of n m) ≡ x → (stepped n m).trace ≡ trace_after n x m
-unfolding stepped
-trace_step n m x e = ap (λ y. trace_after n y m) e
-
-count_step : (n : ℕ) (m : MachineState) → m.turns + 1 < 2 ^ 64 → (stepped n m).turns ≡ m.turns + 1
-unfolding stepped
-count_step n m few = least m.turns few
-  where
-    least : (t : ℕ) → t + 1 < 2 ^ 64 → min (t + 1) (2 ^ 64 - 1) ≡ t + 1
-    least t few = omega (arith, few)
 
 counts : (turns n : ℕ) (one other : MachineState) → one.turns ≡ turns + other.turns → one.turns + 1 < 2 ^ 64 → (stepped n one).turns ≡ turns + (stepped n other).turns
 counts turns n one other count few = omega (arith, count, few, count_step n one few, count_step n other (omega (arith, count, few)))
@@ -171,9 +101,9 @@ module _ (turns n : ℕ) (dumped one other : MachineState) (l : IsSound one) (k 
               subst (λ (pp : Processor). RestAlike pp (processor_of q (stepped n other))) (sym (other_step q n one l.processors apart))
               (subst (RestAlike (processor_of q one)) (sym (other_step q n other k.processors apart)) (g.at_rest q was));
           central = central_by n other x needs ∙ central_alike one other g.central x ∙ sym (central_by n one x refl);
-          channels = λ c. channels_alike n c one other l k g.channels x refl needs;
-          events = trace_step n one x refl ∙ events_alike turns n dumped.trace one other g.channels b.count g.events x
-              ∙ ap (λ (es : List Trace). dumped.trace ++ map (later turns) es) (sym (trace_step n other x needs));
+          channels = λ c. channels_alike n c one other l.lawful k.lawful g.channels x refl needs;
+          events = trace_by n one x refl ∙ events_alike turns n dumped.trace one other g.channels b.count g.events x
+              ∙ ap (λ (es : List Trace). dumped.trace ++ map (later turns) es) (sym (trace_by n other x needs));
         };
         count = counts turns n one other b.count few;
       }
@@ -201,7 +131,7 @@ pub run_beside : (turns : ℕ) (ns : List ℕ) (dumped one other : MachineState)
 run_beside turns [] dumped one other l k b few = b
 run_beside turns (n ∷ ns) dumped one other l k b few =
     let next : one.turns + 1 < 2 ^ 64 = omega (arith, few) in
-    run_beside turns ns dumped (stepped n one) (stepped n other) (sound_step n one l) (sound_step n other k)
+    run_beside turns ns dumped (stepped n one) (stepped n other) (sound_run (n ∷ []) one l) (sound_run (n ∷ []) other k)
     (step_beside turns n dumped one other l k b next (processor_of n dumped).state refl) (omega (arith, few, count_step n one next))
 
 -- ---- the dump
@@ -211,14 +141,6 @@ none_first [] [] e = refl
 none_first [] (y ∷ ys) e = absurd (cc)
 none_first (x ∷ xs) ys e = absurd (cc)
 
-none_of : {A : Type 0} (f : ℕ → Option A) (xs : List ℕ) → filter_map f xs ≡ [] → All (λ x. f x ≡ None) xs
-none_of f [] e = All-nil (λ x. f x ≡ None)
-none_of {A} f (x ∷ xs) e = by (none_of f xs) (f x) refl e
-  where
-    by : (filter_map f xs ≡ [] → All (λ x. f x ≡ None) xs) → (o : Option A) → f x ≡ o → cons_option o (filter_map f xs) ≡ [] → All (λ x. f x ≡ None) (x ∷ xs)
-    by more None is none = All-cons (λ x. f x ≡ None) x xs is (more none)
-    by more (Some y) is none = absurd (cc)
-
 not_active : (c : ℕ) (b : Bool) → cond b (Some (Active c)) None ≡ None → b ≡ false
 not_active c true e = absurd (cc)
 not_active c false e = refl
@@ -227,11 +149,11 @@ not_active c false e = refl
 none_active : (m : MachineState) (c : ℕ) → IsTrue (names_channel c) → first_busy m ≡ None → active (history_of c m) ≡ false
 unfolding all_busy all_channels
 none_active m c named e =
-    let none = none_of (busy_channel m) (tabulate channel_count channel_number) (none_first (filter_map (busy_processor m) all_processors) (filter_map (busy_channel m) (tabulate channel_count channel_number)) e) in
     let place = channel_index c in
     let below = channel_places.place_below c named in
-    let number : get_or (tabulate channel_count channel_number) place 0 ≡ c = get_or-tabulate channel_count channel_number place 0 below ∙ channel_places.number_of_place c named in
-    not_active c (active (history_of c m)) (subst (λ (d : ℕ). busy_channel m d ≡ None) number (none place 0 (omega (arith, below, length-tabulate channel_count channel_number))))
+    let none = none_first (filter_map (busy_processor m) all_processors) (filter_map (busy_channel m) (tabulate channel_count channel_number)) e in
+    let given = none_given (busy_channel m) channel_number place channel_count [] below (ap (λ (xs : List Busy). slice_get (xs ++ []) 0) none) in
+    not_active c (active (history_of c m)) (ap (busy_channel m) (sym (channel_places.number_of_place c named)) ∙ given)
 
 inactive : (h : List Event) → active h ≡ false → channel_state h ≡ channel_state []
 inactive h e = rw e refl
@@ -270,8 +192,10 @@ module _ (deck : LoadedDeck) where
   pub sound_to_go_on : length deck.machine.processors ≡ processor_count → IsSound (deck_to_go_on deck).machine
   sound_to_go_on all = record {
     processors = length-map deck.machine.processors (λ (pp : Processor). left_of pp.state pp) ∙ all;
-    channels = each_history;
-    headline = λ c named. none_happened _ _ (ap (λ (b : Bool). cond b (Activate ∷ []) []) (get_or-replicate channel_count (channel_index c) false false (channel_places.place_below c named))) (no_history c);
+    lawful = record {
+      channels = each_history;
+      headline = λ c named. none_happened _ _ (ap (λ (b : Bool). cond b (Activate ∷ []) []) (get_or-replicate channel_count (channel_index c) false false (channel_places.place_below c named))) (no_history c);
+    };
   }
 
   pub starts_beside : (turns : ℕ) → deck.machine.turns ≡ turns → length deck.machine.histories ≡ channel_count → first_busy deck.machine ≡ None → IsBeside turns deck.machine deck.machine (deck_to_go_on deck).machine
@@ -295,10 +219,6 @@ count_run (n ∷ ns) m few =
     let rest = count_run ns (stepped n m) (omega (arith, few, next)) in
     omega (arith, next, rest)
 
-pub sound_run : (ns : List ℕ) (m : MachineState) → IsSound m → IsSound (run ns m)
-sound_run [] m s = s
-sound_run (n ∷ ns) m s = sound_run ns (stepped n m) (sound_step n m s)
-
 -- a deck that has made some steps and is dumped, and then more
 pub goes_on_from : (deck : LoadedDeck) (steps more : List ℕ) → IsSound deck.machine → deck.machine.turns ≡ 0 → length steps + length more < 2 ^ 64 → first_busy (run steps deck.machine) ≡ None
     → GoesOnAs (length steps) (run steps deck.machine) (run more (run steps deck.machine)) (run more (deck_to_go_on (after steps deck)).machine)
@@ -306,21 +226,12 @@ goes_on_from deck steps more sound none few between =
     let dumped = run steps deck.machine in
     let its = sound_run steps deck.machine sound in
     let count : dumped.turns ≡ length steps = omega (arith, few, none, count_run steps deck.machine (omega (arith, few, none))) in
-    let start = starts_beside (after steps deck) (length steps) count its.channels between in
+    let start = starts_beside (after steps deck) (length steps) count its.lawful.channels between in
     (run_beside (length steps) more dumped dumped (deck_to_go_on (after steps deck)).machine its (sound_to_go_on (after steps deck) its.processors) start (omega (arith, few, count))).goes_on
 
 pub goes_on_in_order : (deck : LoadedDeck) (first : List ℕ) (p : Profile) (turns more : ℕ) → IsSound deck.machine → deck.machine.turns ≡ 0 → turns + more < 2 ^ 64 → first_busy (run (run_order first p turns) deck.machine) ≡ None
     → GoesOnAs turns (run (run_order first p turns) deck.machine) (run (run_order first p (turns + more)) deck.machine) (run (run_order (order_left first p turns) p more) (deck_to_go_on (after (run_order first p turns) deck)).machine)
-goes_on_in_order deck first p turns more sound none few between =
-    let steps = run_order first p turns in
-    let rest = run_order (order_left first p turns) p more in
-    let made : length steps ≡ turns = length-run_order first p turns in
-    let left : length rest ≡ more = length-run_order (order_left first p turns) p more in
-    let dumped = run steps deck.machine in
-    let other = run rest (deck_to_go_on (after steps deck)).machine in
-    subst (λ (m : MachineState). GoesOnAs turns dumped m other) (sym (run_goes_on first p turns more deck.machine))
-    (subst (λ (n : ℕ). GoesOnAs n dumped (run rest dumped) other) made
-    (goes_on_from deck steps rest sound none (omega (arith, few, made, left)) between))
+goes_on_in_order deck first p turns more sound none few between = grind (arith, length-run_order, run_goes_on, goes_on_from)
 
 -- a text that means a deck is no longer than a deck may be
 fits_if : (profile : Profile) (text : List ℕ) (deck : LoadedDeck) (b : Bool) → nat_lt 1048576 (length text) ≡ b → deck_meaning profile text ≡ Ok deck → length text ≤ 1048576

@@ -13,3 +13,7 @@ mod PrintedReportLemmas
 mod ReportLemmas
 mod GoingOnLemmas
 mod OrderReadLemmas
+mod PlainLemmas
+mod ReadOrderLemmas
+mod EndingsReadLemmas
+mod OneEndingLemmas

@@ -92,13 +92,13 @@ decimal_length n few =
     let all = length-append (unpadded 19 (n / 10)) (digit (n % 10)) in
     (omega (arith, all), omega (arith, all, short))
 
-count_read : (n : ℕ) → n ≤ 999999 → numeral 10 6 (short_decimal n) ≡ Some n
+pub count_read : (n : ℕ) → n ≤ 999999 → numeral 10 6 (short_decimal n) ≡ Some n
 count_read n few = let long = decimal_length n few in read_number n (short_decimal n) long.0 long.1 (decimal_passes (is_digit 10) ten_digit n) (decimal_value n few)
 
 -- ---- what a text is cut at
 
 -- no character is this one
-Lacks : ℕ → List ℕ → Type 0
+pub Lacks : ℕ → List ℕ → Type 0
 Lacks mark text = list_all (λ c. not (eqb c mark)) text ≡ true
 
 not_true : (b : Bool) → not b ≡ true → b ≡ false
@@ -110,13 +110,13 @@ unfolding Lacks
 each_lacks mark text lacks = λ k d lt. not_true (eqb (get_or text k d) mark) (AllPass-from_list_all (λ c. not (eqb c mark)) text lacks k d lt)
 
 -- a mark behind the digits
-digit_other : (mark : ℕ) → 57 < mark → Pass 10 (λ c. not (eqb c mark))
+pub digit_other : (mark : ℕ) → 57 < mark → Pass 10 (λ c. not (eqb c mark))
 digit_other mark past d low = let other : eqb (48 + d) mark ≡ false = ne_eqb (48 + d) mark (λ e. absurd (omega (arith, past, low, e))) in rw other refl
 
 digit_before : (mark : ℕ) → mark < 48 → Pass 10 (λ c. not (eqb c mark))
 digit_before mark before d low = let other : eqb (48 + d) mark ≡ false = ne_eqb (48 + d) mark (λ e. absurd (omega (arith, before, e))) in rw other refl
 
-octal_lacks : (mark n : ℕ) → Pass 10 (λ c. not (eqb c mark)) → Lacks mark (short_octal 2 n)
+pub octal_lacks : (mark n : ℕ) → Pass 10 (λ c. not (eqb c mark)) → Lacks mark (short_octal 2 n)
 unfolding Lacks
 octal_lacks mark n h = short_pass (λ c. not (eqb c mark)) (λ d low. h d (omega (arith, low))) 2 n
 
@@ -138,7 +138,7 @@ rows_split row (next ∷ rows) =
 position_at : (text : List ℕ) (n : ℕ) → position_or_len is_colon text ≡ n → position is_colon text ≡ cond (nat_lt n (length text)) (Some n) None
 position_at text n e = ap (λ (k : ℕ). cond (nat_lt k (length text)) (Some k) None) e
 
-no_colon : (text : List ℕ) → Lacks 58 text → position is_colon text ≡ None
+pub no_colon : (text : List ℕ) → Lacks 58 text → position is_colon text ≡ None
 unfolding Lacks
 no_colon text lacks =
     let all : position_or_len is_colon text ≡ length text = prefix_len_is (λ c. not (is_colon c)) text (length text) 0 (omega arith) (λ k lt. AllPass-from_list_all (λ c. not (eqb c 58)) text lacks k 0 lt) (λ lt. absurd (omega (arith, lt))) in
@@ -152,7 +152,7 @@ colon_at (c ∷ text) rest lacks =
     let further = colon_at text rest parts.1 in
     ap (λ (b : Bool). cond b (1 + position_or_len is_colon (text ++ 58 ∷ rest)) 0) parts.0 ∙ omega (arith, further)
 
-first_colon : (text rest : List ℕ) → Lacks 58 text → position is_colon (text ++ 58 ∷ rest) ≡ Some (length text)
+pub first_colon : (text rest : List ℕ) → Lacks 58 text → position is_colon (text ++ 58 ∷ rest) ≡ Some (length text)
 first_colon text rest lacks =
     let within : length text < length (text ++ 58 ∷ rest) = omega (arith, length-append text (58 ∷ rest)) in
     position_at (text ++ 58 ∷ rest) (length text) (colon_at text rest lacks) ∙ ap (λ (b : Bool). cond b (Some (length text)) None) (lt-ltb (length text) (length (text ++ 58 ∷ rest)) within)
@@ -200,16 +200,16 @@ module _ (profile : Profile) where
 
 -- ---- all items
 
-steps_in : List StepsInARow → List ℕ
+unfoldable pub steps_in : List StepsInARow → List ℕ
 steps_in [] = []
 steps_in (row ∷ rows) = replicate row.count row.processor ++ steps_in rows
 
--- rows of a machine's processors, none of which is empty
-Exist : Profile → List StepsInARow → Type 0
-Exist profile [] = Unit {0}
-Exist profile (row ∷ rows) = (IsTrue (has_processor profile row.processor) × (1 ≤ row.count)) × Exist profile rows
+-- rows of such processors, none of which is empty
+unfoldable pub Exist : (ℕ → Type 0) → List StepsInARow → Type 0
+Exist Is [] = Unit {0}
+Exist Is (row ∷ rows) = (Is row.processor × (1 ≤ row.count)) × Exist Is rows
 
-all_read : (profile : Profile) (rows : List StepsInARow) → Exist profile rows → length (steps_in rows) ≤ 999999 → all_steps profile (map row_text rows) ≡ Some (steps_in rows)
+all_read : (profile : Profile) (rows : List StepsInARow) → Exist (λ n. IsTrue (has_processor profile n)) rows → length (steps_in rows) ≤ 999999 → all_steps profile (map row_text rows) ≡ Some (steps_in rows)
 unfolding steps_in Exist
 all_read profile [] exist few = refl
 all_read profile (row ∷ rows) exist few =
@@ -230,24 +230,24 @@ step_in n (row ∷ rows) = by (eqb row.processor n) refl
         ∙ ap (λ (m : ℕ). m ∷ (replicate row.count row.processor ++ steps_in rows)) (eqb-true row.processor n same)
     by false other = refl
 
-steps_are : (ns : List ℕ) → steps_in (rows_of ns) ≡ ns
+pub steps_are : (ns : List ℕ) → steps_in (rows_of ns) ≡ ns
 unfolding rows_of steps_in
 steps_are [] = refl
 steps_are (n ∷ ns) = step_in n (rows_of ns) ∙ ap (λ (ks : List ℕ). n ∷ ks) (steps_are ns)
 
-step_exists : (profile : Profile) (n : ℕ) (rows : List StepsInARow) → IsTrue (has_processor profile n) → Exist profile rows → Exist profile (step_and_rows n rows)
+step_exists : (Is : ℕ → Type 0) (n : ℕ) (rows : List StepsInARow) → Is n → Exist Is rows → Exist Is (step_and_rows n rows)
 unfolding Exist
-step_exists profile n [] has exist = ((has, omega arith), tt)
-step_exists profile n (row ∷ rows) has exist = by (eqb row.processor n)
+step_exists Is n [] has exist = ((has, omega arith), tt)
+step_exists Is n (row ∷ rows) has exist = by (eqb row.processor n)
   where
-    by : (b : Bool) → Exist profile (cond b (record row { count = row.count + 1 } ∷ rows) (record { processor = n; count = 1 } ∷ row ∷ rows))
+    by : (b : Bool) → Exist Is (cond b (record row { count = row.count + 1 } ∷ rows) (record { processor = n; count = 1 } ∷ row ∷ rows))
     by true = ((exist.0.0, omega arith), exist.1)
     by false = ((has, omega arith), exist)
 
-rows_exist : (profile : Profile) (ns : List ℕ) → All (λ n. IsTrue (has_processor profile n)) ns → Exist profile (rows_of ns)
+pub rows_exist : (Is : ℕ → Type 0) (ns : List ℕ) → All Is ns → Exist Is (rows_of ns)
 unfolding rows_of Exist
-rows_exist profile [] all = tt
-rows_exist profile (n ∷ ns) all = step_exists profile n (rows_of ns) (All-head (λ k. IsTrue (has_processor profile k)) n ns all) (rows_exist profile ns (All-tail (λ k. IsTrue (has_processor profile k)) n ns all))
+rows_exist Is [] all = tt
+rows_exist Is (n ∷ ns) all = step_exists Is n (rows_of ns) (All-head Is n ns all) (rows_exist Is ns (All-tail Is n ns all))
 
 some_rows : (n : ℕ) (rows : List StepsInARow) → slice_split is_comma (join_with_byte 44 (map row_text (step_and_rows n rows))) ≡ map row_text (step_and_rows n rows)
 some_rows n [] = rows_split (record { processor = n; count = 1 }) []
@@ -257,7 +257,7 @@ some_rows n (row ∷ rows) = by (eqb row.processor n)
     by true = rows_split (record row { count = row.count + 1 }) rows
     by false = rows_split (record { processor = n; count = 1 }) (row ∷ rows)
 
-items_are : (n : ℕ) (ns : List ℕ) → numbers_of (order_text (n ∷ ns)) ≡ map row_text (rows_of (n ∷ ns))
+pub items_are : (n : ℕ) (ns : List ℕ) → numbers_of (order_text (n ∷ ns)) ≡ map row_text (rows_of (n ∷ ns))
 unfolding numbers_of order_text rows_of
 items_are n ns = some_rows n (rows_of ns)
 
@@ -268,7 +268,7 @@ read_back profile (n ∷ ns) some few all =
     let order = n ∷ ns in
     let are = steps_are order in
     ap (λ (texts : List (List ℕ)). option_and_then (λ steps. cond (nat_le (length steps) 999999) (Some steps) None) (all_steps profile texts)) (items_are n ns)
-    ∙ ap (option_and_then (λ steps. cond (nat_le (length steps) 999999) (Some steps) None)) (all_read profile (rows_of order) (rows_exist profile order all) (omega (arith, few, ap length are)) ∙ ap (λ (ks : List ℕ). Some ks) are)
+    ∙ ap (option_and_then (λ steps. cond (nat_le (length steps) 999999) (Some steps) None)) (all_read profile (rows_of order) (rows_exist (λ n. IsTrue (has_processor profile n)) order all) (omega (arith, few, ap length are)) ∙ ap (λ (ks : List ℕ). Some ks) are)
     ∙ ap (λ (b : Bool). cond b (Some order) None) (le-leb (length order) 999999 few)
 
 -- ---- what is left of an order

@@ -11,7 +11,7 @@ use Rattle.pp_channel.proofs.HistoryWalk.{State, Inactive}
 use Rattle.pp_numbers.proofs.LastElements.{last_or-push}
 use Rattle.pp_channel.specs.Answer.{channel_state}
 use Rattle.pp_numbers.specs.ChannelNo.{names_channel}
-use Rattle.pp_channel.specs.History.{IsLawful, active, full, waiting, history_on}
+use Rattle.pp_channel.specs.History.{IsLawful, active, waiting, history_on}
 use Rattle.pp_channel.specs.declared.{channel_state.ChannelState.ChannelState, event.Event.Event}
 use Rattle.pp_machine.specs.Headline as headline
 use Rattle.pp_machine.specs.MachineState.{MachineState, history_of}

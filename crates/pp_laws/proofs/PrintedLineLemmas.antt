@@ -195,7 +195,7 @@ numbered_line_read c number n e names below author bits =
 -- ---- the line of a channel
 
 -- what stands in it
-pub channel_body : ℕ → Bool → Option ℕ → List ℕ
+unfoldable pub channel_body : ℕ → Bool → Option ℕ → List ℕ
 channel_body c is_active word = channel_field c ++ (32 ∷ channel_text is_active word)
 
 state_fields : Bool → Option ℕ → List (List ℕ)

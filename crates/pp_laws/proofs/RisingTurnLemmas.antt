@@ -39,12 +39,17 @@ rise_by_need : (n : ℕ) (x : Need) (m : MachineState) → Rise m.turns (turns_i
 rise_by_need n (Channel c op) m rise = rise_by_event n c m (event_of op (history_of c m)) rise
 rise_by_need n x m rise = rise_later m.turns (turns_in m.trace) rise
 
+-- a step counts a turn
+pub count_step : (n : ℕ) (m : MachineState) → m.turns + 1 < 2 ^ 64 → (stepped n m).turns ≡ m.turns + 1
+unfolding stepped
+count_step n m few = least m.turns few
+  where
+    least : (t : ℕ) → t + 1 < 2 ^ 64 → min (t + 1) (2 ^ 64 - 1) ≡ t + 1
+    least t few = omega (arith, few)
+
 step_rises : (n : ℕ) (m : MachineState) → m.turns + 1 < 2 ^ 64 → Rise m.turns (turns_in m.trace) → ((stepped n m).turns ≡ m.turns + 1) × Rise (m.turns + 1) (turns_in (stepped n m).trace)
 unfolding stepped
-step_rises n m few rise = (least (m.turns) few, (rise_by_need n (need (processor_of n m)) m rise))
-  where
-    least : (turns : ℕ) → turns + 1 < 2 ^ 64 → min (turns + 1) (2 ^ 64 - 1) ≡ turns + 1
-    least turns few = omega (arith, few)
+step_rises n m few rise = (count_step n m few, rise_by_need n (need (processor_of n m)) m rise)
 
 pub run_rises : (ns : List ℕ) (m : MachineState) → m.turns + length ns < 2 ^ 64 → Rise m.turns (turns_in m.trace) → ((run ns m).turns ≡ m.turns + length ns) × Rise (m.turns + length ns) (turns_in (run ns m).trace)
 run_rises [] m few rise = (omega arith, subst (λ (n : ℕ). Rise n (turns_in m.trace)) (omega arith) rise)

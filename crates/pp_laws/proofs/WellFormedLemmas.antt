@@ -1,6 +1,6 @@
 -- A drawing is well-formed: what a run decides is plain, a reader passes over it, and each part of the
 -- picture is balanced.
-use Rattle.std.proofs.Common.{◌≡◌, ℕ, zero, suc, ◌+◌, ◌-◌, ◌%◌, ◌/◌, ◌&&◌, Bool, true, false, cond, eqb, leb, fold, List, [], ◌∷◌, ◌++◌, Option, None, Some, refl, ap, ◌∙◌, codes, arith}
+use Rattle.std.proofs.Common.{◌≡◌, ℕ, zero, suc, ◌%◌, ◌/◌, ◌&&◌, Bool, true, false, cond, eqb, leb, fold, List, [], ◌∷◌, ◌++◌, Option, None, Some, refl, ap, ◌∙◌, codes, arith}
 use Rattle.std.specs.List.{list_all, slice_get}
 use Rattle.std.specs.Option.{option_map, unwrap_or}
 use Rattle.std.proofs.lemmas.Bool.{and_parts}
@@ -17,7 +17,7 @@ use Rattle.pp_machine.specs.declared.pp_state.PpState.{PpState}
 use Rattle.pp_machine.specs.declared.pp_state.PpState.TheVariants.{Fault}
 use Rattle.pp_text.specs.PrintedText.{channel_text, each_below, state_text}
 use Rattle.pp_numbers.specs.declared.window.Window.{Window}
-use Rattle.pp_draw.specs.Condition.{channel_phases, face_of, processor_phases}
+use Rattle.pp_draw.specs.Condition.{channel_phases, face_of, own_earlier, processor_phases}
 use Rattle.pp_draw.specs.DrawingText.{channel_lane, drawing, is_flagged, is_used, lane_text, lanes_above, processor_lane, used_among}
 use Rattle.pp_draw.specs.Frame.{are_few, foot_text, head_text, legend_text, rectangle_tag, style_text, text_element, text_tag, tick_text}
 use Rattle.pp_draw.specs.Lane.{band_element, drawn_from, free_after, is_visible, label_from, lane_head, part_class, part_of}
@@ -189,12 +189,12 @@ balanced_channel w m c =
     let word = waiting (history_of c m) in
     balanced-if (is_used m c) _ (balanced_lane w (used_among (channel_index c) m) (codes "CH" ++ octal 2 c) (channel_phases c m) (channel_text is_active word) (plain_name (codes "CH") c refl) (plain_standing is_active word))
 
-balanced_processor : (w : Window) (shown : List Bool) (m : MachineState) (steps : List SeenStep) (n : ℕ) → IsBalanced (processor_lane w shown m steps n)
+balanced_processor : (w : Window) (shown : List Bool) (m : MachineState) (earlier : List (Option SeenStep)) (steps : List SeenStep) (n : ℕ) → IsBalanced (processor_lane w shown m earlier steps n)
 unfolding processor_lane
-balanced_processor w shown m steps n =
+balanced_processor w shown m earlier steps n =
     let state = (processor_of n m).state in
     balanced-if (is_flagged shown (processor_index n)) _
-    (balanced_lane w (lanes_above (processor_index n) shown m) (codes "PP" ++ octal 2 n) (processor_phases n steps) (state_text state) (plain_name (codes "PP") n refl) (plain_state state))
+    (balanced_lane w (lanes_above (processor_index n) shown m) (codes "PP" ++ octal 2 n) (processor_phases n (own_earlier n earlier ++ steps)) (state_text state) (plain_name (codes "PP") n refl) (plain_state state))
 
 -- ---- the picture
 
@@ -229,6 +229,6 @@ parts_read : (head style legend ticks channels processors foot : List ℕ) → r
     → read (between (svg ∷ [])) foot ≡ between [] → IsWellFormed (head ++ style ++ legend ++ ticks ++ channels ++ processors ++ foot)
 parts_read head style legend ticks channels processors foot begins s l t c p ends = simp (fold-append, begins, s svg [], l svg [], t svg [], c svg [], p svg [], ends)
 
-pub drawing_read : (w : Window) (shown : List Bool) (m : MachineState) (steps : List SeenStep) → IsWellFormed (drawing w shown m steps)
+pub drawing_read : (w : Window) (shown : List Bool) (m : MachineState) (earlier : List (Option SeenStep)) (steps : List SeenStep) → IsWellFormed (drawing w shown m earlier steps)
 unfolding drawing
-drawing_read w shown m steps = grind (arith, parts_read, head_read, balanced_style, balanced_legend, balanced_each, balanced_tick, balanced_channel, balanced_processor, foot_read)
+drawing_read w shown m earlier steps = grind (arith, parts_read, head_read, balanced_style, balanced_legend, balanced_each, balanced_tick, balanced_channel, balanced_processor, foot_read)

@@ -3,3 +3,4 @@ pub mod OneRun
 pub mod Circle
 pub mod WellFormed
 pub mod GoingOn
+pub mod OrdersRead

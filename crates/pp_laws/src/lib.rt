@@ -7,6 +7,7 @@
 mod circle;
 mod drawings;
 mod dumps;
+mod endings;
 mod orders;
 mod texts;
 mod traces;
@@ -14,6 +15,7 @@ mod traces;
 pub use circle::circle_law;
 pub use drawings::well_formed_law;
 pub use dumps::{goes_on_law, order_text_law};
+pub use endings::orders_law;
 pub use orders::{determinacy_law, one_run_law, races_report_law, races_text_law};
 pub use texts::{barrel_text_law, threads_text_law};
 pub use traces::{barrel_law, checked_text_law, printed_law, printed_report_law};

@@ -1,12 +1,13 @@
 mod DumpLawLemmas
-mod GoingOnLemmas
 mod InstructionLemmas
 mod ListedLemmas
 mod ListedLineLemmas
 mod ListingLemmas
 mod OrderCommentLemmas
 mod PrintedTextLemmas
-pub mod RestOfOrderLemmas
 mod RunDeckLemmas
 mod StepLemmas
 mod TextLemmas
+-- facts of the definitions, which proofs of other crates cite
+pub mod GoingOnLemmas
+pub mod RestOfOrderLemmas

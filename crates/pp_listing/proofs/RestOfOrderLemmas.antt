@@ -1,16 +1,16 @@
 -- What is left of an order, and the steps in its order.
-use Rattle.std.proofs.Common.{◌≡◌, ℕ, zero, suc, ◌+◌, ◌-◌, ◌<◌, ◌≤◌, List, [], ◌∷◌, ◌++◌, append-nil, append_assoc, drop, length, take, refl, sym, ap, ◌∙◌, inl, inr, arith}
+use Rattle.std.proofs.Common.{◌≡◌, ℕ, suc, ◌+◌, ◌-◌, ◌%◌, ◌≤◌, List, [], ◌∷◌, ◌++◌, append-nil, append_assoc, drop, length, take, refl, sym, ap, ◌∙◌, inl, inr, arith}
 use Rattle.std.specs.Prelude.{min}
 use Rattle.std.proofs.lemmas.Bool.{cases_lt}
-use Rattle.std.proofs.lemmas.List.{drop_all, drop-append-le, drop-take, length-append, length-take, take-append-drop, take-append-le, take-take}
-use Rattle.pp_numbers.specs.PpNo.{processor_number}
-use Rattle.pp_numbers.specs.Profile.{processor_in_turn}
+use Rattle.std.proofs.lemmas.List.{drop_all, drop-append-le, drop-take, length-append, take-append-drop, take-append-le, take-take}
+use Rattle.pp_numbers.specs.Profile.{processor_in_turn, processors_in}
 use Rattle.pp_numbers.specs.declared.profile.Profile.{Profile}
 use Rattle.pp_numbers.specs.declared.profile.Profile.TheVariants.{Ten, Twenty}
 use Rattle.pp_machine.specs.MachineState.{MachineState}
 use Rattle.pp_machine.specs.Run.{barrel, run, run_order}
 use Rattle.pp_machine.proofs.OrderLemmas.{take_barrel}
 use Rattle.pp_machine.proofs.RunLemmas.{length-barrel, run-both}
+use Rattle.pp_run.proofs.BarrelLemmas.{barrel_again}
 use Rattle.pp_listing.specs.RestOfOrder.{order_left, turns_of_rounds}
 
 -- ---- lists
@@ -41,22 +41,9 @@ no_round : (p : Profile) → turns_of_rounds p 0 ≡ 0
 no_round Ten = refl
 no_round Twenty = refl
 
--- after whole rounds the barrel begins anew
-in_turn_again : (p : Profile) (turns t : ℕ) → processor_in_turn p (turns_of_rounds p turns + t) ≡ processor_in_turn p t
-in_turn_again Ten turns t = ap processor_number (omega arith)
-in_turn_again Twenty turns t = ap processor_number (omega arith)
-
-begins_anew : (p : Profile) (turns k : ℕ) → barrel p (turns_of_rounds p turns + k) ≡ barrel p (turns_of_rounds p turns) ++ barrel p k
-begins_anew p turns zero =
-    let same : turns_of_rounds p turns + zero ≡ turns_of_rounds p turns = omega arith in
-    ap (barrel p) same ∙ sym (append-nil (barrel p (turns_of_rounds p turns)))
-begins_anew p turns (suc k) =
-    let whole = turns_of_rounds p turns in
-    let next : whole + suc k ≡ suc (whole + k) = omega arith in
-    ap (barrel p) next
-    ∙ ap (λ ns. ns ++ processor_in_turn p (whole + k) ∷ []) (begins_anew p turns k)
-    ∙ ap (λ n. (barrel p whole ++ barrel p k) ++ n ∷ []) (in_turn_again p turns k)
-    ∙ append_assoc (barrel p whole) (barrel p k) (processor_in_turn p k ∷ [])
+are_whole : (p : Profile) (turns : ℕ) → turns_of_rounds p turns % processors_in p ≡ 0
+are_whole Ten turns = omega arith
+are_whole Twenty turns = omega arith
 
 -- ---- an order, however many turns of the barrel follow its list
 
@@ -85,7 +72,7 @@ goes_on first p steps more =
     let long : length all ≡ length first + whole = length-append first (barrel p whole) ∙ ap (λ k. length first + k) (length-barrel p whole) in
     let within : steps ≤ length all = omega (arith, long, reach) in
     sym (prefix first p (steps + more) (whole + (steps + more)) (omega arith))
-    ∙ ap (λ ns. take (steps + more) (first ++ ns)) (begins_anew p begun (steps + more))
+    ∙ ap (λ ns. take (steps + more) (first ++ ns)) (barrel_again p whole (steps + more) (are_whole p begun))
     ∙ ap (λ ns. take (steps + more) ns) (sym (append_assoc first (barrel p whole) rest))
     ∙ take_both steps more (all ++ rest)
     ∙ ap (λ ns. ns ++ take more (drop steps (all ++ rest))) (take-append-le steps all rest within ∙ prefix first p steps whole (omega (arith, reach)))

@@ -28,8 +28,8 @@ pub enum DumpFault {
 /// Writes the dump of a deck that may have run: the listing of a deck to go on from, which has
 /// neither histories nor turns nor trace, names each processor in use, and starts those that are
 /// running; and flushes the writer. A processor is in use if the deck names it or dead start made
-/// it wait for its program. An order to go on with, if it has steps, stands first, as a comment. The
-/// text goes out in pieces, and takes no memory.
+/// it wait for its program. An order to go on with, if it has steps, stands first, as a comment.
+/// The text goes out in pieces, and takes no memory.
 pub fn write_dump<A: Allocator, W: Write>(
     writer: &mut W,
     deck: &Deck<A>,

@@ -8,9 +8,9 @@ use pp_machine::{PpNo, Profile};
 use pp_run::in_turn;
 use std::alloc::Allocator;
 
-/// What is left of the order of a run after so many steps (decimal): the rest of the list that comes
-/// first, or else of the round of the barrel that has begun. In the order of what is left, the steps
-/// go on as in the whole order.
+/// What is left of the order of a run after so many steps (decimal): the rest of the list that
+/// comes first, or else of the round of the barrel that has begun. In the order of what is left,
+/// the steps go on as in the whole order.
 pub fn order_left<A: Allocator>(
     alloc: A,
     first: &[PpNo],

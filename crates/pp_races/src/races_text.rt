@@ -23,13 +23,13 @@ use std::io::Write;
 
 /// Makes the steps of an order, and writes those that may race with others, the processors that are
 /// not settled at the end, the central words that one processor wrote and another used, and what
-/// they come to; and flushes the writer. If nothing is found, the run determines the result of every
-/// order of steps.
+/// they come to; and flushes the writer. If nothing is found, the run determines the result of
+/// every order of steps.
 ///
-/// The lines go out as they come. Memory is asked for before the first of them, for as many events as
-/// a run without histories and trace makes first: none is asked for later, as tests show. No clause
-/// says so: where memory was refused after a line was printed, that would be a fault of writing.
-/// After a fault the machine has made some first steps.
+/// The lines go out as they come. Memory is asked for before the first of them, for as many events
+/// as a run without histories and trace makes first: none is asked for later, as tests show. No
+/// clause says so: where memory was refused after a line was printed, that would be a fault of
+/// writing. After a fault the machine has made some first steps.
 pub fn write_races<A: Allocator + Copy, W: Write>(
     alloc: A,
     writer: &mut W,

@@ -20,9 +20,9 @@ use pp_text::TextWriter;
 use std::alloc::Allocator;
 use std::io::Write;
 
-/// Makes the steps of an order, each of which is taken in before it is made, and prints what is found
-/// of each, and at the end; then it answers what the findings come to. Refused memory, it answers
-/// what those come to that are printed.
+/// Makes the steps of an order, each of which is taken in before it is made, and prints what is
+/// found of each, and at the end; then it answers what the findings come to. Refused memory, it
+/// answers what those come to that are printed.
 pub(crate) fn print_run<A: Allocator, W: Write>(
     text: &mut TextWriter<W>,
     machine: &mut Machine<A>,

@@ -37,8 +37,8 @@ pub record IsMade (step : RunStep) (n : ℕ) (outcome : Outcome) (after : Machin
 abbrev pub next_step : List ℕ → MachineState → ℕ → RunStep
 next_step ns m done = record { processor = slice_index ns done; before = run (take done ns) m }
 
--- A run of some steps is cut after `done` of them, when something had to be kept: before a step that
--- makes an event, or after a step that is kept itself.
+-- A run of some steps is cut after `done` of them, when something had to be kept: before a step
+-- that makes an event, or after a step that is kept itself.
 abbrev pub IsCutAt : (RunStep → Type 0) → List ℕ → MachineState → ℕ → Type 0
 IsCutAt Keeps ns m done = IsCutAtEvent ns m done
     ⊎ ((last : ℕ) × (done ≡ last + 1) × (last < length ns) × Keeps (next_step ns m last))

@@ -11,6 +11,7 @@ mod progress;
 mod step_counts;
 
 pub use bare_machine::BareMachine;
+pub use bare_step::{channel_states, copied_central, copied_processors};
 pub use observed_run::run_observed;
 pub use observer::Observer;
 pub use order::{Order, in_turn};

@@ -19,6 +19,7 @@ use Rattle.pp_ends.specs.Endings.{IsEnding}
 use Rattle.pp_ends.specs.EndsText.{ends_text_of}
 use Rattle.pp_ends.specs.Loops.{AreLoops}
 use Rattle.pp_ends.specs.declared.{ending.Ending.Ending, loops.Loop.Loop}
+use Rattle.pp_endings.specs.EndingsText.{IsEndingsText}
 use Rattle.pp_steps.specs.StepsText.{steps_text}
 use Rattle.pp_steps.specs.declared.choice.Choice.{Choice}
 use Rattle.pp_races.specs.Findings.{findings}
@@ -112,13 +113,14 @@ IsStepsText first turns chosen deck text = let choice : Choice = record {
 } in text ≡ steps_text choice (run_of first turns deck) deck.machine
 
 -- THE TEXT: which text of a loaded deck is each that is asked for, if these processors come first.
--- The ends are those of the barrel alone
+-- The ends are those of the barrel alone, and the endings those of every order
 abbrev pub IsTextOf : List ℕ → TextOf → LoadedDeck → List ℕ → Type 0
 IsTextOf first (TextOf.Barrel turns) = IsBarrelText first turns
 IsTextOf _ TextOf.List = IsListText
 IsTextOf first (TextOf.Dump turns) = IsDumpText first turns
 IsTextOf first (TextOf.State turns) = IsTextAfter first turns state_after
 IsTextOf _ (TextOf.Ends turns) = IsEndsText turns
+IsTextOf _ (TextOf.Orders states) = IsEndingsText
 IsTextOf first (TextOf.Memory turns n bounds) = IsTextAfter first turns (memory_after n bounds)
 IsTextOf first (TextOf.Central turns bounds) = IsTextAfter first turns (central_after bounds)
 IsTextOf first (TextOf.Sessions turns words) = IsTextAfter first turns (sessions_after words)

@@ -6,7 +6,8 @@ pub(crate) mod threads_text;
 
 ghost use Rattle.std.specs.Prelude.{◌≡◌, Ok};
 ghost use Rattle.pp_deck.specs.DeckMeaning.{deck_meaning};
-ghost use Rattle.pp_sim.specs.TextAnswer.{AnswersLoaded, AnswersLoadedUnless, IsAnswer, IsAnswerUnless};
+ghost use Rattle.pp_endings.specs.EndingsText.{IsEndingsText};
+ghost use Rattle.pp_sim.specs.TextAnswer.{AnswersLoaded, AnswersLoadedUnless};
 ghost use Rattle.pp_sim.specs.TextOf.{IsDumpText, IsEndsText, IsRacesText, IsStepsText, IsTextAfter, IsTextOf, PreventsDump, obstacle};
 ghost use Rattle.pp_state.specs.StateText.{state_after};
 
@@ -16,15 +17,16 @@ use crate::text_fault::{answer_to, answer_to_report};
 use pp_command::{ChosenSteps, TextOf};
 use pp_deck::Deck;
 use pp_draw::{run_seeing_steps, write_drawing};
+use pp_endings::text_of_endings;
 use pp_ends::{find_ending, find_loops, write_ends};
 use pp_listing::{DumpFault, order_left, write_dump, write_listing};
 use pp_machine::PpNo;
 use pp_races::write_races;
-use pp_run::Order;
+use pp_run::{BareMachine, Order};
 use pp_sessions::{run_counting_steps, write_sessions};
-use pp_state::{run_counting_held, write_central, write_memory, write_state};
+use pp_state::{write_central, write_memory, write_state};
 use pp_steps::{Choice, write_steps};
-use pp_text::write_text;
+use pp_text::{write_text, write_whole};
 use std::alloc::Allocator;
 use std::io::Write;
 
@@ -37,11 +39,11 @@ pub(crate) fn write_text_of<A: Allocator + Copy, W: Write>(
     first: &[PpNo],
     text: &TextOf,
 ) -> Result<(), TextFault>
-    requires meant { deck_meaning deck.now.profile deck.now.bytes.now
+    requires { deck_meaning deck.now.profile deck.now.bytes.now
         ≡ Ok (record { machine = loaded.old.machine; named = loaded.old.named }) }
-    requires profile { loaded.old.machine.profile ≡ deck.now.profile }
-    ensures { IsAnswerUnless deck.now.profile (obstacle first.now text.now) (IsTextOf first.now text.now) result
-        deck.now.bytes.now (W.contents writer.old) (W.contents writer.new) }
+    ensures { AnswersLoadedUnless loaded.old.machine loaded.old.named
+        (obstacle first.now text.now) (IsTextOf first.now text.now) result
+        (W.contents writer.old) (W.contents writer.new) }
 {
     match text {
         TextOf::Barrel(turns) => {
@@ -50,7 +52,7 @@ pub(crate) fn write_text_of<A: Allocator + Copy, W: Write>(
         }
         TextOf::List => answer_to(write_listing(writer, loaded)),
         TextOf::Dump(turns) => write_dump_after(alloc, loaded, writer, first, *turns),
-        TextOf::State(turns) => write_state_after(alloc, deck, loaded, writer, first, *turns),
+        TextOf::State(turns) => write_state_after(alloc, loaded, writer, first, *turns),
         TextOf::Sessions { turns, words } => {
             let shown = loaded.in_use();
             let order = Order::of_run(alloc, first, loaded.machine.profile(), *turns)?;
@@ -59,6 +61,7 @@ pub(crate) fn write_text_of<A: Allocator + Copy, W: Write>(
         }
         TextOf::Races(turns) => write_raced(alloc, loaded, writer, first, *turns),
         TextOf::Ends(turns) => write_ends_after(alloc, loaded, writer, *turns),
+        TextOf::Orders(states) => write_endings(alloc, deck, loaded, writer, *states),
         TextOf::Memory {
             turns,
             processor,
@@ -78,7 +81,7 @@ pub(crate) fn write_text_of<A: Allocator + Copy, W: Write>(
             let shown = loaded.in_use();
             let order = Order::of_run(alloc, first, loaded.machine.profile(), window.to)?;
             let steps = run_seeing_steps(alloc, &mut loaded.machine, &order, *window)?;
-            answer_to(write_drawing(writer, &loaded.machine, &shown, steps.as_slice(), *window))
+            answer_to(write_drawing(writer, &loaded.machine, &shown, &steps, *window))
         }
     }
 }
@@ -106,25 +109,23 @@ fn write_dump_after<A: Allocator + Copy, W: Write>(
     }
 }
 
-/// The deck is loaded once more, to be compared with.
+/// What stands for the machine as it was loaded is compared with.
 fn write_state_after<A: Allocator + Copy, W: Write>(
     alloc: A,
-    deck: &DeckBytes,
-    before: &Deck<A>,
+    loaded: &mut Deck<A>,
     writer: &mut W,
     first: &[PpNo],
     turns: u32,
 ) -> Result<(), TextFault>
-    requires { deck_meaning deck.now.profile deck.now.bytes.now
-        ≡ Ok (record { machine = before.now.machine; named = before.now.named }) }
-    ensures { IsAnswer deck.now.profile (IsTextAfter first.now turns state_after) result deck.now.bytes.now
+    ensures { AnswersLoaded loaded.old.machine loaded.old.named
+        (IsTextAfter first.now turns state_after) result
         (W.contents writer.old) (W.contents writer.new) }
 {
-    let mut after = deck.load(alloc)?;
-    let order = Order::of_run(alloc, first, after.machine.profile(), turns)?;
-    let held = run_counting_held(&mut after.machine, &order)?;
-    let shown = before.in_use();
-    answer_to(write_state(writer, &shown, &before.machine, &after.machine, &held))
+    let shown = loaded.in_use();
+    let before = BareMachine::of(alloc, &loaded.machine)?;
+    let order = Order::of_run(alloc, first, loaded.machine.profile(), turns)?;
+    let counts = run_counting_steps(&mut loaded.machine, &order)?;
+    answer_to(write_state(writer, &shown, &before, &loaded.machine, &counts))
 }
 
 /// The machine runs to the turn that the ending names.
@@ -142,6 +143,23 @@ fn write_ends_after<A: Allocator + Copy, W: Write>(
     let loops = find_loops(alloc, &loaded.machine, ending)?;
     loaded.machine.run_barrel(ending.turn(turns))?;
     answer_to(write_ends(writer, &shown, ending, turns, &loaded.machine, &loops))
+}
+
+/// The deck is loaded once more for each ending, to make the steps that lead into it.
+fn write_endings<A: Allocator + Copy, W: Write>(
+    alloc: A,
+    deck: &DeckBytes,
+    loaded: &Deck<A>,
+    writer: &mut W,
+    states: u32,
+) -> Result<(), TextFault>
+    requires { deck_meaning deck.now.profile deck.now.bytes.now
+        ≡ Ok (record { machine = loaded.now.machine; named = loaded.now.named }) }
+    ensures { AnswersLoaded loaded.now.machine loaded.now.named IsEndingsText result
+        (W.contents writer.old) (W.contents writer.new) }
+{
+    let text = text_of_endings(alloc, deck.profile, deck.bytes, loaded, states)?;
+    answer_to(write_whole(writer, text.as_slice()))
 }
 
 fn write_raced<A: Allocator + Copy, W: Write>(
@@ -168,7 +186,8 @@ fn write_chosen_steps<A: Allocator + Copy, W: Write>(
     chosen: &ChosenSteps,
 ) -> Result<(), TextFault>
     ensures { AnswersLoaded loaded.now.machine loaded.now.named
-        (IsStepsText first.now turns chosen.now) result (W.contents writer.old) (W.contents writer.new) }
+        (IsStepsText first.now turns chosen.now) result
+        (W.contents writer.old) (W.contents writer.new) }
 {
     let choice = Choice {
         processors: chosen.processors.unwrap_or(loaded.in_use()),

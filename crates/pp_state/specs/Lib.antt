@@ -1,4 +1,3 @@
-pub mod HeldSteps
 pub mod Changes
 pub mod StateText
 pub mod StateLaw

@@ -5,14 +5,12 @@
 mod central_text;
 mod changes;
 mod display_code;
-mod held_steps;
 mod laws;
 mod memory_text;
 mod whole_text;
 
 pub use central_text::write_central;
-pub use held_steps::run_counting_held;
 pub use laws::{central_law, memory_law, state_law};
 pub use memory_text::write_memory;
 pub use pp_numbers::Bounds;
-pub use whole_text::write_state;
+pub use whole_text::{print_changes, write_state};

@@ -40,10 +40,7 @@ pub with_other : (f g : Flags) → is_held_with f (Held g) ≡ is_held_with g (H
 with_other f g = rw (same_sym f.active g.active, same_sym f.full g.full) refl
 
 pub with_same : (f g : Flags) → is_held_with g (Held f) ≡ true → g ≡ f
-with_same f g e =
-    let (active, full) = and_parts (beq g.active f.active) (beq g.full f.full) e in
-    let first : record { active = g.active; full = g.full } ≡ record { active = f.active; full = g.full } = ap (λ (a : Bool). record { active = a; full = g.full }) (same_is g.active f.active active) in
-    first ∙ ap (λ (b : Bool). record { active = f.active; full = b }) (same_is g.full f.full full)
+with_same f g e = grind (arith, and_parts, same_is)
 
 -- ---- one step more
 
@@ -64,10 +61,7 @@ over : (last step : Progress) (current : ℕ) (steps : List Progress) → goes_o
     → current_spell last current [] ++ (current_spell step 1 steps ++ held_counts step steps) ≡ current_spell last current (step ∷ steps) ++ held_counts last (step ∷ steps)
 over AtRest (Held g) current steps ends = ap (λ (k : ℕ). k ∷ held_counts (Held g) steps) (sym (first_of g steps))
 over Moved (Held g) current steps ends = ap (λ (k : ℕ). k ∷ held_counts (Held g) steps) (sym (first_of g steps))
-over (Held f) (Held g) current steps ends =
-    let other : is_held_with f (Held g) ≡ false = with_other f g ∙ ends in
-    let own : is_held_with g (Held g) ≡ true = with_itself g in
-    rw (ends, other, own) refl
+over (Held f) (Held g) current steps ends = grind (arith, with_other, with_itself)
 over other next current steps ends = refl
 
 -- a step that is: it belongs to the last time
@@ -81,12 +75,7 @@ longer Moved Moved current steps goes = absurd (cc)
 longer Moved (Held g) current steps goes = absurd (cc)
 longer (Held f) AtRest current steps goes = absurd (cc)
 longer (Held f) Moved current steps goes = absurd (cc)
-longer (Held f) (Held g) current steps goes =
-    let same : g ≡ f = with_same f g goes in
-    let other : is_held_with f (Held g) ≡ true = with_other f g ∙ goes in
-    let more : current + 1 + prefix_len (is_held_with g) steps ≡ current + (1 + prefix_len (is_held_with f) steps) =
-    ap (λ (h : Flags). current + 1 + prefix_len (is_held_with h) steps) same ∙ omega arith in
-    rw (goes, other) (ap (λ (k : ℕ). k ∷ held_counts (Held g) steps) more)
+longer (Held f) (Held g) current steps goes = grind (arith, with_same, with_other, held_counts)
 
 one_step : (counts : List ℕ) (current : ℕ) (last step : Progress) (steps : List Progress) (b : Bool) → goes_on last step ≡ b
     → cond b counts (counts ++ current_spell last current []) ++ (current_spell step (cond b (current + 1) 1) steps ++ held_counts step steps)
@@ -174,17 +163,9 @@ line_is own (Held f) coming =
 -- ---- no more than the steps
 
 pub current_grows : (spells : HeldSpells) (step : Progress) → (with_step spells step).current ≤ spells.current + 1
-current_grows spells step = by_test (goes_on spells.last step)
-  where
-    by_test : (b : Bool) → cond b (spells.current + 1) 1 ≤ spells.current + 1
-    by_test true = omega arith
-    by_test false = omega arith
+current_grows spells step = grind arith
 
 pub times_grow : (cursor : Cursor) (step : Progress) → (past_step cursor step).times ≤ cursor.times + 1
 times_grow cursor AtRest = omega arith
 times_grow cursor Moved = omega arith
-times_grow cursor (Held f) = by_test (is_held_with f cursor.last)
-  where
-    by_test : (b : Bool) → cond b cursor.times (cursor.times + 1) ≤ cursor.times + 1
-    by_test true = omega arith
-    by_test false = omega arith
+times_grow cursor (Held f) = grind arith

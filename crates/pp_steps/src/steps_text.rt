@@ -14,8 +14,8 @@ use std::alloc::Allocator;
 use std::io::Write;
 
 /// Writes the steps chosen of a run of a machine in this order, and flushes the writer. The run is
-/// made twice: first the held steps in a row are counted, which takes the memory, and then the lines
-/// go out in pieces, by two machines, one a step ahead of the other.
+/// made twice: first the held steps in a row are counted, which takes the memory, and then the
+/// lines go out in pieces, by two machines, one a step ahead of the other.
 pub fn write_steps<A: Allocator + Copy, W: Write>(
     alloc: A,
     writer: &mut W,

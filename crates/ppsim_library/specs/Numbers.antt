@@ -16,6 +16,11 @@ profile_with n = if n == 10 then Some Ten else (if n == 20 then Some Twenty else
 abbrev pub profile_of : ℕ → ℕ → Option Profile
 profile_of processors turns = if nat_le turns 999999 then profile_with processors else None
 
+-- the same, if this many standings may be kept
+abbrev pub profile_keeping : ℕ → ℕ → Option Profile
+profile_keeping processors states =
+    if nat_le 1 states && nat_le states 9999999 then profile_with processors else None
+
 -- processor n and no other
 abbrev pub alone : ℕ → List Bool
 alone n = slice_set (replicate processor_count false) (processor_index n) true

@@ -1,8 +1,8 @@
 //! The simulator for hosts that are not Rattle: for C, what calls C, and as a WebAssembly module.
 //! Each call works in memory that its host lends, and gives it back or says that it keeps it.
-//! A call that runs a deck, but `ppsim_ends`, takes the processors of the first steps by a list
-//! `order`, like `0:3,1` (processors in octal, and how many steps each makes, in decimal); in an
-//! empty one none comes first, and the run is in the barrel.
+//! A call that runs a deck, but `ppsim_ends` and `ppsim_orders`, takes the processors of the first
+//! steps by a list `order`, like `0:3,1` (processors in octal, and how many steps each makes, in
+//! decimal); in an empty one none comes first, and the run is in the barrel.
 #![tactic(auto)]
 
 mod answer;
@@ -12,11 +12,13 @@ mod over_bytes;
 ghost use Rattle.std.specs.Prelude.{◌≡◌, MatchOption, None, [], false, max};
 ghost use Rattle.fixed_arena.specs.Lending.{IsGivenBack};
 ghost use Rattle.ppsim_library.specs.Answered.{NeedsNoThreads, RefusesNumber, Tells, TellsInOrder, TellsOfTrace};
-ghost use Rattle.ppsim_library.specs.Numbers.{bounds_of, only_of, processor_of, profile_of, window_of};
+ghost use Rattle.ppsim_library.specs.Numbers.{bounds_of, only_of, processor_of, profile_keeping, profile_of, window_of};
 ghost use Rattle.pp_command.specs.declared.{text_of.TextOf.TextOf, work.Work.Work};
 
 use crate::answer::{Answer, refused_number};
-use crate::numbers::{bounds_of, channels_of, only_of, processor_of, profile_of, window_of};
+use crate::numbers::{
+    bounds_of, channels_of, only_of, processor_of, profile_keeping, profile_of, window_of,
+};
 use crate::over_bytes::{tell, tell_in_order};
 use fixed_arena::{Memory, Slot, arena_in};
 use pp_numbers::Profile;
@@ -272,6 +274,28 @@ pub extern "C" fn ppsim_races(
     };
     let text = TextOf::Races(turns);
     run_in(memory, profile, order, text, deck, out)
+}
+
+/// All endings over every order of steps, as far as `states` standings show.
+#[unsafe(no_mangle)]
+pub extern "C" fn ppsim_orders(
+    memory: &mut Memory,
+    processors: u32,
+    states: u32,
+    deck: &[u8],
+    out: &mut [u8],
+) -> Answer
+    ensures done { MatchOption (profile_keeping processors states)
+        (RefusesNumber result out.old out.new)
+        (λ profile. Tells [] (Work.Deck profile (TextOf.Orders states)) deck.now
+        result out.old out.new) }
+    ensures memory { IsGivenBack memory.old memory.new }
+{
+    let Some(profile) = profile_keeping(processors, states) else {
+        return refused_number();
+    };
+    let text = TextOf::Orders(states);
+    tell_in(memory, Work::Deck { profile, text }, deck, out)
 }
 
 /// The steps of a run of `turns` turns, from turn `from` on: of processor `pp` alone, or at 255

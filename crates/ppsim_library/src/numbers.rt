@@ -1,7 +1,7 @@
 //! The numbers that a host passes.
 
 ghost use Rattle.std.specs.Prelude.{◌≡◌, Bool, IfOk, List, MatchOption, option_map};
-ghost use Rattle.ppsim_library.specs.Numbers.{AreChannels, bounds_of, only_of, order_of, processor_of, profile_of, window_of};
+ghost use Rattle.ppsim_library.specs.Numbers.{AreChannels, bounds_of, only_of, order_of, processor_of, profile_keeping, profile_of, window_of};
 
 use pp_command::{listed_channels, listed_order};
 use pp_numbers::{Bounds, CHANNELS, MOST_TURNS, PROCESSORS, PpNo, Profile, Window};
@@ -9,6 +9,9 @@ use std::alloc::{AllocError, Allocator};
 
 /// The last turn of a run (decimal).
 const LAST_TURN: u32 = 999_999;
+
+/// The most standings that a search may keep (decimal).
+const MOST_STATES: u32 = 9_999_999;
 
 /// In place of a processor's number: those in use.
 const IN_USE: u8 = 255;
@@ -26,6 +29,17 @@ pub fn profile_of(processors: u32, turns: u32) -> Option<Profile>
         20 => Some(Profile::Twenty),
         _ => None,
     }
+}
+
+/// The profile of a machine of `processors` processors, 10 or 20 (decimal), for a search that keeps
+/// at most `states` standings, 1 to 9,999,999 (decimal); nothing for other numbers.
+pub fn profile_keeping(processors: u32, states: u32) -> Option<Profile>
+    ensures { result ≡ profile_keeping processors states }
+{
+    if states < 1 || states > MOST_STATES {
+        return None;
+    }
+    profile_of(processors, 0)
 }
 
 /// The processor of this number alone, by flags in the barrel's order, or at 255 (decimal) no

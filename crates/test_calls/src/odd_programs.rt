@@ -47,8 +47,7 @@ fn drawing(alloc: Global, mut machine: Machine<Global>, window: Window) -> Resul
     let order = Order::of_run(alloc, &[], machine.profile(), window.to)?;
     let steps = run_seeing_steps(alloc, &mut machine, &order, window)?;
     let mut written = Vec::new(alloc);
-    let (named, steps) = ([true; PROCESSORS], steps.as_slice());
-    write_drawing(&mut written, &machine, &named, steps, window)?;
+    write_drawing(&mut written, &machine, &[true; PROCESSORS], &steps, window)?;
     Ok(String::from_utf8(written)?)
 }
 

@@ -7,7 +7,7 @@ use test_bench::{HANDOFF, LOST_AND_WAITING};
 pub(crate) type Case = (&'static [&'static str], &'static str, u64);
 
 /// Command lines that are done, or whose deck or trace is refused.
-pub(crate) const CASES: [Case; 22] = [
+pub(crate) const CASES: [Case; 23] = [
     (&["ppsim", "barrel", "--turns", "40"], HANDOFF, 5),
     (
         &["ppsim", "barrel", "--turns", "80", "--processors", "20"],
@@ -45,6 +45,7 @@ pub(crate) const CASES: [Case; 22] = [
         4,
     ),
     (&["ppsim", "races", "--turns", "40"], HANDOFF, 5),
+    (&["ppsim", "orders", "--states", "100"], HANDOFF, 5),
     (&["ppsim", "races", "--turns", "100"], LOST_AND_WAITING, 5),
     (&["ppsim", "draw", "--turns", "30"], LOST_AND_WAITING, 4),
     (&["ppsim", "check"], TRACE, 1),

@@ -12,8 +12,8 @@ use std::alloc::Allocator;
 use std::io::{Read, Write};
 
 /// Reads a deck for a machine of this profile, and writes this text of it, in whose run these
-/// processors come first. If a dump is asked for
-/// and there is none, nothing is written, and the answer is `NotBetweenPrograms`.
+/// processors come first. If a dump is asked for and there is none, nothing is written, and the
+/// answer is `NotBetweenPrograms`.
 pub fn deck_text<A: Allocator + Copy, R: Read, W: Write>(
     alloc: A,
     profile: Profile,

@@ -1,7 +1,7 @@
 use Rattle.pp_draw.proofs.BandLemmas.{band_stands, channel_stands, code_in_turn, last_to_end, lower_channel, lower_processor, next_adjoins, processor_stands, visible_where}
 use Rattle.pp_draw.proofs.ConditionLemmas.{last_is_drawn, next_is_drawn, same_goes_on, same_on}
 use Rattle.pp_draw.proofs.LawLemmas.{each_is_drawn, lost_where, phase_for_event, turn_for_event}
-use Rattle.pp_draw.proofs.TurnLemmas.{last_at_turn, shown_where}
+use Rattle.pp_draw.proofs.TurnLemmas.{last_at_turn, last_in_window, shown_where}
 use Rattle.pp_draw.proofs.laws.drawing_law.Goals as goal
 
 pub returns : goal.returns
@@ -15,6 +15,7 @@ returns c = record {
   last = last_is_drawn;
   shown = shown_where;
   at_turn = last_at_turn;
+  in_window = last_in_window;
   adjoin = next_adjoins;
   to_end = last_to_end;
   code = code_in_turn;

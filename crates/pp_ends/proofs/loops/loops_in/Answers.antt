@@ -1,24 +1,36 @@
-use Rattle.std.proofs.Common.{◌≡◌, ℕ, ◌+◌, List, length, refl, sym, ap, ◌∙◌, subst, arith}
+use Rattle.std.proofs.Common.{◌≡◌, take, ◌<◌, ℕ, ◌+◌, List, length, refl, sym, ap, ◌∙◌, subst, arith}
 use Rattle.std.specs.Prelude.{IsTrue, None, Option}
-use Rattle.std.proofs.lemmas.List.{get_or-replicate}
+use Rattle.std.proofs.lemmas.List.{get_or-replicate, length-take}
 use Rattle.pp_run.specs.BareMachine.{StandsFor}
 use Rattle.pp_machine.specs.MachineState.{MachineState}
 use Rattle.pp_machine.specs.MachineStep.{stepped}
 use Rattle.pp_machine.specs.Processor.{Processor}
 use Rattle.pp_numbers.specs.PpNo.{names_processor, processor_count, processor_index, processor_places}
 use Rattle.pp_numbers.specs.Profile.{processor_in_turn}
-use Rattle.pp_machine.proofs.RunLemmas.{barrel_more}
+use Rattle.pp_machine.specs.Run.{barrel}
+use Rattle.pp_machine.proofs.RunLemmas.{barrel_more, length-barrel}
+use Rattle.pp_numbers.specs.declared.profile.Profile.{Profile}
 use Rattle.pp_ends.specs.Endings.{after_turns}
 use Rattle.pp_ends.specs.Loops.{TellLoops}
 use Rattle.pp_ends.specs.declared.loops.Loop.{Loop}
 use Rattle.pp_ends.proofs.LoopLemmas.{loops_more, noted_places}
+use Rattle.pp_ends.proofs.StillLemmas.{turn_read}
+use Rattle.pp_machine.proofs.OrderLemmas.{take_barrel}
 use Rattle.pp_ends.proofs.loops.loops_in.Goals as goal
+
+in_list : (end : ℕ) (order : List ℕ) (p : Profile) (turn : ℕ) → order ≡ barrel p end → turn < end → turn < length order
+in_list end order p turn are low = omega (arith, low, ap length are, length-barrel p end)
+
+pub slice_bounds-run_telling-end : goal.slice_bounds-run_telling-end
+slice_bounds-run_telling-end g c = omega (arith, c.in-Some.ensures, length-take c.args.from c.processors-order.result.now, ap length (c.processors-order.ensures.are ∙ c.in_ok-order.ensures), length-barrel c.args.machine.now.profile c.in-Some.end)
+
+pub bounds-order-turn : goal.bounds-order-turn
+bounds-order-turn g c = in_list c.in-Some.end _ c.args.machine.now.profile c.loop-turn.turn (c.processors-order.ensures.are ∙ c.in_ok-order.ensures) c.loop-turn-test.true
 
 pub loop-turn-init : goal.loop-turn-init
 loop-turn-init g c =
-    rw c.from-start.ensures
     (record {
-      ran = c.run_telling-still.ensures.ran c.args.machine.now c.profile-profile.ensures c.in_ok-bare.ensures;
+      ran = c.run_telling-still.ensures.ran c.args.from c.args.machine.now (ap (take c.args.from) (c.processors-order.ensures.are ∙ c.in_ok-order.ensures) ∙ take_barrel c.args.machine.now.profile c.in-Some.end c.args.from (omega (arith, c.in-Some.ensures))) c.in_ok-bare.ensures;
       on = omega arith;
       places = refl;
       loops = λ n names. rw (get_or-replicate {A = Option Loop} processor_count (processor_index n) None None (processor_places.place_below n names)) (λ turn i. omega (arith, i.from_on, i.before));
@@ -28,8 +40,8 @@ pub loop-turn-preserved : goal.loop-turn-preserved
 loop-turn-preserved g c =
     let m = c.args.machine.now in
     let turn = c.loop-turn.turn in
-    let n = c.in_turn-n.result in
-    let is : n ≡ processor_in_turn m.profile turn = rw c.profile-profile.ensures at c.in_turn-n.ensures.is in
+    let n = c.index-order-turn.result in
+    let is : n ≡ processor_in_turn m.profile turn = turn_read c.processors-order.result.now m.profile c.in-Some.end turn n (c.processors-order.ensures.are ∙ c.in_ok-order.ensures) (in_list c.in-Some.end _ m.profile turn (c.processors-order.ensures.are ∙ c.in_ok-order.ensures) c.loop-turn-test.true) c.index-order-turn.is in
     let p = c.p-p.ensures ∙ ap (λ (pp : Processor). pp.p) (c.pp.ensures.value (after_turns turn m) c.loop-turn.invariant.ran) in
     let names : IsTrue (names_processor n) = processor_places.named_below n c.pp.ensures.within in
     let on = c.loop-turn.invariant.on in
@@ -45,4 +57,4 @@ loop-turn-preserved g c =
     }
 
 pub returns : goal.returns
-returns g c = let all : c.loop-turn.turn ≡ c.args.from + c.args.every = omega (arith, c.loop-turn.auto.turn-end) in rw all at c.loop-turn.invariant.loops
+returns g c = let all : c.loop-turn.turn ≡ c.args.from + c.args.every = omega (arith, c.loop-turn-test.false, c.loop-turn.auto.turn-end, c.in-Some.ensures) in rw all at c.loop-turn.invariant.loops

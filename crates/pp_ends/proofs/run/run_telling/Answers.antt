@@ -1,29 +1,30 @@
-use Rattle.std.proofs.Common.{◌≡◌, ◌+◌, ℕ, sym, ap, ◌∙◌, subst, arith}
+use Rattle.std.proofs.Common.{◌≡◌, ◌+◌, ℕ, length, sym, ap, ◌∙◌, subst, arith}
 use Rattle.std.specs.Prelude.{Bool}
 use Rattle.std.specs.Bool.{OnFalse}
 use Rattle.pp_run.specs.BareMachine.{StandsFor}
 use Rattle.pp_machine.specs.MachineState.{MachineState}
 use Rattle.pp_machine.specs.MachineStep.{stepped}
 use Rattle.pp_numbers.specs.Profile.{processor_in_turn}
-use Rattle.pp_machine.proofs.RunLemmas.{barrel_more}
+use Rattle.pp_machine.specs.Run.{barrel}
+use Rattle.pp_machine.proofs.RunLemmas.{barrel_more, length-barrel}
 use Rattle.pp_ends.specs.Endings.{IsStillFrom, TellsMove, WaitsAt, after_turns}
-use Rattle.pp_ends.proofs.StillLemmas.{still_after, still_more}
+use Rattle.pp_ends.proofs.StillLemmas.{still_after, still_more, turn_read}
 use Rattle.pp_ends.proofs.run.run_telling.Goals as goal
 use Rattle.pp_ends.proofs.run.run_telling.Goals.{then-step_telling, else-step_telling}
 
 pub loop-turn-preserved : goal.loop-turn-preserved
 loop-turn-preserved g c =
     let turn = c.loop-turn.turn in
-    let is : (m : MachineState) → c.args.profile ≡ m.profile → c.in_turn.result ≡ processor_in_turn m.profile turn =
-    λ m same. rw (c.from.ensures, same) at c.in_turn.ensures.is in
+    let is : (turns : ℕ) (m : MachineState) → c.args.order.now ≡ barrel m.profile turns → c.index-order-turn.result ≡ processor_in_turn m.profile turn =
+    λ turns m are. turn_read c.args.order.now m.profile turns turn c.index-order-turn.result are c.loop-turn-test.true c.index-order-turn.is in
     record {
-      ran = λ m same stands.
+      ran = λ turns m are stands.
           subst (λ (k : MachineState). StandsFor c.step_telling.new.bare k)
-          (ap (λ (n : ℕ). stepped n (after_turns turn m)) (is m same) ∙ sym (barrel_more m.profile turn m))
-          (c.step_telling.ensures.stepped (after_turns turn m) (c.loop-turn.invariant.ran m same stands));
-      still = λ m same stands.
-          let told = subst (λ (n : ℕ). TellsMove c.step_telling.result n (after_turns turn m)) (is m same)
-          (c.step_telling.ensures.moved (after_turns turn m) (c.loop-turn.invariant.ran m same stands)) in
+          (ap (λ (n : ℕ). stepped n (after_turns turn m)) (is turns m are) ∙ sym (barrel_more m.profile turn m))
+          (c.step_telling.ensures.stepped (after_turns turn m) (c.loop-turn.invariant.ran turns m are stands));
+      still = λ turns m are stands.
+          let told = subst (λ (n : ℕ). TellsMove c.step_telling.result n (after_turns turn m)) (is turns m are)
+          (c.step_telling.ensures.moved (after_turns turn m) (c.loop-turn.invariant.ran turns m are stands)) in
           elim c.if-step_telling.branch [
             | then-step_telling w ↦
                 subst (λ (t : ℕ). IsStillFrom t (turn + 1) m) (sym w.from-is)
@@ -31,10 +32,16 @@ loop-turn-preserved g c =
             | else-step_telling w ↦
                 let waits = subst (λ (b : Bool). OnFalse b (WaitsAt turn m)) w.if-step_telling.false told.waits in
                 subst (λ (t : ℕ). IsStillFrom t (turn + 1) m) (sym w.from-is)
-                (still_more c.loop-turn.from turn m (c.loop-turn.invariant.still m same stands) waits)
+                (still_more c.loop-turn.from turn m (c.loop-turn.invariant.still turns m are stands) waits)
           ];
     }
 
 pub returns-clause-ran : goal.returns-clause-ran
-returns-clause-ran g c = λ m same stands.
-    let all : c.loop-turn.turn ≡ c.args.turns = omega (arith, c.loop-turn.auto.turn-end) in rw all at (c.loop-turn.invariant.ran m same stands)
+returns-clause-ran g c = λ turns m are stands.
+    let all : c.loop-turn.turn ≡ turns = omega (arith, c.loop-turn-test.false, c.loop-turn.auto.turn-end, ap length are, length-barrel m.profile turns) in
+    subst (λ (t : ℕ). StandsFor c.loop-turn.bare (after_turns t m)) all (c.loop-turn.invariant.ran turns m are stands)
+
+pub returns-clause-still : goal.returns-clause-still
+returns-clause-still g c = λ turns m are stands.
+    let all : c.loop-turn.turn ≡ turns = omega (arith, c.loop-turn-test.false, c.loop-turn.auto.turn-end, ap length are, length-barrel m.profile turns) in
+    subst (λ (t : ℕ). IsStillFrom c.loop-turn.from t m) all (c.loop-turn.invariant.still turns m are stands)

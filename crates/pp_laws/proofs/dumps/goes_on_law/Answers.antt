@@ -26,7 +26,7 @@ exactly first turns deck sound none between = λ more few.
 pub returns-clause-run : goal.returns-clause-run
 returns-clause-run c = λ profile bytes deck first turns is between.
     let law = c.deck_law.ensures.law profile bytes deck is in
-    exactly first turns deck (record { processors = law.each_processor; channels = law.each_channel; headline = c.deck_law.ensures.channels profile bytes deck is }) law.no_turn between
+    exactly first turns deck (record { processors = law.each_processor; lawful = record { channels = law.each_channel; headline = c.deck_law.ensures.channels profile bytes deck is } }) law.no_turn between
 
 pub returns-clause-text : goal.returns-clause-text
 returns-clause-text c = λ profile bytes text deck loaded first turns is dump meant.
@@ -35,4 +35,4 @@ returns-clause-text c = λ profile bytes text deck loaded first turns is dump me
     subst (λ (p : Profile). deck_meaning p text ≡ Ok (deck_to_go_on (after_turns first turns deck))) (c.deck_law.ensures.profile profile bytes deck is)
     (dump.goes_on (meant_fits profile text loaded meant)) in
     subst (GoesOnExactly first turns deck) (one_deck (deck_meaning profile text) (deck_to_go_on (after_turns first turns deck)) loaded again meant)
-    (exactly first turns deck (record { processors = law.each_processor; channels = law.each_channel; headline = c.deck_law.ensures.channels profile bytes deck is }) law.no_turn dump.between)
+    (exactly first turns deck (record { processors = law.each_processor; lawful = record { channels = law.each_channel; headline = c.deck_law.ensures.channels profile bytes deck is } }) law.no_turn dump.between)

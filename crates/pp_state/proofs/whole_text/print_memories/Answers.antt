@@ -14,23 +14,23 @@ use Rattle.pp_state.proofs.whole_text.print_memories.Goals as goal
 use Rattle.pp_state.proofs.whole_text.print_memories.Goals.{then-has_changes, else-has_changes}
 
 pub loop-place-init : goal.loop-place-init
-loop-place-init g c = rw (walk_zero (changed_section c.args.before.now c.args.after.now) processor_number) (prints_nothing _ _)
+loop-place-init g c = λ load stands. rw (walk_zero (changed_section load c.args.after.now) processor_number) (prints_nothing _ _)
 
 pub loop-place-preserved : goal.loop-place-preserved
-loop-place-preserved g c =
-    let section = changed_section c.args.before.now c.args.after.now in
+loop-place-preserved g c = λ load stands.
+    let section = changed_section load c.args.after.now in
     let place = c.loop-place.place in
     let n = c.at-n.result in
     let told : Processor → Processor → List ℕ = λ old new. flat_map deck_line (section_line n ∷ changed_lines old.memory new.memory) in
-    let changes = rw (c.pp.ensures, c.pp-in-loop-place.ensures) at c.has_changes.ensures in
+    let changes = rw (c.pp.ensures.value load stands, c.pp-in-loop-place.ensures) at c.has_changes.ensures in
     let lines : Prints g.W.Write.contents c.loop-place.text c.if-has_changes.text (flat_map deck_line (section n)) = elim c.if-has_changes.branch [
-      | then-has_changes w ↦ rw (w.text-is, sym changes ∙ w.if-has_changes.true) (subst (Prints _ _ _) (ap (λ (old : Processor). told old w.pp-then-has_changes-2.result.now) w.pp-then-has_changes.ensures ∙ ap (told (processor_of n c.args.before.now)) w.pp-then-has_changes-2.ensures) w.print_section.ensures)
+      | then-has_changes w ↦ rw (w.text-is, sym changes ∙ w.if-has_changes.true) (subst (Prints _ _ _) (ap (λ (old : Processor). told old w.pp-then-has_changes-2.result.now) (w.pp-then-has_changes.ensures.value load stands) ∙ ap (told (processor_of n load)) w.pp-then-has_changes-2.ensures) w.print_section.ensures)
       | else-has_changes w ↦ rw (w.text-is, sym changes ∙ w.if-has_changes.false) (prints_nothing _ _)
     ] in
-    prints_on _ _ _ _ _ _ _ c.loop-place.invariant (rw c.at-n.ensures.number at lines)
+    prints_on _ _ _ _ _ _ _ (c.loop-place.invariant load stands) (rw c.at-n.ensures.number at lines)
     (sym (flat_map-append deck_line (flat_map section (tabulate place processor_number)) (section (processor_number place)))
     ∙ ap (flat_map deck_line) (walk_more section processor_number place))
 
 pub returns : goal.returns
 unfolding all_processors
-returns g c = let all : c.loop-place.place ≡ processor_count = omega arith in rw all at c.loop-place.invariant
+returns g c = λ load stands. let all : c.loop-place.place ≡ processor_count = omega arith in rw all at (c.loop-place.invariant load stands)

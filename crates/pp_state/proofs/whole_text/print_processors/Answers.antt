@@ -18,14 +18,14 @@ loop-place-preserved g c =
     let n = processor_number c.loop-place.place in
     let named : names_processor n ≡ true = processor_places.number_named c.loop-place.place c.loop-place-test.true in
     let index : processor_index n ≡ c.loop-place.place = processor_places.place_of_number c.loop-place.place c.loop-place-test.true in
-    let line : Prints g.W.Write.contents c.loop-place.text c.if-shown-place.text (standing_line c.args.shown.now c.args.after.now c.args.held.now n) = elim c.if-shown-place.branch [
+    let line : Prints g.W.Write.contents c.loop-place.text c.if-shown-place.text (standing_line c.args.shown.now c.args.after.now c.args.counts.now n) = elim c.if-shown-place.branch [
       | then-shown-place w ↦ rw (w.text-is, named, index, w.if-shown-place.true)
           (prints_on _ _ _ _ _ _ _ (w.print.ensures ▹ w.print_standing.ensures) w.print-then-shown-place.ensures
           (rw (w.processor_heading.ensures.text, w.pp.ensures, w.at-n.ensures.number, index)))
       | else-shown-place w ↦ rw (w.text-is, named, index, w.if-shown-place.false) (prints_nothing _ _)
     ] in
     prints_on _ _ _ _ _ _ _ c.loop-place.invariant line
-    (walk_more (standing_line c.args.shown.now c.args.after.now c.args.held.now) processor_number c.loop-place.place)
+    (walk_more (standing_line c.args.shown.now c.args.after.now c.args.counts.now) processor_number c.loop-place.place)
 
 pub returns : goal.returns
 unfolding all_processors

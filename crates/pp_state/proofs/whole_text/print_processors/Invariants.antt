@@ -6,4 +6,4 @@ use Rattle.pp_state.specs.StateText.{standing_line}
 use Rattle.pp_state.proofs.whole_text.print_processors.Given as goal
 
 abbrev pub invariant-loop-place : goal.invariant-loop-place
-invariant-loop-place g l = Prints g.W.Write.contents l.fn.text l.text (flat_map (standing_line l.shown l.after l.held) (tabulate l.place processor_number))
+invariant-loop-place g l = Prints g.W.Write.contents l.fn.text l.text (flat_map (standing_line l.shown l.after l.counts) (tabulate l.place processor_number))

@@ -1,6 +1,6 @@
-use Rattle.std.proofs.Common.{◌≡◌, ◌+◌, ◌-◌, ◌++◌, List, ℕ, length, take, ap, sym, ◌∙◌, subst, arith}
+use Rattle.std.proofs.Common.{◌≡◌, ◌+◌, ◌-◌, List, ℕ, length, take, ap, sym, ◌∙◌, subst, arith}
 use Rattle.std.proofs.lemmas.List.{length-take}
-use Rattle.pp_machine.specs.Run.{IsCutAtEvent, barrel, run, run_order}
+use Rattle.pp_machine.specs.Run.{IsCutAtEvent, barrel, run}
 use Rattle.pp_machine.proofs.OrderLemmas.{cut_in_first, cut_in_second, made_of_both, made_of_first, made_of_second, order_parts}
 use Rattle.pp_machine.proofs.RoundLemmas.{profile_after}
 use Rattle.pp_machine.proofs.RunLemmas.{length-barrel}

@@ -1,4 +1,4 @@
-use Rattle.std.proofs.Common.{◌≡◌, ◌<◌, ◌^◌, ◌-◌, ◌++◌, List, ℕ, length, take, ap, sym, ◌∙◌, arith}
+use Rattle.std.proofs.Common.{◌≡◌, ◌-◌, ◌++◌, ℕ, length, take, ap, sym, ◌∙◌, arith}
 use Rattle.pp_machine.specs.Run.{barrel, run_order}
 use Rattle.pp_machine.proofs.OrderLemmas.{length-run_order, order_parts}
 use Rattle.pp_run.proofs.order.Order.of_run.Goals as goal

@@ -7,7 +7,7 @@ use Rattle.pp_sim.specs.TextOf.{IsTextOf, obstacle}
 pub returns : goal.returns
 returns g c =
     answered_deck c.args.profile _ _ _ _ (obstacle c.args.first.now c.args.text.now) (IsTextOf c.args.first.now c.args.text.now) c.in_ok-front.front.items c.write_text_of.result
-    (rw c.as_slice-bytes.ensures.value at c.write_text_of.ensures)
+    (c.write_text_of.ensures c.args.profile c.in_ok-front.front.items (rw c.as_slice-bytes.ensures.value at c.in_ok-loaded.ensures.ok) c.in_ok-loaded.ensures.profile)
     c.in_ok-front.ensures.read c.in_ok-front.ensures.bounded c.in_ok-front.ensures.end
 
 pub returns-in_err-loaded : goal.returns-in_err-loaded
