@@ -58,6 +58,7 @@ static inline ppsim_memory ppsim_memory_in(void *bytes, size_t size) {
 
 /* processors is 10 or 20, turns 0 to PPSIM_LAST_TURN. */
 ppsim_answer ppsim_list(ppsim_memory *, uint32_t processors, PPSIM_DECK_AND_ROOM);
+ppsim_answer ppsim_lint(ppsim_memory *, uint32_t processors, PPSIM_DECK_AND_ROOM);
 ppsim_answer ppsim_ends(ppsim_memory *, uint32_t processors, uint32_t turns, PPSIM_DECK_AND_ROOM);
 
 /* states is 1 to PPSIM_MOST_STATES: how many standings are kept at most. */

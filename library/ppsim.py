@@ -24,7 +24,7 @@ import threading
 from collections.abc import Iterable
 
 __all__ = ["Fault", "MemoryFault", "NumberFault", "barrel", "central", "check", "draw", "dump",
-           "ends", "listing", "memory", "orders", "races", "sessions", "state", "steps"]
+           "ends", "lint", "listing", "memory", "orders", "races", "sessions", "state", "steps"]
 
 _BAD_NUMBER, _NO_MEMORY, _TOO_LONG = 2, 4, 5
 _NAMED = 255
@@ -72,12 +72,12 @@ class _Buffers(threading.local):
 _buffers = _Buffers()
 _library = ctypes.CDLL(str(pathlib.Path(__file__).with_name("libppsim.so")))
 _U8, _U32, _TEXT = ctypes.c_uint8, ctypes.c_uint32, [ctypes.c_char_p, ctypes.c_size_t]
-_NUMBERS = {"barrel": [_U32, _U32], "list": [_U32], "dump": [_U32, _U32], "state": [_U32, _U32],
+_NUMBERS = {"barrel": [_U32, _U32], "list": [_U32], "lint": [_U32], "dump": [_U32, _U32], "state": [_U32, _U32],
             "ends": [_U32, _U32], "orders": [_U32, _U32], "sessions": [_U32, _U32],
             "races": [_U32, _U32],
             "memory_words": [_U32, _U32, _U8, _U32, _U32], "central_words": [_U32] * 4,
             "steps": [_U32, _U32, _U8, _U32], "draw": [_U32, _U32, _U32], "check": []}
-_WITHOUT_LIST = ["list", "ends", "orders"]
+_WITHOUT_LIST = ["list", "lint", "ends", "orders"]
 for _name, _types in _NUMBERS.items():
     _export = getattr(_library, f"ppsim_{_name}")
     _export.restype = _Answer
@@ -123,6 +123,11 @@ def barrel(deck: str | bytes, *, turns: int, processors: int = 10, order: str = 
 def listing(deck: str | bytes, *, processors: int = 10) -> str:
     """The deck as `ppsim list` prints it, one instruction a line."""
     return _call("list", [processors], deck)
+
+
+def lint(deck: str | bytes, *, processors: int = 10) -> str:
+    """What is wrong in the deck, a line for each fault, or `nothing found`."""
+    return _call("lint", [processors], deck)
 
 
 def dump(deck: str | bytes, *, turns: int, processors: int = 10, order: str = "") -> str:

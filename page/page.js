@@ -5,7 +5,7 @@ const WRITTEN = 0, BAD_NUMBER = 2, NO_MEMORY = 4, TOO_LONG = 5; // statuses of a
 const LAST_TURN = 999999, MOST_DRAWN = 2000, STEPS_SHOWN = 200, MOST_BUTTONS = 2000;
 const MOST_BYTES = 1048577, MOST_IN_ADDRESS = 32768; // the first is one more than a deck may have
 const NAMED = 255; // in place of a processor's number: those in use
-const WITHOUT_LIST = ['list', 'ends', 'orders']; // the others take a list: channels, or an order of steps
+const WITHOUT_LIST = ['list', 'lint', 'ends', 'orders']; // the others take a list: channels, or an order of steps
 const LAST_PLACE = 0o7777, LAST_ADDRESS = 0o377777;
 
 // ---- the library

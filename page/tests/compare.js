@@ -27,7 +27,7 @@ WebAssembly.Memory.prototype.grow = function (pages) {
 
 const OPTIONS = {
   barrel: ['processors', 'turns'], dump: ['processors', 'turns'], state: ['processors', 'turns'],
-  sessions: ['processors', 'turns'], races: ['processors', 'turns'], list: ['processors'],
+  sessions: ['processors', 'turns'], races: ['processors', 'turns'], list: ['processors'], lint: ['processors'],
   ends: ['processors', 'turns'], orders: ['processors', 'states'],
   memory: ['processors', 'turns', 'pp', 'first', 'last'],
   central: ['processors', 'turns', 'first', 'last'],
@@ -35,7 +35,7 @@ const OPTIONS = {
   check: ['opened'],
 };
 const NAMES = Object.keys(OPTIONS), LAST = { memory: '7777', central: '377777' };
-const hasOrder = name => name in OPTIONS && !['list', 'ends', 'orders', 'check'].includes(name);
+const hasOrder = name => name in OPTIONS && !['list', 'lint', 'ends', 'orders', 'check'].includes(name);
 
 /** The call for these words, or nothing where the library has none, as for what is no number. */
 function callFor([name, ...words], input) {
@@ -79,8 +79,9 @@ function compare(words, input) {
   if (its.error && its.error.code !== 'EPIPE') throw its.error; // it need not read its input
   const fault = its.stderr.toString().replace(/^ppsim: |\n$/g, '');
   const itsLine = Number(/line (\d+)/.exec(fault)?.[1] ?? 0);
-  const itsText = its.status ? fault : its.stdout.toString();
-  const isSame = status === its.status
+  const isText = !its.status || (words[0] === 'lint' && its.stdout.length); // also what is found
+  const itsText = isText ? its.stdout.toString() : fault;
+  const isSame = status === (isText ? 0 : its.status)
     && (status === 2 || (line === itsLine && text === itsText));
   if (isSame) {
     same++;
@@ -199,7 +200,7 @@ function squeezed(name, numbers, input, memory, room, order = '') {
   const aligned = n => Math.ceil(n / 16) * 16;
   const answer = aligned(Number(exports.__heap_base.value)), place = answer + 32;
   const list = place + 16, start = list + order.length, end = start + input.length;
-  const isBare = ['list', 'orders'].includes(name), out = aligned(end) + 16;
+  const isBare = ['list', 'lint', 'orders'].includes(name), out = aligned(end) + 16;
   const lists = isBare ? [] : [list, order.length].map(BigInt);
   const work = aligned(out + room) + 16;
   bytes.fill(KEPT, answer);
@@ -254,6 +255,7 @@ function squeeze() {
   const most = 4294967295, wrong = {
     barrel: [[0, 0], [11, 1], [most, 1], [10, 1000000], [20, most]],
     list: [[0], [19]],
+    lint: [[0], [19]],
     orders: [[0, 1], [11, 1], [10, 0], [10, 10000000], [20, most]],
     steps: [[10, 1, 10, 0], [10, 1, 254, 0], [10, 1000000, 255, 0], [10, 5, 255, 1000000]],
     draw: [[10, 2, 1], [10, 0, 2001], [10, 999000, 1000000], [10, most, 0], [5, 0, 1]],

@@ -19,7 +19,7 @@ use std::sync::Wait;
 use std::thread::Threads;
 
 /// The pages whose commands are run. Links at the top of the repository lead to the first four.
-const PAGES: [&str; 25] = [
+const PAGES: [&str; 27] = [
     "README.md",
     "TUTORIAL.md",
     "VIEWS.md",
@@ -28,6 +28,7 @@ const PAGES: [&str; 25] = [
     "cases/dead_start.md",
     "cases/threads.md",
     "cases/list.md",
+    "cases/lint.md",
     "cases/dump.md",
     "cases/steps.md",
     "cases/state.md",
@@ -36,6 +37,7 @@ const PAGES: [&str; 25] = [
     "cases/sessions.md",
     "cases/draw.md",
     "cases/order.md",
+    "cases/until.md",
     "cases/races.md",
     "cases/races_by_chance.md",
     "cases/orders.md",

@@ -126,7 +126,7 @@ fn add_cases(
         None => (commands, 0),
     };
     let (text, shown) = line.split_once("  ").unwrap_or((line, ""));
-    let shown = shown.trim_start();
+    let (status_of_text, shown) = parted(shown.trim_start());
     for command in commands.split(" and ") {
         let mut case = Case::new(alloc, heading, command)?;
         case.text = Some(text.to_string(alloc)?);
@@ -134,13 +134,26 @@ fn add_cases(
             if !shown.is_empty() {
                 ending.add(text_of(alloc, shown)?.as_str())?;
             }
-            if shown.starts_with("!") {
-                ending.status = status;
-            }
+            ending.status = if shown.starts_with("!") {
+                status
+            } else {
+                status_of_text
+            };
         }
         cases.push(case)?;
     }
     Ok(())
+}
+
+/// The status that is said of an output, as in `[1] 2:11 wrong digits: 8`, or 0; and the output.
+fn parted(shown: &str) -> (u8, &str) {
+    let Some((first, text)) = shown.split_once(" ") else {
+        return (0, shown);
+    };
+    match status_in(first) {
+        Some(status) => (status, text),
+        None => (0, shown),
+    }
 }
 
 /// The lines of a page that build the program and run it on an example, as in

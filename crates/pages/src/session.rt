@@ -116,12 +116,19 @@ fn filled(alloc: Global, form: &str, text: &str) -> anyhow::Result<String> {
     }
 }
 
-/// The words of a command line. Two quotes alone are an empty word.
+/// The words of a command line. What stands between two quotes is one word.
 fn words_of(alloc: Global, line: &str) -> anyhow::Result<Vec<String>> {
     let mut words = Vec::new(alloc);
-    for word in line.split_whitespace() {
-        let word = if word == "''" { "" } else { word };
-        words.push(text_of(alloc, word)?)?;
+    let mut is_quoted = false;
+    for piece in line.split('\'') {
+        if is_quoted {
+            words.push(text_of(alloc, piece)?)?;
+        } else {
+            for word in piece.split_whitespace() {
+                words.push(text_of(alloc, word)?)?;
+            }
+        }
+        is_quoted = !is_quoted;
     }
     Ok(words)
 }

@@ -7,6 +7,8 @@ use Rattle.clap.specs.declared.builder.action.ArgAction.TheVariants.{Set, SetTru
 use Rattle.clap.specs.declared.{error.Error.Error, parser.matches.ArgMatches.ArgMatches}
 use Rattle.clap.specs.declared.error.kind.ErrorKind.TheVariants.{OutOfMemory}
 use Rattle.pp_numbers.specs.ChannelNo.{channel_count}
+use Rattle.pp_condition.specs.ConditionText.{condition_in}
+use Rattle.pp_condition.specs.declared.{condition.Condition.Condition, until.Until.Until}
 use Rattle.pp_command.specs.ChannelList.{AreListed}
 use Rattle.pp_command.specs.OrderList.{listed_steps}
 use Rattle.pp_command.specs.ProcessorList.{AreProcessorsListed}
@@ -49,11 +51,15 @@ app_of_command command = with_rule (fold with_rule (new_app command.0) command.1
 abbrev pub order_option : Rule
 order_option = optional_value (codes "order")
 
+-- the options that say until when its run goes on: until how many steps meet a condition
+abbrev pub until_options : List Rule
+until_options = optional_value (codes "until") ∷ optional_value (codes "times") ∷ []
+
 -- a command that makes a run of some steps in any order, with these options besides
 abbrev pub steps : Text → List Rule → Command
 steps name options = (
   name,
-  number_option (codes "turns") ∷ options ++ order_option ∷ processors_option ∷ [],
+  number_option (codes "turns") ∷ options ++ until_options ++ order_option ∷ processors_option ∷ [],
 )
 
 -- a command that makes a run of some turns of the barrel, with these options besides
@@ -77,9 +83,11 @@ commands = steps (codes "barrel") []
       codes "threads",
       number_option (codes "steps") ∷ number_option (codes "patience") ∷ processors_option ∷ [],
     )
-    ∷ (codes "list", processors_option ∷ []) ∷ steps (codes "dump") []
+    ∷ (codes "list", processors_option ∷ []) ∷ (codes "lint", processors_option ∷ [])
+    ∷ steps (codes "dump") []
     ∷ steps (codes "steps") (optional_value (codes "pp") ∷ optional_value (codes "ch")
-    ∷ optional_value (codes "from") ∷ optional_value (codes "to") ∷ [])
+    ∷ optional_value (codes "from") ∷ optional_value (codes "to")
+    ∷ optional_value (codes "where") ∷ [])
     ∷ steps (codes "state") [] ∷ turns (codes "ends") []
     ∷ steps (codes "memory") (number_option (codes "pp") ∷ optional_value (codes "first")
     ∷ optional_value (codes "last") ∷ [])
@@ -163,6 +171,28 @@ ReadsOrder processors None first = first ≡ []
 ReadsOrder processors (Some text) first = (profile : Profile) × ReadsProfile processors profile
     × (listed_steps profile text ≡ Some first)
 
+-- a condition on the steps of a machine of this profile, or none
+abbrev pub ReadsCondition : Profile → Option Text → Option Condition → Type 0
+ReadsCondition profile None condition = condition ≡ None
+ReadsCondition profile (Some text) None = ⊥
+ReadsCondition profile (Some text) (Some condition) = condition_in profile text ≡ Some condition
+
+-- how many steps have to meet a condition: one, if it is not said
+abbrev pub ReadsTimes : Option Text → ℕ → Type 0
+ReadsTimes None times = times ≡ 1
+ReadsTimes (Some text) times =
+    ReadsNumber (Some text) times × (1 ≤ times) × (times ≤ 999999)
+
+-- until when the run goes on, of a machine with as many processors as the first text says: until as
+-- many steps as the third text says meet the condition of the second; nothing, if neither is given
+abbrev pub ReadsUntil : Option Text → Option Text → Option Text → Option Until → Type 0
+ReadsUntil processors None None until = until ≡ None
+ReadsUntil processors None (Some times) until = ⊥
+ReadsUntil processors (Some text) times None = ⊥
+ReadsUntil processors (Some text) times (Some until) = (profile : Profile)
+    × ReadsProfile processors profile × (condition_in profile text ≡ Some until.condition)
+    × ReadsTimes times until.times
+
 -- the channels of a list as `1,5,13`, by flags in the order of their places; none if none is given
 abbrev pub ReadsChannels : Option Text → List Bool → Type 0
 ReadsChannels None flags = flags ≡ replicate channel_count false
@@ -209,6 +239,7 @@ AsksForText name value profile (TextOf.Steps turns chosen) = (name ≡ codes "st
     × ReadsChosen (value (codes "ch")) chosen.channels
     × ReadsTurn 0 (value (codes "from")) chosen.from
     × ReadsTurn turns (value (codes "to")) chosen.to
+    × ReadsCondition profile (value (codes "where")) chosen.condition
 AsksForText name value _ (TextOf.Draw window) =
     (name ≡ codes "draw") × ReadsWindow value window × (window.to - window.from ≤ 2000)
 
@@ -216,6 +247,8 @@ AsksForText name value _ (TextOf.Draw window) =
 abbrev pub IsWorkOf : Text → (Text → Option Text) → Work → Type 0
 IsWorkOf name value_of (Work.Deck profile text) =
     ReadsProfile (value_of (codes "processors")) profile × AsksForText name value_of profile text
+IsWorkOf name value_of (Work.Lint profile) =
+    (name ≡ codes "lint") × ReadsProfile (value_of (codes "processors")) profile
 IsWorkOf name value_of (Work.Threads profile limits) =
     (name ≡ codes "threads") × ReadsProfile (value_of (codes "processors")) profile
     × ReadsNumber (value_of (codes "steps")) limits.steps
@@ -223,11 +256,13 @@ IsWorkOf name value_of (Work.Threads profile limits) =
 IsWorkOf name value_of (Work.Check opened) =
     (name ≡ codes "check") × ReadsChannels (value_of (codes "opened")) opened
 
--- it asks for this work, and these processors come first in its run
-pub record IsAskedOf (name : Text) (value_of : Text → Option Text) (work : Work) (first : List ℕ) :
-    Type 0 where
+-- it asks for this work, in whose run these processors come first, and which goes on until then
+pub record IsAskedOf (name : Text) (value_of : Text → Option Text) (work : Work) (first : List ℕ)
+    (until : Option Until) : Type 0 where
   pub work_is : IsWorkOf name value_of work
   pub order_is : ReadsOrder (value_of (codes "processors")) (value_of (codes "order")) first
+  pub until_is : ReadsUntil (value_of (codes "processors")) (value_of (codes "until"))
+      (value_of (codes "times")) until
 
 -- this command, with these values of its options, asks for more turns than a picture has
 abbrev pub AsksForMore : Text → (Text → Option Text) → Type 0
@@ -238,10 +273,11 @@ abbrev pub AsksForMoreAmong : Option (Text × List Row) → Type 0
 AsksForMoreAmong None = ⊥
 AsksForMoreAmong (Some (name, rows)) = AsksForMore name (λ id. first_of id rows)
 
--- the words ask for this work, in whose run these processors come first
-abbrev pub AskFor : List Text → Work → List ℕ → Type 0
-AskFor words work first =
-    IsSomeAnd (subcommand_of ppsim words) (λ s. IsAskedOf s.0 (λ id. first_of id s.1) work first)
+-- the words ask for this work, in whose run these processors come first, and which goes on until
+-- then
+abbrev pub AskFor : List Text → Work → List ℕ → Option Until → Type 0
+AskFor words work first until = IsSomeAnd (subcommand_of ppsim words)
+    (λ s. IsAskedOf s.0 (λ id. first_of id s.1) work first until)
 
 -- the words name this file, or none
 abbrev pub Name : List Text → Option Text → Type 0
@@ -257,10 +293,10 @@ IsRefused words LineFault.Memory = Unit {0}
 IsRefused words (LineFault.Refused error) =
     IsAmong (kind_of error) (refusals words) × (kind_of error ≢ OutOfMemory)
 IsRefused words LineFault.Number = (refusals words ≡ [])
-    × ((work : Work) (first : List ℕ) → ¬ AskFor words work first)
+    × ((work : Work) (first : List ℕ) (until : Option Until) → ¬ AskFor words work first until)
     × ¬ AsksForMoreAmong (subcommand_of ppsim words)
 IsRefused words LineFault.Picture = (refusals words ≡ [])
-    × ((work : Work) (first : List ℕ) → ¬ AskFor words work first)
+    × ((work : Work) (first : List ℕ) (until : Option Until) → ¬ AskFor words work first until)
     × AsksForMoreAmong (subcommand_of ppsim words)
 
 -- the fault that clap's error makes: want of memory is reported as such

@@ -3,3 +3,4 @@ pub mod ChannelList
 pub mod ProcessorList
 pub mod CommandLine
 pub mod OrderList
+pub mod TextOf

@@ -1,12 +1,14 @@
 //! Reading the words of a command line.
 
-ghost use Rattle.std.specs.Prelude.{◌≡◌, ◌↔◌, ℕ, [], List, IsTrue, codes, map, option_map, IfOk, IfErr, IfNone, IfSome, OnOk};
+ghost use Rattle.std.specs.Prelude.{◌≡◌, ◌↔◌, ℕ, [], List, Option, IsTrue, codes, map, option_map, IfOk, IfErr, IfNone, IfSome, OnOk};
 ghost use Rattle.pp_command.specs.CommandLine.{AskFor, AsksForMore, Finds, IsAskedOf, IsFaultBy, IsRefused, IsWorkOf, Name, ReadsFile, refusals, value_in};
 ghost use Rattle.pp_command.specs.declared.work.Work.{Work};
+ghost use Rattle.pp_condition.specs.declared.until.Until.{Until};
 
 use crate::command::command;
 use crate::option_values::{
-    channels_of, fits_a_picture, limits_of, number_of, order_of, profile_of, value_of, window_of,
+    channels_of, fits_a_picture, limits_of, number_of, order_of, profile_of, until_of, value_of,
+    window_of,
 };
 use crate::text_of::text_of;
 use crate::{Asked, LineFault, Work};
@@ -38,6 +40,9 @@ fn work_of(name: &str, matches: &ArgMatches<'_>) -> Option<Work>
             )?;
             Some(Work::Threads { profile, limits })
         }
+        "lint" => Some(Work::Lint {
+            profile: profile_of(matches)?,
+        }),
         "check" => {
             let opened = channels_of(matches, "opened")?.unwrap_or([false; CHANNELS]);
             Some(Work::Check { opened })
@@ -57,12 +62,12 @@ fn asked_of<'a>(
     matches: &ArgMatches<'a>,
 ) -> Result<Option<Asked<'a>>, AllocError>
     ensures asked { IfOk result (λ found. IfSome found (λ asked.
-        IsAskedOf name.now (value_in matches.now) asked.work asked.first.items)) }
+        IsAskedOf name.now (value_in matches.now) asked.work asked.first.items asked.until)) }
     ensures file { IfOk result (λ found. IfSome found (λ asked.
         ReadsFile (value_in matches.now (codes "file"))
         (option_map (λ s. s.now) asked.file))) }
     ensures none { IfOk result (λ found. IfNone found ((work : Work) (first : List ℕ)
-        → ¬ IsAskedOf name.now (value_in matches.now) work first)) }
+        (until : Option Until) → ¬ IsAskedOf name.now (value_in matches.now) work first until)) }
 {
     let Some(work) = work_of(name, matches) else {
         return Ok(None);
@@ -70,8 +75,16 @@ fn asked_of<'a>(
     let Some(first) = order_of(alloc, matches)? else {
         return Ok(None);
     };
+    let Some(until) = until_of(matches) else {
+        return Ok(None);
+    };
     let file = value_of(matches, "file").filter(|path| *path != "-");
-    Ok(Some(Asked { work, first, file }))
+    Ok(Some(Asked {
+        work,
+        first,
+        until,
+        file,
+    }))
 }
 
 /// The fault of a parse that failed.
@@ -87,7 +100,7 @@ fn refusal(error: Error) -> LineFault
 /// What the words of a command line ask for. The first word is the program's name.
 pub fn read_words<'a>(alloc: Global, words: &'a [&'a str]) -> Result<Asked<'a>, LineFault>
     ensures work { IfOk result (λ asked.
-        AskFor (map (λ s. s.now) words.entry.now) asked.work asked.first.items) }
+        AskFor (map (λ s. s.now) words.entry.now) asked.work asked.first.items asked.until) }
     ensures file { IfOk result (λ asked. Name (map (λ s. s.now) words.entry.now)
         (option_map (λ s. s.now) asked.file)) }
     ensures taken { OnOk result (refusals (map (λ s. s.now) words.entry.now) ≡ []) }

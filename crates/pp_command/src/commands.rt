@@ -2,7 +2,11 @@
 
 use crate::command::ValueForm::{Flag, Number, Text};
 use crate::command::{CommandForm, CommandHelp, OptionForm};
-use crate::number_range::{DRAWN_FROM, FROM, PATIENCE, STATES, STEPS, TO, TURNS};
+use crate::number_range::{DRAWN_FROM, FROM, PATIENCE, STATES, STEPS, TO};
+use crate::run_options::{
+    FIRST_OPTION, ORDER_OPTION, PROCESSORS_OPTION, RUN_OPTIONS, TIMES_OPTION, TURNS_OPTION,
+    UNTIL_OPTION,
+};
 
 /// An example of a command, over a file with these lines; and what stands before it.
 macro_rules! example {
@@ -94,8 +98,8 @@ A deck with a fault is refused, as in 'ppsim: deck fault 4 at line 3':
   9  out of memory, printed as 'ppsim: out of memory'
 
 The exit status is 0 when the work is done or help was asked for, 1 when the deck is refused or
-can't be dumped as it stands, or when a trace is not lawful, 2 when the command line is refused, 3
-after a read or write fault, and 4 when memory runs out.
+can't be dumped as it stands, when lint finds something, or when a trace is not lawful, 2 when the
+command line is refused, 3 after a read or write fault, and 4 when memory runs out.
 
 The pages TUTORIAL.md, VIEWS.md, docs/MACHINE.md (the instructions), docs/DECK.md and
 docs/OUTPUT.md of the repository say more.
@@ -108,22 +112,8 @@ pub(crate) const EXAMPLE: &str = handoff_example!("barrel --turns 40");
 /// What help says of the word that names a file.
 pub(crate) const FILE_HELP: &str = "The file to read; standard input if not given, or -";
 
-const TURNS_OPTION: OptionForm = option!(required: true, "turns", Number(TURNS));
-
-const PROCESSORS_OPTION: OptionForm = option!(required: false, "processors", Text("N",
-        "How many processors the machine has, 10 or 20 (decimal); 10 if not given"));
-
-const FIRST_OPTION: OptionForm = option!(required: false, "first", Text("N",
-        "The first address to print (octal; 0 if not given)"));
-
-const ORDER_OPTION: OptionForm = option!(required: false, "order", Text("LIST",
-        "The first steps, as 0:3,1,11:20 (processors octal, counts decimal); then come the turns"));
-
-/// `--turns N [--order LIST] [--processors N]`
-const RUN_OPTIONS: &[OptionForm] = &[TURNS_OPTION, ORDER_OPTION, PROCESSORS_OPTION];
-
 /// The commands, in the order in which help lists them.
-pub(crate) const COMMANDS: [CommandHelp; 14] = [
+pub(crate) const COMMANDS: [CommandHelp; 15] = [
     command! {
         name: "barrel",
         about: "Runs a deck in the barrel, one step a turn, and prints what happened",
@@ -192,6 +182,22 @@ The listing is itself a deck, and loads the same machine, where it is no longer 
         options: &[PROCESSORS_OPTION],
     },
     command! {
+        name: "lint",
+        about: "Prints what is wrong in a deck, by line and column",
+        long_about: "\
+Prints what is wrong in a deck, by line and column. Nothing is run.
+
+Reads the deck from FILE or standard input. Prints to standard output a line for each fault, as in
+'2:11 wrong digits: 1603,3450': its line and its column (decimal, from 1), what is wrong, and the
+field that is; or 'nothing found'. After a fault it goes on with the next line, so that all of them
+are printed. The exit status is 1 if something is found. What else goes wrong is one line on
+standard error.",
+        example: example!("lint", "comma.deck", "  PP 0
+  0100 1405 1603,3450 0300
+  START 0100"),
+        options: &[PROCESSORS_OPTION],
+    },
+    command! {
         name: "dump",
         about: "Runs a deck in the barrel, and prints a deck to go on from",
         long_about: "\
@@ -233,6 +239,10 @@ of central memory.",
                 "Print the steps that ask these channels only (octal)")),
             option!(required: false, "from", Number(FROM)),
             option!(required: false, "to", Number(TO)),
+            option!(required: false, "where", Text("COND",
+                "Print the steps that meet this condition only, each on a line of its own")),
+            UNTIL_OPTION,
+            TIMES_OPTION,
             ORDER_OPTION,
             PROCESSORS_OPTION,
         ],
@@ -291,6 +301,8 @@ are spaces). What goes wrong is one line on standard error.",
             FIRST_OPTION,
             option!(required: false, "last", Text("N",
                 "The last address to print (octal; 7777 if not given)")),
+            UNTIL_OPTION,
+            TIMES_OPTION,
             ORDER_OPTION,
             PROCESSORS_OPTION,
         ],
@@ -311,6 +323,8 @@ and 55 are spaces). What goes wrong is one line on standard error.",
             FIRST_OPTION,
             option!(required: false, "last", Text("N",
                 "The last address to print (octal; 377777 if not given)")),
+            UNTIL_OPTION,
+            TIMES_OPTION,
             ORDER_OPTION,
             PROCESSORS_OPTION,
         ],
@@ -334,6 +348,8 @@ line. Turns and counts are decimal, words octal. What goes wrong is one line on 
         options: &[
             TURNS_OPTION,
             option!(required: false, "words", Flag("Print the words and function codes as well")),
+            UNTIL_OPTION,
+            TIMES_OPTION,
             ORDER_OPTION,
             PROCESSORS_OPTION,
         ],
@@ -401,6 +417,8 @@ to draw and the one before which the picture ends: --turns 999999 --from 5000 --
             TURNS_OPTION,
             option!(required: false, "from", Number(DRAWN_FROM)),
             option!(required: false, "to", Number(TO)),
+            UNTIL_OPTION,
+            TIMES_OPTION,
             ORDER_OPTION,
             PROCESSORS_OPTION,
         ],

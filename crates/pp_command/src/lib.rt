@@ -10,6 +10,7 @@ mod number_range;
 mod option_values;
 mod order_list;
 mod processor_list;
+mod run_options;
 mod text_of;
 mod work;
 

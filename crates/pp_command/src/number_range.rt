@@ -30,6 +30,9 @@ pub(crate) const TO: NumberRange =
 pub(crate) const DRAWN_FROM: NumberRange =
     range!("The first turn to draw (0 if not given)", 0 to 999_999);
 
+pub(crate) const TIMES: NumberRange =
+    range!("How many steps have to meet the condition (1 if not given)", 1 to 999_999);
+
 pub(crate) const STATES: NumberRange =
     range!("How many standings of the machine to keep", 1 to 9_999_999);
 

@@ -2,12 +2,13 @@
 
 ghost use Rattle.std.specs.Prelude.{◌≡◌, ◌-◌, ◌≤◌, ◌↔◌, IsTrue, codes, option_map, IfOk, IfSome, IsSome};
 ghost use Rattle.pp_numbers.specs.Limits.{AreLimits};
-ghost use Rattle.pp_command.specs.CommandLine.{Finds, ReadsAddress, ReadsBounds, ReadsChosen, ReadsNumber, ReadsOrder, ReadsProcessor, ReadsProcessors, ReadsProfile, ReadsTurn, ReadsFlag, ReadsStates, ReadsTurns, ReadsWindow, value_in};
+ghost use Rattle.pp_command.specs.CommandLine.{Finds, ReadsAddress, ReadsBounds, ReadsChosen, ReadsCondition, ReadsNumber, ReadsOrder, ReadsProcessor, ReadsProcessors, ReadsProfile, ReadsTurn, ReadsFlag, ReadsStates, ReadsTimes, ReadsTurns, ReadsUntil, ReadsWindow, value_in};
 
-use crate::number_range::{FROM, PATIENCE, STATES, STEPS, TURNS};
+use crate::number_range::{FROM, PATIENCE, STATES, STEPS, TIMES, TURNS};
 use crate::processor_list::listed_processors;
 use crate::{listed_channels, listed_order};
 use clap::ArgMatches;
+use pp_condition::{Condition, Until, condition_in};
 use pp_numbers::{Bounds, CHANNELS, Limits, MOST_TURNS, PROCESSORS, PpNo, Profile, Window};
 use std::alloc::{AllocError, Global};
 
@@ -120,6 +121,51 @@ pub(crate) fn order_of(
     };
     let first = listed_order(alloc, profile, text.as_bytes())?;
     Ok(first)
+}
+
+/// The condition in an option's value, of the steps of a machine of this profile, if it is given;
+/// nothing if the value is none.
+pub(crate) fn condition_of(
+    matches: &ArgMatches<'_>,
+    id: &str,
+    profile: Profile,
+) -> Option<Option<Condition>>
+    ensures { Finds (ReadsCondition profile (value_in matches.now id.now)) result }
+{
+    match value_of(matches, id) {
+        Some(text) => Some(Some(condition_in(profile, text.as_bytes())?)),
+        None => Some(None),
+    }
+}
+
+/// Until when the run goes on that `--until` and `--times` say, if they are given; nothing if they
+/// are not a condition and how many steps have to meet it.
+pub(crate) fn until_of(matches: &ArgMatches<'_>) -> Option<Option<Until>>
+    ensures { Finds (ReadsUntil (value_in matches.now (codes "processors"))
+        (value_in matches.now (codes "until")) (value_in matches.now (codes "times"))) result }
+{
+    let Some(text) = value_of(matches, "until") else {
+        return match value_of(matches, "times") {
+            Some(_) => None,
+            None => Some(None),
+        };
+    };
+    let condition = condition_in(profile_of(matches)?, text.as_bytes())?;
+    let times = times_of(matches)?;
+    Some(Some(Until { condition, times }))
+}
+
+/// How many steps have to meet the condition, if it is in range; one if it is not said.
+fn times_of(matches: &ArgMatches<'_>) -> Option<u32>
+    ensures { Finds (ReadsTimes (value_in matches.now (codes "times"))) result }
+{
+    match value_of(matches, "times") {
+        Some(text) => {
+            let times = text.parse::<u32>().ok()?;
+            TIMES.contains(times).then_some(times)
+        }
+        None => Some(1),
+    }
 }
 
 /// The address in an option's value, in octal; this one if the option is not given.

@@ -4,13 +4,14 @@ ghost use Rattle.std.specs.Prelude.{◌≢◌, codes};
 ghost use Rattle.pp_command.specs.CommandLine.{AsksForText, Finds, ReadsTurns, value_in};
 
 use crate::option_values::{
-    bounds_of, channels_of, fits_a_picture, is_flagged, processor_of, processors_of, states_of,
-    turn_of, turns_of, window_of,
+    bounds_of, channels_of, condition_of, fits_a_picture, is_flagged, processor_of, processors_of,
+    states_of, turn_of, turns_of, window_of,
 };
 use clap::ArgMatches;
+use pp_condition::Condition;
 use pp_numbers::{Bounds, CHANNELS, PROCESSORS, PpNo, Profile, Window};
 
-/// Which steps of a run are chosen: those that all four fields choose.
+/// Which steps of a run are chosen: those that all fields choose.
 #[derive(Clone, Copy)]
 pub struct ChosenSteps {
     /// The processors, in the barrel's order; those in use if none are given.
@@ -22,6 +23,8 @@ pub struct ChosenSteps {
     pub from: u32,
     /// The turn after the last (decimal).
     pub to: u32,
+    /// The condition that they meet; any, if none is given.
+    pub condition: Option<Condition>,
 }
 
 /// A text of a deck. Each run is one in the barrel. How many turns and which turn are decimal
@@ -79,6 +82,70 @@ pub enum TextOf {
     /// was used, and one for each processor in use. From a command line the window has
     /// at most 2,000 turns (decimal).
     Draw(Window),
+}
+
+impl TextOf {
+    ghost use Rattle.std.specs.Prelude.{◌≡◌};
+    ghost use Rattle.pp_command.specs.TextOf.{turns_of, with_turns};
+
+    /// The turns of its run (decimal): none where nothing is run, or every order of steps.
+    pub fn turns(&self) -> u32
+        ensures { result ≡ turns_of self.now }
+    {
+        match self {
+            TextOf::List | TextOf::Orders(_) => 0,
+            TextOf::Barrel(turns)
+            | TextOf::Dump(turns)
+            | TextOf::State(turns)
+            | TextOf::Ends(turns)
+            | TextOf::Races(turns)
+            | TextOf::Memory { turns, .. }
+            | TextOf::Central { turns, .. }
+            | TextOf::Sessions { turns, .. }
+            | TextOf::Steps { turns, .. } => *turns,
+            TextOf::Draw(window) => window.to,
+        }
+    }
+
+    /// The same of a run of this many turns (decimal). A picture ends with its run.
+    pub fn with_turns(&self, turns: u32) -> TextOf
+        ensures { result ≡ with_turns turns self.now }
+    {
+        match self {
+            TextOf::Barrel(_) => TextOf::Barrel(turns),
+            TextOf::List => TextOf::List,
+            TextOf::Dump(_) => TextOf::Dump(turns),
+            TextOf::State(_) => TextOf::State(turns),
+            TextOf::Ends(_) => TextOf::Ends(turns),
+            TextOf::Memory {
+                processor,
+                bounds,
+                ..
+            } => TextOf::Memory {
+                turns,
+                processor: *processor,
+                bounds: *bounds,
+            },
+            TextOf::Central { bounds, .. } => TextOf::Central {
+                turns,
+                bounds: *bounds,
+            },
+            TextOf::Sessions { words, .. } => TextOf::Sessions {
+                turns,
+                words: *words,
+            },
+            TextOf::Races(_) => TextOf::Races(turns),
+            TextOf::Orders(states) => TextOf::Orders(*states),
+            TextOf::Steps { chosen, .. } => TextOf::Steps {
+                turns,
+                chosen: *chosen,
+            },
+            TextOf::Draw(window) => TextOf::Draw(Window {
+                from: window.from.min(turns),
+                to: turns,
+            }),
+        }
+    }
 }
 
 /// How many places a processor's memory has.
@@ -144,6 +211,7 @@ fn steps_text_of(matches: &ArgMatches<'_>, profile: Profile, turns: u32) -> Opti
         channels: channels_of(matches, "ch")?,
         from: turn_of(matches, "from", 0)?,
         to: turn_of(matches, "to", turns)?,
+        condition: condition_of(matches, "where", profile)?,
     };
     Some(TextOf::Steps { turns, chosen })
 }

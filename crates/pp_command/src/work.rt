@@ -1,4 +1,5 @@
 use crate::TextOf;
+use pp_condition::Until;
 use pp_numbers::{CHANNELS, Limits, PpNo, Profile};
 use std::alloc::Global;
 
@@ -7,6 +8,8 @@ use std::alloc::Global;
 pub enum Work {
     /// This text of a deck, for a machine of this profile.
     Deck { profile: Profile, text: TextOf },
+    /// What is found in a deck, for a machine of this profile.
+    Lint { profile: Profile },
     /// The run of a deck with one thread per processor of this profile, within these limits.
     Threads { profile: Profile, limits: Limits },
     /// The check of a channel trace; the channels that are flagged, in the order of their places,
@@ -14,11 +17,12 @@ pub enum Work {
     Check { opened: [bool; CHANNELS] },
 }
 
-/// A work, the processors whose steps come first in its run, and the file whose bytes it is done
-/// over; none for those of standard input.
+/// A work, the processors whose steps come first in its run, until when the run goes on, if not for
+/// all its turns, and the file whose bytes it is done over; none for those of standard input.
 #[derive(Drop)]
 pub struct Asked<'a> {
     pub work: Work,
     pub first: Vec<PpNo, Global>,
+    pub until: Option<Until>,
     pub file: Option<&'a str>,
 }

@@ -1,9 +1,10 @@
 -- All endings of a deck, in text: how many were found, and of each an order of steps that leads
 -- into it, and how the machine stands after this order.
-use Rattle.std.specs.Prelude.{◌≡◌, ℕ, Bool, false, List, [], ◌==◌, ◌++◌, codes, length, slice_index_or, All, IsTrue, if◌then◌else◌}
+use Rattle.std.specs.Prelude.{◌≡◌, ℕ, Bool, false, List, [], ◌==◌, ◌++◌, codes, length, slice_index_or, All, if◌then◌else◌}
 use Rattle.std.specs.List.{flat_map}
-use Rattle.pp_numbers.specs.PpNo.{all_processors, is_named, names_processor}
+use Rattle.pp_numbers.specs.PpNo.{all_processors, is_named}
 use Rattle.pp_word.specs.Numeral.{short_decimal}
+use Rattle.pp_machine.specs.Headline.{IsMachine}
 use Rattle.pp_machine.specs.MachineState.{MachineState, processor_of}
 use Rattle.pp_machine.specs.Run.{run}
 use Rattle.pp_deck.specs.DeckMeaning.{LoadedDeck}
@@ -12,7 +13,7 @@ use Rattle.pp_text.specs.OrderText.{order_text}
 use Rattle.pp_text.specs.PrintedText.{each_below, line_end, processor_line}
 use Rattle.pp_text.specs.Standing.{standing}
 use Rattle.pp_state.specs.StateText.{changes_text}
-use Rattle.pp_orders.specs.Endings.{AreAllEndings, AreEndings, TellGoing}
+use Rattle.pp_orders.specs.Endings.{AreAllEndings, AreEndings, CanBeListed, TellGoing}
 
 -- `ENDINGS 2`, or `ENDINGS 2 OR MORE`
 abbrev pub head_line : ℕ → Bool → List ℕ
@@ -51,19 +52,16 @@ unfoldable pub endings_text : LoadedDeck → List (List ℕ) → List (List Bool
 endings_text deck orders going more =
     head_line (length orders) more ++ each_below (length orders) (ending_at deck orders going)
 
--- each step of an order is one of a processor
-abbrev pub AreSteps : List ℕ → Type 0
-AreSteps order = All (λ n. IsTrue (names_processor n)) order
-
--- THE TEXT OF ALL ENDINGS of a loaded deck: orders of its steps that lead to endings, no two to
--- the same, each with flags that tell which processors go on there; and unless it says that there
--- may be more, every order of steps can go on into one of these endings
+-- THE TEXT OF ALL ENDINGS of a loaded deck: orders of its steps that `--order` takes and that lead
+-- to endings, no two to the same, each with flags that tell which processors go on there; and
+-- unless it says that there may be more, every order of steps can go on into one of these endings
 pub record IsEndingsText (deck : LoadedDeck) (text : List ℕ) : Type 0 where
   pub orders : List (List ℕ)
   pub going : List (List Bool)
   pub more : Bool
   pub text_is : text ≡ endings_text deck orders going more
-  pub steps : All AreSteps orders
+  pub machine : IsMachine deck.machine
+  pub listed : All (CanBeListed deck.machine.profile) orders
   pub endings : AreEndings deck.machine orders
   pub goes_on : TellGoing deck.machine orders going
   pub all : more ≡ false → AreAllEndings deck.machine orders

@@ -14,7 +14,6 @@ ghost use Rattle.pp_text.specs.TextWriter.{Prints};
 ghost use Rattle.pp_orders.specs.Found.{going_in, orders_of};
 ghost use Rattle.pp_endings.specs.EndingsText.{IsEndingsText, ending_at, ending_text, endings_text, going_line, going_text, head_line, order_line};
 
-use crate::steps::have_steps;
 use pp_channel::Memory;
 use pp_deck::{Deck, read_deck};
 use pp_machine::{Machine, PROCESSORS, PpNo, Profile};
@@ -44,7 +43,7 @@ pub fn text_of_endings<A: Allocator + Copy>(
         (record { machine = load.now.machine; named = load.now.named }) text.items) }
 {
     let found = find_endings(alloc, &load.machine, states)?;
-    have_steps(found.endings.as_slice());
+    load.machine.is_sound();
     let before = BareMachine::of(alloc, &load.machine)?;
     let mut text = Vec::new(alloc);
     write_found(&mut text, alloc, profile, bytes, load, &before, &found)?;

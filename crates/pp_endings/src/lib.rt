@@ -2,6 +2,5 @@
 #![tactic(auto)]
 
 mod endings_text;
-mod steps;
 
 pub use endings_text::text_of_endings;

@@ -7,3 +7,4 @@ pub mod FoundLemmas
 pub mod OneEnding
 pub mod FinalEnding
 pub mod LoopLemmas
+mod EndingTextLemmas

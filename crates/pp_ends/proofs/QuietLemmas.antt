@@ -10,10 +10,10 @@ use Rattle.pp_machine.specs.PpMemory.{IsMemory}
 use Rattle.pp_numbers.specs.PpNo.{processor_count, processor_index, processor_number, processor_places}
 use Rattle.pp_machine.specs.Processor.{IsAtRest, Processor, no_processor}
 use Rattle.pp_machine.proofs.StepLemmas.{rest_changes_nothing}
-use Rattle.pp_run.specs.Determinacy.{Waits}
+use Rattle.pp_run.specs.Determinacy.{IsQuiet, Waits}
 use Rattle.pp_run.proofs.StepFacts.{own_step}
 use Rattle.pp_ends.specs.declared.stand.Stand.{Stand}
-use Rattle.pp_ends.specs.Endings.{TellsMove, TellsQuiet, TellsRunning}
+use Rattle.pp_ends.specs.Endings.{TellsMove, TellsRunning}
 use Rattle.pp_ends.specs.Stand.{stand_of}
 use Rattle.pp_ends.proofs.MoveLemmas.{kept_waits}
 use Rattle.pp_ends.proofs.StandLemmas.{stands_still}
@@ -46,22 +46,19 @@ waits_unnamed n m past =
 
 -- each processor by its place
 pub quiet_by_places : (m : MachineState) → length m.processors ≡ processor_count
-    → ((k : ℕ) → k < processor_count → Waits (processor_number k) m) → TellsQuiet true m
-quiet_by_places m all waits = record {
-  quiet = λ _. record {
+    → ((k : ℕ) → k < processor_count → Waits (processor_number k) m) → IsTrue true ↔ IsQuiet m
+quiet_by_places m all waits = (
+  λ _. record {
     waits = λ n. elim (cases_lt (processor_index n) processor_count) [
       | inl below ↦ subst (λ (k : ℕ). Waits k m) (processor_places.number_of_place n (processor_places.named_below n below)) (waits (processor_index n) below)
       | inr past ↦ waits_unnamed n m (omega (arith, all, past))
     ];
-  };
-  moves = tt;
-}
+  },
+  λ _. refl,
+)
 
-pub moves_at : (n : ℕ) (m : MachineState) → TellsMove true n m → TellsQuiet false m
-moves_at n m told = record {
-  quiet = λ bad. absurd (cc);
-  moves = λ quiet. told.moves refl (quiet.waits n);
-}
+pub moves_at : (n : ℕ) (m : MachineState) → TellsMove true n m → IsTrue false ↔ IsQuiet m
+moves_at n m told = (λ bad. absurd (cc), λ quiet. absurd (told.moves refl (quiet.waits n)))
 
 -- no processor is running
 pub at_rest_by_places : (m : MachineState) → length m.processors ≡ processor_count

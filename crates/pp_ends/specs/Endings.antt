@@ -91,11 +91,6 @@ pub record TellsMove (flag : Bool) (n : ℕ) (m : MachineState) : Type 0 where
   pub moves : IsTrue flag → ¬ Waits n m
   pub waits : OnFalse flag (Waits n m)
 
--- a flag that is true where a machine is quiet
-pub record TellsQuiet (flag : Bool) (m : MachineState) : Type 0 where
-  pub quiet : IsTrue flag → IsQuiet m
-  pub moves : OnFalse flag (¬ IsQuiet m)
-
 -- a flag that is true where some processor is running, false where each is stopped or at fault
 pub record TellsRunning (flag : Bool) (m : MachineState) : Type 0 where
   pub running : IsTrue flag → (n : ℕ) × ((processor_of n m).state ≡ Running)

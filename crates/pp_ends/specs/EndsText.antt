@@ -1,6 +1,6 @@
 -- How a run ends, in text: the ending; for each processor that is shown how it stands, and between
 -- which places it loops; and the channels.
-use Rattle.std.specs.Prelude.{ℕ, Bool, List, [], ◌++◌, Option, None, Some, codes, if◌then◌else◌}
+use Rattle.std.specs.Prelude.{ℕ, ◌<◌, ◌^◌, Bool, List, [], ◌++◌, Option, None, Some, codes, if◌then◌else◌}
 use Rattle.std.specs.List.{flat_map}
 use Rattle.pp_numbers.specs.ChannelNo.{all_channels}
 use Rattle.pp_machine.specs.MachineState.{MachineState, processor_of}
@@ -19,6 +19,16 @@ ends_turn (AtRest from) turns = from
 ends_turn (Stuck from) turns = from
 ends_turn (Repeats from every) turns = from
 ends_turn GoingOn turns = turns
+
+-- how often it comes again, where it repeats
+abbrev pub period_of : Ending → ℕ
+period_of (Repeats from every) = every
+period_of ending = 0
+
+-- an ending fits its line: counts of 64 bits
+pub record FitsItsEnding (ending : Ending) (turns : ℕ) : Type 0 where
+  pub turn : ends_turn ending turns < 2 ^ 64
+  pub period : period_of ending < 2 ^ 64
 
 -- `REPEATS FROM 000010 EVERY 20`
 abbrev pub ending_text : Ending → ℕ → List ℕ
@@ -39,7 +49,7 @@ looping_line shown m loops n =
     if is_named shown n
     then processor_line n (processor_of n m) (standing n m 0 ++ loop_text (loop_of loops n)) else []
 
--- the text, by the machine after the turns that it names. Numbers have two octal digits
+-- the text, by the machine after the turns that it names
 unfoldable pub ends_text : List Bool → Ending → ℕ → MachineState → List (Option Loop) → List ℕ
 ends_text shown ending turns m loops =
     ending_text ending turns ++ line_end

@@ -1,15 +1,16 @@
-//! The law of endings. The function does nothing: its contract says what is proved of the
+//! The laws of endings. The functions do nothing: their contracts say what is proved of the
 //! definitions.
 
-ghost use Rattle.std.specs.Prelude.{◌≡◌, ◌≢◌, ℕ, ◌+◌, ◌*◌, List, length};
+ghost use Rattle.std.specs.Prelude.{◌≡◌, ◌≢◌, ℕ, ◌+◌, ◌*◌, Bool, List, Option, length};
 ghost use Rattle.pp_numbers.specs.ChannelNo.{channel_count};
 ghost use Rattle.pp_machine.specs.Headline.{HoldsOnEachChannel};
 ghost use Rattle.pp_machine.specs.MachineState.{MachineState, processor_of};
 ghost use Rattle.pp_machine.specs.MachineStep.{stepped};
 ghost use Rattle.pp_machine.specs.Run.{run};
 ghost use Rattle.pp_run.specs.Determinacy.{IsQuiet, Waits};
-ghost use Rattle.pp_ends.specs.declared.ending.Ending.{Ending};
+ghost use Rattle.pp_ends.specs.declared.{ending.Ending.Ending, loops.Loop.Loop};
 ghost use Rattle.pp_ends.specs.declared.ending.Ending.TheVariants.{GoingOn};
+ghost use Rattle.pp_ends.specs.EndsText.{FitsItsEnding, ends_text, ends_turn};
 ghost use Rattle.pp_ends.specs.Endings.{AreSameButTurns, EndsQuietFrom, IsEnding, Repeats, StandAlike, after_turns};
 
 /// A step that leaves its processor as it was waits: it makes no event and writes no central word.
@@ -34,4 +35,14 @@ pub fn ends_law()
     ensures lasts { (ending : Ending) (turns more : ℕ) (m : MachineState)
         → length m.histories ≡ channel_count → HoldsOnEachChannel m → ending ≢ GoingOn
         → IsEnding ending turns m → IsEnding ending (turns + more) m }
+{}
+
+/// The text of an ending tells the ending, its period and the turn that it names: two texts that
+/// are the same, whatever they show of processors and channels, are of one ending.
+#[tactic(auto, using(crate::proofs::EndingTextLemmas::text_tells_ending))]
+pub fn ends_text_law()
+    ensures { (shown others : List Bool) (one other : Ending) (turns more : ℕ) (m k : MachineState)
+        (loops also : List (Option Loop)) → FitsItsEnding one turns → FitsItsEnding other more
+        → ends_text shown one turns m loops ≡ ends_text others other more k also
+        → (one ≡ other) × (ends_turn one turns ≡ ends_turn other more) }
 {}

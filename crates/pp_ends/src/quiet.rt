@@ -1,11 +1,12 @@
 //! Whether steps move.
 
-ghost use Rattle.std.specs.Prelude.{◌≡◌, IsTrue};
+ghost use Rattle.std.specs.Prelude.{◌≡◌, ◌↔◌, IsTrue};
 ghost use Rattle.pp_run.specs.BareMachine.{StandsFor};
 ghost use Rattle.pp_machine.specs.MachineState.{MachineState};
 ghost use Rattle.pp_machine.specs.MachineStep.{answer_to, stepped};
 ghost use Rattle.pp_machine.specs.Replay.{fits};
-ghost use Rattle.pp_ends.specs.Endings.{TellsMove, TellsQuiet, TellsRunning};
+ghost use Rattle.pp_run.specs.Determinacy.{IsQuiet};
+ghost use Rattle.pp_ends.specs.Endings.{TellsMove, TellsRunning};
 
 use crate::stand::Stand;
 use pp_machine::{Answer, Need, PROCESSORS, PpNo, PpState};
@@ -51,8 +52,8 @@ fn would_move<A: Allocator>(bare: &BareMachine<A>, n: PpNo) -> bool
 }
 
 /// Whether a machine is quiet: no step of any processor would move.
-pub(crate) fn is_quiet<A: Allocator>(bare: &BareMachine<A>) -> bool
-    ensures { (m : MachineState) → StandsFor bare.now m → TellsQuiet result m }
+pub fn is_quiet<A: Allocator>(bare: &BareMachine<A>) -> bool
+    ensures { (m : MachineState) → StandsFor bare.now m → IsTrue result ↔ IsQuiet m }
 {
     for place in 0..PROCESSORS {
         if would_move(bare, PpNo::at(place)) {

@@ -31,12 +31,12 @@ use Rattle.pp_text.specs.PrintedText.{channel_line, each_below, line_end, used_c
 use Rattle.pp_text.specs.Standing.{standing}
 use Rattle.pp_state.specs.Changes.{changed_central, changed_sections}
 use Rattle.pp_state.specs.StateText.{changes_text}
-use Rattle.pp_endings.specs.EndingsText.{AreSteps, ending_at, ending_text, endings_text, going_line, going_text, head_line, order_line}
-use Rattle.pp_laws.specs.OrdersRead.{CanBeListed, SaysMore, names_order, order_named, orders_on, orders_read}
+use Rattle.pp_orders.specs.Endings.{CanBeListed}
+use Rattle.pp_endings.specs.EndingsText.{ending_at, ending_text, endings_text, going_line, going_text, head_line, order_line}
+use Rattle.pp_laws.specs.OrdersRead.{SaysMore, names_order, order_named, orders_on, orders_read}
 use Rattle.pp_laws.proofs.PlainLemmas.{IsPlain, decimal_plain, line_no_order, line_plain, order_plain, said_plain}
 use Rattle.pp_laws.proofs.PrintedLineLemmas.{channel_body, channel_line_is, plain_channel, plain_more, plain_processor, processor_body, processor_line_is}
 use Rattle.pp_laws.proofs.OrderReadLemmas.{read_back}
-use Rattle.pp_laws.proofs.ReadOrderLemmas.{read_only}
 
 no_line_feed : (body : List ℕ) → IsPlain body → All (λ c. is_line_feed c ≡ false) body
 no_line_feed body plain = λ k d lt.
@@ -60,29 +60,7 @@ module _ (profile : Profile) where
   passes_both : (a b : List ℕ) → Passes a → Passes b → Passes (a ++ b)
   passes_both a b first second rest = ap (orders_read profile) (append_assoc a b rest) ∙ first (b ++ rest) ∙ second rest
 
-  -- where orders are read of what follows a text as well, these come first among them
-  record Gives (text : List ℕ) (orders : List (List ℕ)) (rest : List ℕ) (found : List (List ℕ)) : Type 0 where
-    pub more : List (List ℕ)
-    pub rest_read : orders_read profile rest ≡ Some more
-    pub found_are : found ≡ orders ++ more
-
-  abbrev Reads : List ℕ → List (List ℕ) → Type 0
-  Reads text orders = (rest : List ℕ) (found : List (List ℕ)) → orders_read profile (text ++ rest) ≡ Some found → Gives text orders rest found
-
-  reads_passed : (text : List ℕ) → Passes text → Reads text []
-  reads_passed text passes rest found is = record { more = found; rest_read = sym (passes rest) ∙ is; found_are = refl }
-
-  reads_both : (a b : List ℕ) (xs ys : List (List ℕ)) → Reads a xs → Reads b ys → Reads (a ++ b) (xs ++ ys)
-  reads_both a b xs ys first second rest found is =
-      let one = first (b ++ rest) found (ap (orders_read profile) (sym (append_assoc a b rest)) ∙ is) in
-      let other = second rest one.more one.rest_read in
-      record {
-        more = other.more;
-        rest_read = other.rest_read;
-        found_are = one.found_are ∙ ap (λ (more : List (List ℕ)). xs ++ more) other.found_are ∙ sym (append_assoc xs ys other.more);
-      }
-
-  -- and these are read, where those of what follows are
+  -- these orders are read of it, before those of what follows
   abbrev Says : List ℕ → List (List ℕ) → Type 0
   Says text orders = (rest : List ℕ) (more : List (List ℕ)) → orders_read profile rest ≡ Some more → orders_read profile (text ++ rest) ≡ Some (orders ++ more)
 
@@ -99,23 +77,6 @@ module _ (profile : Profile) where
   other_line : (body : List ℕ) → IsPlain body → names_order body ≡ false → Passes (body ++ line_end)
   unfolding orders_read
   other_line body plain other rest = ap (orders_on profile) (split_line body rest plain) ∙ rw other refl
-
-  order_first : (line order : List ℕ) (lines found : List (List ℕ)) → names_order line ≡ true → ((x : List ℕ) → order_named profile line ≡ Some x → x ≡ order) → orders_on profile (line ∷ lines) ≡ Some found
-      → (more : List (List ℕ)) × (orders_on profile lines ≡ Some more) × (found ≡ order ∷ more)
-  order_first line order lines found names only is =
-      option_and_then_some (λ order. option_map (λ more. order ∷ more) (orders_on profile lines)) (order_named profile line) found (rw names at is)
-      (λ x own rest. by x (only x own) (orders_on profile lines) refl rest)
-    where
-      by : (x : List ℕ) → x ≡ order → (o : Option (List (List ℕ))) → orders_on profile lines ≡ o → option_map (λ more. x ∷ more) o ≡ Some found
-          → (more : List (List ℕ)) × (orders_on profile lines ≡ Some more) × (found ≡ order ∷ more)
-      by x same None are rest = absurd (none-some found rest)
-      by x same (Some more) are rest = (more, are, sym (same_Some (x ∷ more) found rest) ∙ ap (λ (ns : List ℕ). ns ∷ more) same)
-
-  line_read : (line order : List ℕ) → IsPlain line → names_order line ≡ true → ((x : List ℕ) → order_named profile line ≡ Some x → x ≡ order) → Reads (line ++ line_end) (order ∷ [])
-  unfolding orders_read
-  line_read line order plain names only rest found is =
-      let first = order_first line order (slice_split is_line_feed rest) found names only (sym (ap (orders_on profile) (split_line line rest plain)) ∙ is) in
-      record { more = first.0; rest_read = first.1; found_are = first.2 }
 
   line_said : (line order : List ℕ) → IsPlain line → names_order line ≡ true → order_named profile line ≡ Some order → Says (line ++ line_end) (order ∷ [])
   unfolding orders_read
@@ -155,18 +116,9 @@ module _ (profile : Profile) where
   unfolding order_body
   nothing_named = refl
 
-  only_named : (order x : List ℕ) → AreSteps order → order_named profile (order_body order) ≡ Some x → x ≡ order
-  only_named [] x steps is = sym (same_Some [] x (sym nothing_named ∙ is))
-  only_named (n ∷ ns) x steps is = read_only profile n ns x steps (sym (body_named n ns) ∙ is)
-
   listed_named : (order : List ℕ) → CanBeListed profile order → order_named profile (order_body order) ≡ Some order
   listed_named [] listable = nothing_named
   listed_named (n ∷ ns) listable = body_named n ns ∙ read_back profile (n ∷ ns) (omega arith) listable.few listable.of_machine
-
-  reads_order : (order : List ℕ) → AreSteps order → Reads (order_line order) (order ∷ [])
-  reads_order order steps =
-      subst (λ text. Reads text (order ∷ [])) (order_line_is order)
-      (line_read (order_body order) order (body_plain order) (body_names order) (λ x is. only_named order x steps is))
 
   says_order : (order : List ℕ) → CanBeListed profile order → Says (order_line order) (order ∷ [])
   says_order order listable =
@@ -230,15 +182,6 @@ module _ (profile : Profile) where
 
   -- ---- an ending, and all
 
-  reads_ending : (deck : LoadedDeck) (order : List ℕ) (going : List Bool) → AreSteps order → Reads (ending_text deck order going) (order ∷ [])
-  unfolding ending_text
-  reads_ending deck order going steps =
-      let after = run order deck.machine in
-      let processors = flat_map (going_line (in_use deck) going after) all_processors in
-      reads_both (order_line order ++ processors) (changes_text deck.machine after) (order ∷ []) []
-      (reads_both (order_line order) processors (order ∷ []) [] (reads_order order steps) (reads_passed processors (passes_processors (in_use deck) going after)))
-      (reads_passed (changes_text deck.machine after) (passes_changes deck.machine after))
-
   says_ending : (deck : LoadedDeck) (order : List ℕ) (going : List Bool) → CanBeListed profile order → Says (ending_text deck order going) (order ∷ [])
   unfolding ending_text
   says_ending deck order going listable =
@@ -253,44 +196,30 @@ module _ (profile : Profile) where
       let next : k + 1 ≡ suc k = omega arith in
       sym (take_more orders k [] lt) ∙ ap (λ (n : ℕ). take n orders) next
 
-  -- what holds of a text of the endings below each number
-  below : (Tells : List ℕ → List (List ℕ) → Type 0) → Tells [] [] → ((a b : List ℕ) (xs ys : List (List ℕ)) → Tells a xs → Tells b ys → Tells (a ++ b) (xs ++ ys))
-      → (deck : LoadedDeck) (orders : List (List ℕ)) (going : List (List Bool))
-      → ((k : ℕ) → k < length orders → Tells (ending_at deck orders going k) (slice_index_or orders k [] ∷ []))
-      → (k : ℕ) → k ≤ length orders → Tells (each_below k (ending_at deck orders going)) (take k orders)
+  -- what is read of the endings below each number
+  says_below : (deck : LoadedDeck) (orders : List (List ℕ)) (going : List (List Bool)) → All (CanBeListed profile) orders
+      → (k : ℕ) → k ≤ length orders → Says (each_below k (ending_at deck orders going)) (take k orders)
   unfolding each_below
-  below Tells none both deck orders going each zero le = none
-  below Tells none both deck orders going each (suc k) le =
+  says_below deck orders going listed zero le = says_passed [] passes_none
+  says_below deck orders going listed (suc k) le =
       let at = ending_at deck orders going in
       let lt : k < length orders = omega (arith, le) in
-      let so_far = below Tells none both deck orders going each k (omega (arith, le)) in
-      subst (Tells (each_below k at ++ at k)) (grown orders k lt) (both (each_below k at) (at k) (take k orders) (slice_index_or orders k [] ∷ []) so_far (each k lt))
+      let so_far = says_below deck orders going listed k (omega (arith, le)) in
+      let each = says_ending deck (slice_index_or orders k []) (slice_index_or going k []) (All-get_or (CanBeListed profile) orders k [] lt listed) in
+      subst (Says (each_below k at ++ at k)) (grown orders k lt) (says_both (each_below k at) (at k) (take k orders) (slice_index_or orders k [] ∷ []) so_far each)
 
   nothing_read : orders_read profile [] ≡ Some []
   unfolding orders_read
   nothing_read = refl
 
-  pub orders_are : (deck : LoadedDeck) (orders found : List (List ℕ)) (going : List (List Bool)) (more : Bool) → All AreSteps orders
-      → orders_read profile (endings_text deck orders going more) ≡ Some found → found ≡ orders
-  unfolding endings_text
-  orders_are deck orders found going more steps is =
-      let count = length orders in
-      let head = head_line count more in
-      let each = below Reads (reads_passed [] passes_none) reads_both deck orders going
-      (λ k lt. reads_ending deck (slice_index_or orders k []) (slice_index_or going k []) (All-get_or AreSteps orders k [] lt steps)) count (omega arith) in
-      let all = reads_both head (each_below count (ending_at deck orders going)) [] (take count orders) (reads_passed head (passes_head count more)) each in
-      let gives = all [] found (ap (orders_read profile) (append-nil (endings_text deck orders going more)) ∙ is) in
-      let none : gives.more ≡ [] = sym (same_Some [] gives.more (sym nothing_read ∙ gives.rest_read)) in
-      gives.found_are ∙ ap (λ (more : List (List ℕ)). take count orders ++ more) none ∙ append-nil (take count orders) ∙ take_all count orders (omega arith)
-
+  -- the orders that are read are those of which it was printed
   pub orders_listed : (deck : LoadedDeck) (orders : List (List ℕ)) (going : List (List Bool)) (more : Bool) → All (CanBeListed profile) orders
       → orders_read profile (endings_text deck orders going more) ≡ Some orders
   unfolding endings_text
-  orders_listed deck orders going more listable =
+  orders_listed deck orders going more listed =
       let count = length orders in
       let head = head_line count more in
-      let each = below Says (says_passed [] passes_none) says_both deck orders going
-      (λ k lt. says_ending deck (slice_index_or orders k []) (slice_index_or going k []) (All-get_or (CanBeListed profile) orders k [] lt listable)) count (omega arith) in
+      let each = says_below deck orders going listed count (omega arith) in
       let all = says_both head (each_below count (ending_at deck orders going)) [] (take count orders) (says_passed head (passes_head count more)) each in
       let told = all [] [] nothing_read in
       ap (orders_read profile) (sym (append-nil (endings_text deck orders going more))) ∙ told

@@ -14,6 +14,5 @@ mod ReportLemmas
 mod GoingOnLemmas
 mod OrderReadLemmas
 mod PlainLemmas
-mod ReadOrderLemmas
 mod EndingsReadLemmas
 mod OneEndingLemmas

@@ -26,7 +26,8 @@ use Rattle.pp_check.specs.declared.trace_line.TraceLine.TheVariants.{AtTurn, Sta
 use Rattle.pp_check.proofs.KeepsLemmas.{TellsNone, nothing_told, state_told}
 use Rattle.pp_check.proofs.OpeningLemmas.{lawful_opening}
 use Rattle.pp_laws.proofs.PrintedLineLemmas.{shown_state}
-use Rattle.pp_laws.proofs.PrintedTextLemmas.{all_said, at_turn, channel_lines, lines_below, processor_lines, said_is, said_lines, state_lines, whole_text}
+use Rattle.pp_text.specs.PrintedText.{each_below}
+use Rattle.pp_laws.proofs.PrintedTextLemmas.{all_said, at_turn, channel_lines, processor_lines, said_is, said_lines, state_lines, whole_text}
 use Rattle.pp_check.proofs.TraceLemmas.{history_same, lawful_push}
 
 -- ---- the events
@@ -155,10 +156,10 @@ pub all_both : (opened : List Bool) (lines xs ys : List TraceLine) → AllByRecu
 all_both opened lines [] ys first second = second
 all_both opened lines (x ∷ xs) ys first second = (first.0, all_both opened lines xs ys first.1 second)
 
-pub all_below : (opened : List Bool) (lines : List TraceLine) (k : ℕ) (f : ℕ → List TraceLine) → ((n : ℕ) → AllByRecursion (Shows opened lines) (f n)) → AllByRecursion (Shows opened lines) (lines_below k f)
-unfolding lines_below
+pub all_below : (opened : List Bool) (lines : List TraceLine) (k : ℕ) (f : ℕ → List TraceLine) → ((n : ℕ) → AllByRecursion (Shows opened lines) (f n)) → AllByRecursion (Shows opened lines) (each_below k f)
+unfolding each_below
 all_below opened lines zero f each = tt
-all_below opened lines (suc k) f each = all_both opened lines (lines_below k f) (f k) (all_below opened lines k f each) (each k)
+all_below opened lines (suc k) f each = all_both opened lines (each_below k f) (f k) (all_below opened lines k f each) (each k)
 
 processors_show : (opened : List Bool) (lines : List TraceLine) (named : List Bool) (n : ℕ) → AllByRecursion (Shows opened lines) (processor_lines named n)
 unfolding processor_lines
@@ -182,14 +183,14 @@ channels_show named m opened is opens c = by_name (names_channel c) refl
 -- what stands behind the events
 shown_lines : List Bool → MachineState → List TraceLine
 shown_lines named m =
-    lines_below 0o100 (processor_lines named) ++ (lines_below 0o100 (channel_lines m.histories) ++ Other ∷ [])
+    each_below 0o100 (processor_lines named) ++ (each_below 0o100 (channel_lines m.histories) ++ Other ∷ [])
 
 all_shown : (named : List Bool) (m : MachineState) (opened : List Bool) → IsPrintable named m → AreOpenedBy m opened → AllByRecursion (Shows opened (map at_turn m.trace)) (shown_lines named m)
 unfolding shown_lines
 all_shown named m opened is opens =
     let events = map at_turn m.trace in
-    let processors = lines_below 0o100 (processor_lines named) in
-    let channels = lines_below 0o100 (channel_lines m.histories) in
+    let processors = each_below 0o100 (processor_lines named) in
+    let channels = each_below 0o100 (channel_lines m.histories) in
     all_both opened events processors (channels ++ Other ∷ []) (all_below opened events 0o100 (processor_lines named) (processors_show opened events named))
     (all_both opened events channels (Other ∷ []) (all_below opened events 0o100 (channel_lines m.histories) (channels_show named m opened is opens)) (tt, tt))
 

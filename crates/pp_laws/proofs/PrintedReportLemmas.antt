@@ -1,5 +1,5 @@
 -- What threads print is read as a lawful trace.
-use Rattle.std.proofs.Common.{All, ◌≡◌, ◌≢◌, ◌∙◌, ℕ, zero, suc, ◌+◌, ◌^◌, ◌<◌, ◌≤◌, Bool, true, false, List, [], ◌∷◌, ◌++◌, length, map, Option, Some, None, refl, sym, ap, subst, append_assoc, arith, inl, inr}
+use Rattle.std.proofs.Common.{All, codes, ◌≡◌, ◌≢◌, ◌∙◌, ℕ, zero, suc, ◌+◌, ◌^◌, ◌<◌, ◌≤◌, Bool, true, false, List, [], ◌∷◌, ◌++◌, length, map, Option, Some, None, refl, sym, ap, subst, append_assoc, arith, inl, inr}
 use Rattle.std.specs.Prelude.{IsTrue, if◌then◌else◌, slice_get, slice_index_or}
 use Rattle.std.specs.List.{AllByRecursion, cons_option, enumerate_from, filter_map, flat_map, list_all}
 use Rattle.std.proofs.lemmas.Bool.{and_parts, cases_eq}
@@ -17,10 +17,11 @@ use Rattle.pp_machine.specs.MachineState.{MachineState}
 use Rattle.pp_numbers.specs.PpNo.{all_processors, names_processor, processor_index, processor_number, is_named}
 use Rattle.pp_numbers.specs.Limits.{RunLimits}
 use Rattle.pp_runner.specs.WorkerReport.{logs_of}
-use Rattle.pp_report.proofs.ReportLawLemmas.{line_is, numbered_channel_events, told_after, told_body, unnamed_line, with_number}
+use Rattle.pp_report.proofs.ReportLawLemmas.{numbered_channel_events, told_after, unnamed_line, with_number}
 use Rattle.pp_report.specs.PrintedReport.{author_place, channel_events, end_text, line_by, named_worker_line, numbered_event_line, printed_report, worker_line}
 use Rattle.pp_deck.proofs.FieldTextLemmas.{is_plain}
-use Rattle.pp_text.specs.PrintedText.{line_end, used_channel_line}
+use Rattle.pp_word.specs.Numeral.{decimal, octal}
+use Rattle.pp_text.specs.PrintedText.{event_text, line_end, used_channel_line}
 use Rattle.pp_report.specs.ReportLaw.{FitsItsLine, FitsItsReport, PrintedEvent, printed_by, printed_on}
 use Rattle.pp_check.specs.LawfulTrace.{AreLawful, IsLawfulTrace, event_on, events_on, history, parsed_lines, opening}
 use Rattle.pp_laws.specs.PrintedTrace.{AreOpenedBy, IsPrintableReport}
@@ -31,7 +32,8 @@ use Rattle.pp_check.proofs.KeepsLemmas.{event_line, numbered_here}
 use Rattle.pp_check.proofs.OpeningLemmas.{lawful_start}
 use Rattle.pp_laws.proofs.PrintedLawLemmas.{Shows, all_below, all_both, events_both, history_shows, lawful_shown, none_shown}
 use Rattle.pp_laws.proofs.PrintedLineLemmas.{numbered_body, numbered_line_read, plain_numbered, plain_octal, plain_processor, processor_body, processor_line_is, processor_line_read}
-use Rattle.pp_laws.proofs.PrintedTextLemmas.{Reads, all_said, channel_lines, lines_below, no_text, reads_both, reads_channel, reads_channels, reads_if, reads_line, reads_processors, said_is, map_both, state_lines}
+use Rattle.pp_text.specs.PrintedText.{each_below}
+use Rattle.pp_laws.proofs.PrintedTextLemmas.{Reads, all_said, channel_lines, no_text, reads_both, reads_channel, reads_channels, reads_if, reads_line, reads_processors, said_is, map_both, state_lines}
 use Rattle.pp_check.proofs.TraceLemmas.{history_more, history_same, lawful_push}
 
 -- ---- lines
@@ -44,9 +46,13 @@ plain_end End.Patience = refl
 plain_end End.Memory = refl
 plain_end End.Worn = refl
 
+-- parts of a line, one after another
+joined : (d p o s e l : List ℕ) → ((((d ++ p) ++ o) ++ s) ++ e) ++ l ≡ (d ++ (p ++ (o ++ (s ++ e)))) ++ l
+joined d p o s e l = simp append_assoc
+
 numbered_line_is : (c number place : ℕ) (e : Event) → line_by c number e (Some place) ≡ numbered_body c number (processor_number place) e ++ line_end
-unfolding numbered_body told_body
-numbered_line_is c number place e = line_is c number place e
+unfolding numbered_body
+numbered_line_is c number place e = ap (λ rest. codes "CH" ++ (octal 2 c ++ (codes " " ++ rest))) (joined (decimal number) (codes " PP") (octal 2 (processor_number place)) (codes " ") (event_text e) line_end)
 
 -- ---- the events of a channel
 
@@ -168,11 +174,11 @@ module _ {Z : Type 0} (named : List Bool) (report : Report Z) (opened : List Boo
       if is_named named n then end_lines (slice_get report.ends.items (processor_index n)) else []
 
   all_events : List TraceLine
-  all_events = lines_below 0o100 event_lines
+  all_events = each_below 0o100 event_lines
 
   shown_lines : List TraceLine
   shown_lines =
-      lines_below 0o100 worker_lines ++ (lines_below 0o100 (channel_lines report.channels) ++ Other ∷ [])
+      each_below 0o100 worker_lines ++ (each_below 0o100 (channel_lines report.channels) ++ Other ∷ [])
 
   reads_events : (c : ℕ) → Reads (numbered_channel_events report.ends.items report.channels c) (event_lines c)
   unfolding event_lines
@@ -182,7 +188,7 @@ module _ {Z : Type 0} (named : List Bool) (report : Report Z) (opened : List Boo
   unfolding worker_lines
   reads_workers n = reads_if (is_named named n) _ (end_lines (slice_get report.ends.items (processor_index n))) (λ at. reads_worker n (slice_get report.ends.items (processor_index n)) (and_parts (names_processor n) (slice_index_or named (processor_index n) false) at).0)
 
-  said : map parsed_line (lines_of (printed_report named report)) ≡ map (λ l. Some l) (((all_events ++ lines_below 0o100 worker_lines) ++ lines_below 0o100 (channel_lines report.channels)) ++ Other ∷ [])
+  said : map parsed_line (lines_of (printed_report named report)) ≡ map (λ l. Some l) (((all_events ++ each_below 0o100 worker_lines) ++ each_below 0o100 (channel_lines report.channels)) ++ Other ∷ [])
   unfolding printed_report all_events
   said =
       let events = flat_map (channel_events report.ends.items report.channels) all_channels in
@@ -207,17 +213,17 @@ module _ {Z : Type 0} (named : List Bool) (report : Report Z) (opened : List Boo
       subst (λ (block : List TraceLine). Tell opened report.channels (suc n) (lines ++ block)) (sym as_numbered)
       (tell_named opened report.channels n lines begins.0 whole (is.lawful n names) tell)
 
-  tell_below : (n : ℕ) → Tell opened report.channels n (lines_below n event_lines)
-  unfolding lines_below event_lines
+  tell_below : (n : ℕ) → Tell opened report.channels n (each_below n event_lines)
+  unfolding each_below event_lines
   tell_below zero = tell_none opened report.channels
-  tell_below (suc n) = tell_next n (lines_below n event_lines) (tell_below n) (names_channel n) refl
+  tell_below (suc n) = tell_next n (each_below n event_lines) (tell_below n) (names_channel n) refl
 
   all_shown : AllByRecursion (Shows opened all_events) shown_lines
   unfolding shown_lines worker_lines channel_lines all_events end_lines
   all_shown =
-      let events = lines_below 0o100 event_lines in
-      let workers = lines_below 0o100 worker_lines in
-      let channels = lines_below 0o100 (channel_lines report.channels) in
+      let events = each_below 0o100 event_lines in
+      let workers = each_below 0o100 worker_lines in
+      let channels = each_below 0o100 (channel_lines report.channels) in
       let tell = tell_below 0o100 in
       all_both opened events workers (channels ++ Other ∷ []) (all_below opened events 0o100 worker_lines (λ n. by_test events (is_named named n) (slice_get report.ends.items (processor_index n))))
       (all_both opened events channels (Other ∷ []) (all_below opened events 0o100 (channel_lines report.channels) (λ c. by_name events c (tell.told c) (names_channel c) refl)) (tt, tt))

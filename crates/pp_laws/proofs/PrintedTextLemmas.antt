@@ -16,7 +16,8 @@ use Rattle.pp_machine.specs.MachineState.{MachineState, processor_of}
 use Rattle.pp_numbers.specs.PpNo.{all_processors, names_processor, processor_index, is_named}
 use Rattle.pp_machine.specs.declared.trace.Trace.{Trace}
 use Rattle.pp_text.specs.PrintedText.{each_below, event_line, channel_line, line_end, named_processor_line, printed, state_text, used_channel_line}
-use Rattle.pp_text.proofs.PrintingLemmas.{channels_by_number, numbered_channel_line, processors_by_number}
+use Rattle.pp_text.proofs.PrintingLemmas.{channels_by_number, each_is_flat, numbered_channel_line}
+use Rattle.pp_numbers.proofs.PpNoLemmas.{numbers_of_processors}
 use Rattle.pp_text.specs.TextLaw.{HistoryFits, EventFits}
 use Rattle.pp_check.specs.LawfulTrace.{parsed_lines}
 use Rattle.pp_laws.specs.PrintedTrace.{IsPrintable}
@@ -64,21 +65,17 @@ reads_trace (e ∷ trace) told short =
     (subst (λ (text : List ℕ). Reads text (at_turn e ∷ [])) (sym (event_line_is e)) (reads_line (event_body e) (at_turn e) (plain_body e) (event_line_read e (All-head EventFits e trace told) (All-head IsShort e trace short))))
     (reads_trace trace (All-tail EventFits e trace told) (All-tail IsShort e trace short))
 
-unfoldable pub lines_below : ℕ → (ℕ → List TraceLine) → List TraceLine
-lines_below zero f = []
-lines_below (suc k) f = lines_below k f ++ f k
-
-reads_below : (k : ℕ) (said : ℕ → List ℕ) (f : ℕ → List TraceLine) → ((n : ℕ) → Reads (said n) (f n)) → Reads (each_below k said) (lines_below k f)
-unfolding each_below lines_below
+reads_below : (k : ℕ) (said : ℕ → List ℕ) (f : ℕ → List TraceLine) → ((n : ℕ) → Reads (said n) (f n)) → Reads (each_below k said) (each_below k f)
+unfolding each_below
 reads_below zero said f each = λ rest. refl
-reads_below (suc k) said f each = reads_both (each_below k said) (said k) (lines_below k f) (f k) (reads_below k said f each) (each k)
+reads_below (suc k) said f each = reads_both (each_below k said) (said k) (each_below k f) (f k) (reads_below k said f each) (each k)
 
 -- the lines of all processors, and of all channels, by their numbers
-pub reads_processors : (said : ℕ → List ℕ) (f : ℕ → List TraceLine) → ((n : ℕ) → (IsTrue (names_processor n) → ⊥) → said n ≡ []) → ((n : ℕ) → Reads (said n) (f n)) → Reads (flat_map said all_processors) (lines_below 0o100 f)
-reads_processors said f none each = rw (processors_by_number said none) (reads_below 0o100 said f each)
+pub reads_processors : (said : ℕ → List ℕ) (f : ℕ → List TraceLine) → ((n : ℕ) → (IsTrue (names_processor n) → ⊥) → said n ≡ []) → ((n : ℕ) → Reads (said n) (f n)) → Reads (flat_map said all_processors) (each_below 0o100 f)
+reads_processors said f none each = rw (numbers_of_processors said none, ← each_is_flat 0o100 said) (reads_below 0o100 said f each)
 
-pub reads_channels : (said : ℕ → List ℕ) (f : ℕ → List TraceLine) → ((c : ℕ) → Reads (if names_channel c then said c else []) (f c)) → Reads (flat_map said all_channels) (lines_below 0o100 f)
-reads_channels said f each = rw (channels_by_number said) (reads_below 0o100 (λ c. if names_channel c then said c else []) f each)
+pub reads_channels : (said : ℕ → List ℕ) (f : ℕ → List TraceLine) → ((c : ℕ) → Reads (if names_channel c then said c else []) (f c)) → Reads (flat_map said all_channels) (each_below 0o100 f)
+reads_channels said f each = rw (channels_by_number said, ← each_is_flat 0o100 (λ c. if names_channel c then said c else [])) (reads_below 0o100 (λ c. if names_channel c then said c else []) f each)
 
 unfoldable pub processor_lines : List Bool → ℕ → List TraceLine
 processor_lines named n = if is_named named n then Other ∷ [] else []
@@ -120,7 +117,7 @@ reads_channel histories fits c = reads_if (names_channel c) _ (state_lines c (hi
 -- all that a printed text says
 unfoldable pub said_lines : List Bool → MachineState → List TraceLine
 said_lines named m =
-    (map at_turn m.trace ++ lines_below 0o100 (processor_lines named)) ++ lines_below 0o100 (channel_lines m.histories)
+    (map at_turn m.trace ++ each_below 0o100 (processor_lines named)) ++ each_below 0o100 (channel_lines m.histories)
 
 reads_printed : (named : List Bool) (m : MachineState) → IsPrintable named m → Reads (printed named m) (said_lines named m)
 unfolding printed said_lines

@@ -1,9 +1,8 @@
 -- The orders that the text of all endings names, read back from its lines as `--order` reads a
 -- list.
-use Rattle.std.specs.Prelude.{◌≡◌, ℕ, ◌==◌, true, Bool, List, [], ◌∷◌, ◌++◌, Option, Some, bytes_eq, codes, drop, length, take, All, IsTrue, ◌≤◌, if◌then◌else◌}
+use Rattle.std.specs.Prelude.{◌≡◌, ℕ, ◌==◌, true, Bool, List, [], ◌∷◌, ◌++◌, Option, Some, bytes_eq, codes, drop, length, take, if◌then◌else◌}
 use Rattle.std.specs.List.{slice_split}
 use Rattle.std.specs.Option.{option_and_then, option_map}
-use Rattle.pp_numbers.specs.Profile.{has_processor}
 use Rattle.pp_numbers.specs.declared.profile.Profile.{Profile}
 use Rattle.pp_deck.specs.DeckText.{is_line_feed}
 use Rattle.pp_command.specs.OrderList.{listed_steps}
@@ -30,12 +29,6 @@ orders_on profile (line ∷ lines) = if names_order line
 -- the orders that a text names, if each is read
 unfoldable pub orders_read : Profile → List ℕ → Option (List (List ℕ))
 orders_read profile text = orders_on profile (slice_split is_line_feed text)
-
--- an order that `--order` takes: its steps are of processors of such a machine, and no more than a
--- run has
-pub record CanBeListed (profile : Profile) (order : List ℕ) : Type 0 where
-  pub few : length order ≤ 999999
-  pub of_machine : All (λ n. IsTrue (has_processor profile n)) order
 
 -- the first line of a text says that there may be more endings
 abbrev pub SaysMore : List ℕ → Type 0

@@ -1,27 +1,28 @@
 //! The law of all endings, read from their text.
 
-ghost use Rattle.std.specs.Prelude.{◌≡◌, ◌<◌, ℕ, List, ◌++◌, All, Some, length};
+ghost use Rattle.std.specs.Prelude.{◌≡◌, ◌<◌, ◌≤◌, ℕ, List, ◌++◌, Some, length};
 ghost use Rattle.pp_machine.specs.Run.{run};
 ghost use Rattle.pp_deck.specs.DeckMeaning.{LoadedDeck};
 ghost use Rattle.pp_run.specs.Determinacy.{IsQuiet};
 ghost use Rattle.pp_ends.specs.Endings.{StandAlike};
-ghost use Rattle.pp_orders.specs.Endings.{AreAllEndings, AreEndings, after_order};
+ghost use Rattle.pp_orders.specs.Endings.{AreAllEndings, AreEndings, IsEnding, LeadsTo, after_order};
 ghost use Rattle.pp_endings.specs.EndingsText.{IsEndingsText};
 ghost use Rattle.pp_races.specs.RacesText.{verdict_line};
 ghost use Rattle.pp_races.specs.declared.verdict.Verdict.TheVariants.{Same};
 ghost use Rattle.pp_sim.specs.TextOf.{IsRacesText, run_of};
-ghost use Rattle.pp_laws.specs.OrdersRead.{CanBeListed, SaysMore, orders_read};
+ghost use Rattle.pp_laws.specs.OrdersRead.{SaysMore, orders_read};
 
 use crate::races_text_law;
+use pp_orders::endings_law;
 
-/// If the orders of a text of all endings can be listed, they are what `--order` reads on its lines
-/// `ORDER`. Whatever is read there leads to endings of the deck, no two to the same; and unless the
-/// first line says that there may be more, these are all: every order of steps can go on into one
-/// of them, and one that ends where nothing can move stands as one of them does. If the races of a
-/// run of the deck end with `SAME IN EVERY ORDER`, there is then one. It stands as the run ends.
+/// The orders of a text of all endings are what `--order` reads on its lines `ORDER`. They lead to
+/// endings of the deck, no two to the same; and unless the first line says that there may be more,
+/// these are all: every order of steps can go on into one of them, one that ends where nothing can
+/// move stands as one of them does, and one that comes into an ending comes into one of them. If
+/// the races of a run of the deck end with `SAME IN EVERY ORDER`, there is at most one, and one
+/// unless there may be more. It stands as the run ends.
 pub fn orders_law()
     ensures read { (deck : LoadedDeck) (text : List ℕ) → (is : IsEndingsText deck text)
-        → All (CanBeListed deck.machine.profile) is.orders
         → orders_read deck.machine.profile text ≡ Some is.orders }
     ensures endings { (deck : LoadedDeck) (text : List ℕ) (orders : List (List ℕ))
         → IsEndingsText deck text → orders_read deck.machine.profile text ≡ Some orders
@@ -34,6 +35,17 @@ pub fn orders_law()
         → ¬ SaysMore text → IsQuiet (run ns deck.machine)
         → (i : ℕ) × (i < length orders)
         × StandAlike (run ns deck.machine) (after_order deck.machine orders i) }
+    ensures no_other { (deck : LoadedDeck) (text : List ℕ) (orders : List (List ℕ)) (ns : List ℕ)
+        → IsEndingsText deck text → orders_read deck.machine.profile text ≡ Some orders
+        → ¬ SaysMore text → IsEnding (run ns deck.machine)
+        → (i : ℕ) × (i < length orders)
+        × LeadsTo (run ns deck.machine) (after_order deck.machine orders i)
+        × LeadsTo (after_order deck.machine orders i) (run ns deck.machine) }
+    ensures at_most_one { (deck : LoadedDeck) (text races before : List ℕ)
+        (orders : List (List ℕ)) (first : List ℕ) (turns : ℕ)
+        → IsEndingsText deck text → orders_read deck.machine.profile text ≡ Some orders
+        → IsRacesText first turns deck races → races ≡ before ++ verdict_line Same
+        → length orders ≤ 1 }
     ensures one { (deck : LoadedDeck) (text races before : List ℕ) (orders : List (List ℕ))
         (first : List ℕ) (turns : ℕ)
         → IsEndingsText deck text → orders_read deck.machine.profile text ≡ Some orders
@@ -43,4 +55,5 @@ pub fn orders_law()
         (after_order deck.machine orders 0) }
 {
     races_text_law();
+    endings_law();
 }

@@ -21,6 +21,7 @@ use Rattle.pp_run.proofs.Moments.{moment_past, run_central}
 use Rattle.pp_races.specs.Findings.{end_by_need, end_of, held_before, is_shared, sharing_of, turns_in_place}
 use Rattle.pp_races.specs.OtherFlags.{waits_at}
 use Rattle.pp_races.specs.OnePass.{WaitsAt}
+use Rattle.pp_races.specs.RaceFree.{IsRaceFreeSoFar}
 use Rattle.pp_races.specs.Soundness.{AreLastOf, IsSound, TurnTestIsExact, least_of, open_of}
 use Rattle.pp_races.specs.Watch.{Missed, Watch, asking_step, each_below, each_number, entry_of, first_race, missed_event}
 use Rattle.pp_races.specs.declared.{asking_step.AskingStep.AskingStep, finding.Finding.Finding}
@@ -92,6 +93,27 @@ no_held : (step : AskingStep) (race : Option Trace) → held_before step race �
 no_held step None is = refl
 no_held step (Some entry) is = absurd (cc)
 
+-- ---- the steps so far
+
+module _ (ns : List ℕ) (m : MachineState) (w : Watch) (each : length m.histories ≡ channel_count) (all_now : (t : ℕ) → length (at_moment ns m t).processors ≡ processor_count)
+    (s : IsSound ns m (length ns) w) (shares : each_below (length (run ns m).central) (sharing_of w) ≡ []) where
+  named_user : (u a : ℕ) → UsesAt a (need_at ns m u) → IsTrue (names_processor (get_or ns u 0))
+  named_user u a (inl is) = named_by_need (get_or ns u 0) (at_moment ns m u) (all_now u) (λ nothing. (let bad : Need.Read a ≡ Need.Nothing = sym is ∙ nothing in cc))
+  named_user u a (inr is) = named_by_need (get_or ns u 0) (at_moment ns m u) (all_now u) (λ nothing. (let bad : Need.Write a is.0 ≡ Need.Nothing = sym is.1 ∙ nothing in cc))
+
+  pub free : IsRaceFreeSoFar ns m
+  free = record {
+    steps = watched_steps ns m each (least_of w (at_moment ns m (length ns))) (open_of w) s.watched;
+    apart = λ u t a hu ht low writes uses. elim (cases_eq (get_or ns u 0) (get_or ns t 0)) [
+      | inl same ↦ same
+      | inr other ↦
+          let sharing : sharing_of w a ≡ [] = none_below (length (run ns m).central) (sharing_of w) shares a (omega (arith, run_central ns m)) in
+          let yes_shared = shared_by w a (get_or ns u 0) (get_or ns t 0) (named_user u a (inr writes)) (named_user t a uses) other (s.wrote u a hu writes) (s.used u a hu (inr writes)) (s.used t a ht uses) in
+          let bad : true ≡ false = sym yes_shared ∙ no_sharing (is_shared (each_processor (w.wrote a)) (each_processor (w.used a))) (Shared a (each_processor (w.wrote a)) (each_processor (w.used a))) sharing in
+          absurd (cc)
+    ];
+  }
+
 -- ---- the whole
 
 module _ (ns : List ℕ) (m : MachineState) (w : Watch) (all : length m.processors ≡ processor_count) (each : length m.histories ≡ channel_count) (all_now : (t : ℕ) → length (at_moment ns m t).processors ≡ processor_count)
@@ -139,20 +161,9 @@ module _ (ns : List ℕ) (m : MachineState) (w : Watch) (all : length m.processo
     | inr past ↦ inl ((nothing_at_rest (processor_of q (run ns m))).0 (ap (λ p. need p) (get_or_past (run ns m).processors (processor_index q) no_processor (omega arith)) ∙ no_need))
   ]
 
-  named_user : (u a : ℕ) → UsesAt a (need_at ns m u) → IsTrue (names_processor (get_or ns u 0))
-  named_user u a (inl is) = named_by_need (get_or ns u 0) (at_moment ns m u) (all_now u) (λ nothing. (let bad : Need.Read a ≡ Need.Nothing = sym is ∙ nothing in cc))
-  named_user u a (inr is) = named_by_need (get_or ns u 0) (at_moment ns m u) (all_now u) (λ nothing. (let bad : Need.Write a is.0 ≡ Need.Nothing = sym is.1 ∙ nothing in cc))
-
   pub determinate : IsDeterminate ns m
   determinate = record {
-    steps = watched_steps ns m each (least_of w (at_moment ns m (length ns))) (open_of w) s.watched;
+    steps = (free ns m w each all_now s shares).steps;
     settled = settled;
-    apart = λ u t a hu ht low writes uses. elim (cases_eq (get_or ns u 0) (get_or ns t 0)) [
-      | inl same ↦ same
-      | inr other ↦
-          let sharing : sharing_of w a ≡ [] = none_below (length (run ns m).central) (sharing_of w) shares a (omega (arith, run_central ns m)) in
-          let yes_shared = shared_by w a (get_or ns u 0) (get_or ns t 0) (named_user u a (inr writes)) (named_user t a uses) other (s.wrote u a hu writes) (s.used u a hu (inr writes)) (s.used t a ht uses) in
-          let bad : true ≡ false = sym yes_shared ∙ no_sharing (is_shared (each_processor (w.wrote a)) (each_processor (w.used a))) (Shared a (each_processor (w.wrote a)) (each_processor (w.used a))) sharing in
-          absurd (cc)
-    ];
+    apart = (free ns m w each all_now s shares).apart;
   }

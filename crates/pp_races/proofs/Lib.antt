@@ -15,6 +15,7 @@ mod MissedLemmas
 mod SoundLemmas
 mod RunLemmas
 mod FinalLemmas
+mod GoingOnLemmas
 mod PositionLemmas
 mod SettledLemmas
 mod EndLemmas

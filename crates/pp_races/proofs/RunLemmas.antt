@@ -23,7 +23,11 @@ use Rattle.pp_races.specs.Watch.{Watch, asked, each_below, each_number, looked, 
 use Rattle.pp_races.specs.Tables.{AreLow, AreWatched}
 use Rattle.pp_races.specs.WatchTables.{AreTables}
 use Rattle.pp_races.specs.declared.{finding.Finding.Finding, watch_tables.WatchTables.WatchTables}
-use Rattle.pp_races.proofs.FinalLemmas.{determinate}
+use Rattle.pp_races.proofs.FinalLemmas.{determinate, free}
+use Rattle.pp_races.proofs.GoingOnLemmas.{no_race}
+use Rattle.pp_races.specs.RaceFree.{IsRaceFreeSoFar}
+use Rattle.pp_races.specs.RacesText.{is_going_on}
+use Rattle.std.specs.List.{list_all}
 use Rattle.pp_races.proofs.GrowLemmas.{behind, findings_are, forgets, forgets_uses, forgotten, watched_push}
 use Rattle.pp_races.proofs.MissedLemmas.{none_missed}
 use Rattle.pp_races.proofs.UseLemmas.{same_asked}
@@ -185,19 +189,30 @@ run_finds ns t m now tables ends end r ends_are =
     ∙ ap (λ k. ((watched ns m unwatched).findings ++ each_number (end_of (run ns m) (watched ns m unwatched))) ++ each_below k (sharing_of (watched ns m unwatched))) words
     ∙ sym (findings_are ns m)
 
+-- after the last step, where no step raced, the watch is sound
+sound_at_end : {A : Type 0} (ns : List ℕ) (t : ℕ) (m now : MachineState) (tables : WatchTables A) → t ≡ length ns → IsWatchedRun ns t m now tables
+    → (watched ns m unwatched).findings ≡ [] → IsSound ns m (length ns) (watched ns m unwatched)
+sound_at_end ns t m now tables end r none =
+    let watch_is : watched (take t ns) m unwatched ≡ watched ns m unwatched = ap (λ ks. watched ks m unwatched) (take_all t ns (omega (arith, end))) in
+    subst (λ (k : ℕ). IsSound ns m k (watched ns m unwatched)) end (subst (λ (x : Watch). IsSound ns m t x) watch_is (r.sound (ap (λ (x : Watch). x.findings) watch_is ∙ none)))
+
+pub run_is_free : {A : Type 0} (ns : List ℕ) (t : ℕ) (m now : MachineState) (tables : WatchTables A) → length m.processors ≡ processor_count → length m.histories ≡ channel_count
+    → t ≡ length ns → IsWatchedRun ns t m now tables → list_all is_going_on (findings ns m) ≡ true → IsRaceFreeSoFar ns m
+run_is_free ns t m now tables all each end r going =
+    let none = no_race ns m (sym (ap (list_all is_going_on) (findings_are ns m)) ∙ going) in
+    free ns m (watched ns m unwatched) each (λ k. run_processors (take k ns) m ∙ all) (sound_at_end ns t m now tables end r none.0) none.1
+
 pub run_tells : {A : Type 0} (ns : List ℕ) (t : ℕ) (m now : MachineState) (tables : WatchTables A) → length m.processors ≡ processor_count → length m.histories ≡ channel_count
     → t ≡ length ns → IsWatchedRun ns t m now tables → ((q : ℕ) → IsTrue (names_processor q) → TurnTestIsExact now q)
     → findings ns m ≡ [] → IsDeterminate ns m
 run_tells ns t m now tables all each end r turn_well none =
     let whole : take t ns ≡ ns = take_all t ns (omega (arith, end)) in
     let now_is : now ≡ run ns m = r.ran ∙ ap (λ ks. run ks m) whole in
-    let watch_is : watched (take t ns) m unwatched ≡ watched ns m unwatched = ap (λ ks. watched ks m unwatched) whole in
     let none_there : findings_at_end (run ns m) (watched ns m unwatched) ≡ [] = sym (findings_are ns m) ∙ none in
     let first = none_first ((watched ns m unwatched).findings ++ each_number (end_of (run ns m) (watched ns m unwatched))) _ none_there in
-    let before : (watched (take t ns) m unwatched).findings ≡ [] = ap (λ (x : Watch). x.findings) watch_is ∙ none_first (watched ns m unwatched).findings _ first in
     determinate ns m (watched ns m unwatched) all each
     (λ k. run_processors (take k ns) m ∙ all) (run_processors ns m ∙ all)
-    (subst (λ (k : ℕ). IsSound ns m k (watched ns m unwatched)) end (subst (λ (x : Watch). IsSound ns m t x) watch_is (r.sound before)))
+    (sound_at_end ns t m now tables end r (none_first (watched ns m unwatched).findings _ first))
     (none_second (watched ns m unwatched).findings _ first)
     (none_second ((watched ns m unwatched).findings ++ each_number (end_of (run ns m) (watched ns m unwatched))) _ none_there)
     (λ q named. subst (λ (x : MachineState). TurnTestIsExact x q) now_is (turn_well q named))

@@ -2,6 +2,7 @@ pub mod OtherFlags
 pub mod Watch
 pub mod Findings
 pub mod RacesText
+pub mod RaceFree
 -- cited by private contracts alone: nobody has to read these to believe what the crate promises
 pub mod Positions
 pub mod FlagSets

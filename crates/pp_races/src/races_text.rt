@@ -1,12 +1,14 @@
 //! The text of the races of a run.
 
-ghost use Rattle.std.specs.Prelude.{◌≡◌, ◌≢◌, ◌≤◌, ℕ, [], length, take, Err, OnErr, OnOk};
+ghost use Rattle.std.specs.Prelude.{◌≡◌, ◌≢◌, ◌≤◌, ℕ, true, [], length, take, Err, OnErr, OnOk};
+ghost use Rattle.std.specs.List.{list_all};
 ghost use Rattle.pp_machine.specs.Run.{run};
 ghost use Rattle.pp_run.specs.Determinacy.{IsDeterminate};
 ghost use Rattle.pp_text.specs.TextWriter.{Prints};
 ghost use Rattle.pp_text.specs.Written.{IsReportWritten};
 ghost use Rattle.pp_races.specs.Findings.{findings};
-ghost use Rattle.pp_races.specs.RacesText.{races_text, verdict_line};
+ghost use Rattle.pp_races.specs.RacesText.{is_going_on, races_text, verdict_line};
+ghost use Rattle.pp_races.specs.RaceFree.{IsRaceFreeSoFar};
 ghost use Rattle.pp_races.specs.Watch.{unwatched};
 ghost use Rattle.pp_races.specs.WatchTables.{AreTables};
 
@@ -24,7 +26,8 @@ use std::io::Write;
 /// Makes the steps of an order, and writes those that may race with others, the processors that are
 /// not settled at the end, the central words that one processor wrote and another used, and what
 /// they come to; and flushes the writer. If nothing is found, the run determines the result of
-/// every order of steps.
+/// every order of steps; if nothing but processors that go on, each of its steps so far waits or is
+/// race-free.
 ///
 /// The lines go out as they come. Memory is asked for before the first of them, for as many events
 /// as a run without histories and trace makes first: none is asked for later, as tests show. No
@@ -40,6 +43,8 @@ pub fn write_races<A: Allocator + Copy, W: Write>(
         result (W.contents writer.old) (W.contents writer.new) }
     ensures same { result ≢ Err ReportFault.Memory → findings order.now machine.old ≡ []
         → IsDeterminate order.now machine.old }
+    ensures no_race { OnOk result (list_all is_going_on (findings order.now machine.old) ≡ true
+        → IsRaceFreeSoFar order.now machine.old) }
     ensures ran { OnOk result (machine.new ≡ run order.now machine.old) }
     ensures cut { OnErr result ((done : ℕ) × (done ≤ length order.now)
         × (machine.new ≡ run (take done order.now) machine.old)) }
@@ -77,6 +82,8 @@ fn write_watched<A: Allocator, W: Write>(
         result (W.contents writer.old) (W.contents writer.new) }
     ensures same { result ≢ Err ReportFault.Memory → findings order.now machine.old ≡ []
         → IsDeterminate order.now machine.old }
+    ensures no_race { OnOk result (list_all is_going_on (findings order.now machine.old) ≡ true
+        → IsRaceFreeSoFar order.now machine.old) }
     ensures ran { OnOk result (machine.new ≡ run order.now machine.old) }
     ensures cut { OnErr result ((done : ℕ) × (done ≤ length order.now)
         × (machine.new ≡ run (take done order.now) machine.old)) }

@@ -1,9 +1,12 @@
 //! A run that is watched, and whose findings are printed as they come.
 
-ghost use Rattle.std.specs.Prelude.{◌≡◌, ◌≤◌, ℕ, [], List, length, take, IfErr, IfOk, OnErr, OnOk};
+ghost use Rattle.std.specs.Prelude.{◌≡◌, ◌≤◌, ℕ, true, [], List, length, take, IfErr, IfOk, OnErr, OnOk};
+ghost use Rattle.std.specs.List.{list_all};
 ghost use Rattle.pp_machine.specs.Run.{run};
 ghost use Rattle.pp_run.specs.Determinacy.{IsDeterminate};
 ghost use Rattle.pp_races.specs.Findings.{findings};
+ghost use Rattle.pp_races.specs.RaceFree.{IsRaceFreeSoFar};
+ghost use Rattle.pp_races.specs.RacesText.{is_going_on};
 ghost use Rattle.pp_races.specs.Printing.{PrintsFindings, PrintsFirst};
 ghost use Rattle.pp_races.specs.Watch.{unwatched};
 ghost use Rattle.pp_races.specs.WatchTables.{AreTables};
@@ -35,6 +38,8 @@ pub(crate) fn print_run<A: Allocator, W: Write>(
         verdict (findings order.now machine.old)) }
     ensures same { OnOk result (findings order.now machine.old ≡ []
         → IsDeterminate order.now machine.old) }
+    ensures no_race { OnOk result (list_all is_going_on (findings order.now machine.old) ≡ true
+        → IsRaceFreeSoFar order.now machine.old) }
     ensures cut { OnErr result ((done : ℕ) × (done ≤ length order.now)
         × (machine.new ≡ run (take done order.now) machine.old)) }
     ensures printed_first { IfErr result (λ verdict. PrintsFirst W.contents text.old text.new Same

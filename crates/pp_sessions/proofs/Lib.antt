@@ -6,3 +6,4 @@ mod HistoryLemmas
 mod CountLemmas
 mod CourseLemmas
 mod StretchLawLemmas
+mod ShownLemmas

@@ -2,7 +2,7 @@
 //! definitions.
 
 ghost use Rattle.std.specs.Prelude.{◌≡◌, ◌==◌, ◌+◌, ◌∷◌, ◌++◌, ℕ, Bool, IsTrue, List, count_by, map};
-ghost use Rattle.std.specs.List.{flat_map};
+ghost use Rattle.std.specs.List.{All, flat_map};
 ghost use Rattle.std.specs.Option.{option_to_list};
 ghost use Rattle.pp_numbers.specs.ChannelNo.{names_channel};
 ghost use Rattle.pp_channel.specs.History.{Course, events_of, idle_stretch};
@@ -11,8 +11,10 @@ ghost use Rattle.pp_machine.specs.Headline.{HoldsOnEachChannel};
 ghost use Rattle.pp_machine.specs.MachineState.{MachineState, history_of};
 ghost use Rattle.pp_run.specs.RunSteps.{run_steps};
 ghost use Rattle.pp_sessions.specs.SessionsLaw.{TellsIdle, TellsMoments, TellsSession, session_events, stretches_of};
-ghost use Rattle.pp_sessions.specs.SessionsText.{lines_from};
+ghost use Rattle.pp_sessions.specs.SessionsText.{lines_from, sessions_text};
 ghost use Rattle.pp_run.specs.StepCounts.{step_counts};
+ghost use Rattle.pp_run.specs.declared.step_counts.StepCounts.{StepCounts};
+ghost use Rattle.pp_sessions.specs.ShownStretch.{FitsItsCounts, FitsItsStretch, counts_shown, stretches_shown};
 ghost use Rattle.pp_sessions.specs.Stretches.{is_session, stretches, tally_of, words_in};
 ghost use Rattle.pp_sessions.specs.TimedEvents.{events_in, timed_events};
 ghost use Rattle.pp_sessions.specs.declared.tally.TimedEvent.{TimedEvent};
@@ -53,6 +55,20 @@ pub fn sessions_law()
         → words_in events ≡ session.passed ++ option_to_list session.lone }
     ensures codes { (codes : List ℕ) (events : List TimedEvent)
         → events_in events ≡ idle_stretch codes → words_in events ≡ codes }
+{}
+
+/// The text of sessions tells what it shows: two texts that are the same, both with words or both
+/// without, show the same sessions and idle stretches of each channel, in order, each with its
+/// turns, its numbers, the word untaken and its words; and the same counts of the same processors.
+pub fn sessions_text_law()
+    ensures { (with_words : Bool) (shown others : List Bool) (m k : MachineState)
+        (counts more : List StepCounts) → All FitsItsStretch (stretches_shown with_words m)
+        → All FitsItsStretch (stretches_shown with_words k)
+        → All FitsItsCounts (counts_shown shown counts)
+        → All FitsItsCounts (counts_shown others more)
+        → sessions_text with_words shown m counts ≡ sessions_text with_words others k more
+        → (stretches_shown with_words m ≡ stretches_shown with_words k)
+        × (counts_shown shown counts ≡ counts_shown others more) }
 {}
 
 /// The steps of a processor that moved it, that were held, and that found it at rest are all its

@@ -9,6 +9,6 @@ mod sessions_text;
 mod tally;
 mod words;
 
-pub use laws::{counts_law, course_law, sessions_law};
+pub use laws::{counts_law, course_law, sessions_law, sessions_text_law};
 pub use pp_run::{StepCounts, run_counting_steps};
 pub use sessions_text::write_sessions;

@@ -14,8 +14,13 @@ use Rattle.pp_deck.specs.declared.deck_fault.DeckFault.{DeckFault}
 use Rattle.pp_text.specs.Written.{IsReportWritten, IsWritten}
 use Rattle.pp_text.specs.declared.{report_fault.ReportFault.ReportFault, write_fault.WriteFault.WriteFault}
 use Rattle.pp_text.specs.declared.report_fault.ReportFault.TheVariants as report
+use Rattle.pp_sim.specs.LintAnswer.{AnswersLint, IsLint}
 use Rattle.pp_sim.specs.TextAnswer.{AnswersDeckUnless, IsAnswerUnless, answer_to, answer_to_report, IsOfDeck, IsLoadFault, NothingPrevents, most_bytes}
 use Rattle.pp_sim.specs.TextOf.{IsTextAfter, run_of}
+use Rattle.pp_condition.specs.declared.condition.Condition.{Condition}
+use Rattle.pp_steps.specs.Choice.{chosen_steps}
+use Rattle.pp_steps.specs.StepsWhere.{HasLinesWhere, IsWrittenWhere}
+use Rattle.pp_steps.specs.declared.choice.Choice.{Choice}
 use Rattle.pp_listing.specs.declared.going_on.Busy.{Busy}
 use Rattle.pp_sim.specs.declared.text_fault.TextFault.{TextFault}
 use Rattle.pp_sim.specs.declared.text_fault.TextFault.TheVariants as fault
@@ -39,13 +44,13 @@ pub answers_after : (profile : Profile) (first : List ℕ) (turns : ℕ) (text_a
     → IsWritten text written old new → IsAnswerUnless profile NothingPrevents (IsTextAfter first turns text_after) (answer_to written) bytes old new
 answers_after profile first turns text_after bytes text deck after written old new meant ran holds is whole = grind (arith, answers_written)
 
--- the answer to the bytes that were read is that to the first bytes that the reader had
-told_answer : (profile : Profile) (before after old new : Option (List ℕ)) (Prevents : LoadedDeck → Busy → Type 0) (IsDeckText : LoadedDeck → List ℕ → Type 0) (front : List ℕ) (most : ℕ) (answer : Result (Unit {0}) TextFault)
-    → IsAnswerUnless profile Prevents IsDeckText answer front old new → Consumes before after front → length front ≤ most → (length front < most → IsAtEnd after)
-    → IfSome before (λ bytes. IsAnswerUnless profile Prevents IsDeckText answer (take most bytes) old new)
-told_answer profile None after old new Prevents IsDeckText front most answer answered consumed le end = tt
-told_answer profile (Some bytes) None old new Prevents IsDeckText front most answer answered consumed le end = absurd consumed
-told_answer profile (Some bytes) (Some rest) old new Prevents IsDeckText front most answer answered consumed le end = grind (arith, read_front, cases_lt)
+-- what holds of the bytes that were read holds of the first bytes that the reader had
+pub told : (Holds : List ℕ → Type 0) (before after : Option (List ℕ)) (front : List ℕ) (most : ℕ)
+    → Holds front → Consumes before after front → length front ≤ most → (length front < most → IsAtEnd after)
+    → IfSome before (λ bytes. Holds (take most bytes))
+told Holds None after front most holds consumed le end = tt
+told Holds (Some bytes) None front most holds consumed le end = absurd consumed
+told Holds (Some bytes) (Some rest) front most holds consumed le end = grind (arith, read_front, cases_lt)
 
 -- an answer to these bytes is a fault of writing, or nothing was written
 unwritten_answer : (profile : Profile) (Prevents : LoadedDeck → Busy → Type 0) (IsDeckText : LoadedDeck → List ℕ → Type 0) (answer : Result (Unit {0}) TextFault) (front : List ℕ) (old new : Option (List ℕ))
@@ -55,6 +60,7 @@ unwritten_answer profile Prevents IsDeckText (Err fault.Write) front old new ans
 unwritten_answer profile Prevents IsDeckText (Err (fault.NotBetweenPrograms going_on)) front old new (_, keeps) = λ _. keeps
 unwritten_answer profile Prevents IsDeckText (Err (fault.Deck f)) front old new (_, keeps) = λ _. keeps
 unwritten_answer profile Prevents IsDeckText (Err (fault.Trace f)) front old new answered = absurd answered
+unwritten_answer profile Prevents IsDeckText (Err fault.Findings) front old new answered = absurd answered
 unwritten_answer profile Prevents IsDeckText (Err fault.Read) front old new keeps = λ _. keeps
 unwritten_answer profile Prevents IsDeckText (Err fault.Memory) front old new keeps = λ _. keeps
 
@@ -92,7 +98,7 @@ answered_deck profile before after old new Prevents IsDeckText front answer answ
       whole = at_end answer (short_answer profile Prevents IsDeckText answer front old new answered) end;
     },
   );
-  known_reader = told_answer profile before after old new Prevents IsDeckText front most_bytes answer answered consumed le end;
+  known_reader = told (λ bytes. IsAnswerUnless profile Prevents IsDeckText answer bytes old new) before after front most_bytes answered consumed le end;
   unwritten = unwritten_answer profile Prevents IsDeckText answer front old new answered;
 }
 
@@ -101,7 +107,38 @@ pub refused : (profile : Profile) (Prevents : LoadedDeck → Busy → Type 0) (I
     → IsLoadFault profile bytes f → IsAnswerUnless profile Prevents IsDeckText (Err f) bytes kept kept
 refused profile Prevents IsDeckText (fault.Deck f) bytes kept is = (is, Keeps-refl kept)
 refused profile Prevents IsDeckText (fault.NotBetweenPrograms going_on) bytes kept is = absurd is
+refused profile Prevents IsDeckText fault.Findings bytes kept is = absurd is
 refused profile Prevents IsDeckText fault.Memory bytes kept is = Keeps-refl kept
 refused profile Prevents IsDeckText fault.Read bytes kept is = absurd is
 refused profile Prevents IsDeckText fault.Write bytes kept is = absurd is
 refused profile Prevents IsDeckText (fault.Trace f) bytes kept is = absurd is
+
+-- ---- what is found in a deck
+
+unwritten_lint : (profile : Profile) (answer : Result (Unit {0}) TextFault) (front : List ℕ) (old new : Option (List ℕ))
+    → IsLint profile answer front old new → IfErr answer (λ f. f ≢ fault.Write → f ≢ fault.Findings → Keeps old new)
+unwritten_lint profile (Ok done) front old new answered = tt
+unwritten_lint profile (Err fault.Write) front old new answered = λ other. absurd (other refl)
+unwritten_lint profile (Err fault.Findings) front old new answered = λ _ other. absurd (other refl)
+unwritten_lint profile (Err (fault.NotBetweenPrograms going_on)) front old new answered = absurd answered
+unwritten_lint profile (Err (fault.Deck f)) front old new answered = absurd answered
+unwritten_lint profile (Err (fault.Trace f)) front old new answered = absurd answered
+unwritten_lint profile (Err fault.Read) front old new keeps = λ _ _. keeps
+unwritten_lint profile (Err fault.Memory) front old new keeps = λ _ _. keeps
+
+pub answered_lint : (profile : Profile) (before after old new : Option (List ℕ)) (front : List ℕ) (answer : Result (Unit {0}) TextFault)
+    → IsLint profile answer front old new → Consumes before after front → length front ≤ most_bytes → (length front < most_bytes → IsAtEnd after)
+    → AnswersLint profile answer before after old new
+answered_lint profile before after old new front answer answered consumed le end = record {
+  every_reader = (front, record { consumed = consumed; bounded = le; answered = answered });
+  known_reader = told (λ bytes. IsLint profile answer bytes old new) before after front most_bytes answered consumed le end;
+  unwritten = unwritten_lint profile answer front old new answered;
+}
+
+-- the same of the steps of a run that meet a condition
+pub answers_where : (profile : Profile) (IsDeckText : LoadedDeck → List ℕ → Type 0) (bytes : List ℕ) (deck : LoadedDeck) (choice : Choice) (condition : Condition) (order : List ℕ) (written : Result (Unit {0}) ReportFault) (old new : Option (List ℕ))
+    → deck_meaning profile bytes ≡ Ok deck → ((text : List ℕ) → HasLinesWhere condition (chosen_steps choice order deck.machine) text → IsDeckText deck text)
+    → IsWrittenWhere choice condition order deck.machine written old new → IsAnswerUnless profile NothingPrevents IsDeckText (answer_to_report written) bytes old new
+answers_where profile IsDeckText bytes deck choice condition order (Ok done) old new meant is (text, lines, whole) = (text, record { deck = deck; meant = meant; is = is text lines }, whole)
+answers_where profile IsDeckText bytes deck choice condition order (Err report.Write) old new meant is (text, lines, front) = (text, record { deck = deck; meant = meant; is = is text lines }, front)
+answers_where profile IsDeckText bytes deck choice condition order (Err report.Memory) old new meant is kept = kept

@@ -1,5 +1,6 @@
 pub mod TextAnswer
 pub mod ThreadsText
 pub mod CheckText
+pub mod LintAnswer
 pub mod TextOf
 pub mod Program

@@ -40,6 +40,7 @@ IsAnswerUnless profile Prevents _ (Err (TextFault.NotBetweenPrograms going_on)) 
 IsAnswerUnless profile Prevents IsDeckText (Err (TextFault.Deck f)) bytes old new =
     IsFaultOf profile bytes f × Keeps old new
 IsAnswerUnless profile Prevents IsDeckText (Err (TextFault.Trace f)) bytes old new = ⊥
+IsAnswerUnless profile Prevents IsDeckText (Err TextFault.Findings) bytes old new = ⊥
 IsAnswerUnless profile Prevents IsDeckText (Err TextFault.Read) bytes old new = Keeps old new
 IsAnswerUnless profile Prevents IsDeckText (Err TextFault.Memory) bytes old new = Keeps old new
 

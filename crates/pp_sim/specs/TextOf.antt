@@ -1,7 +1,7 @@
 -- The texts of a deck: which text is each that is asked for.
 use Rattle.std.specs.Prelude.{◌≡◌, ℕ, List, ◌≤◌, length, Ok, None, Some, Option, [], unwrap_or}
 use Rattle.pp_machine.specs.Headline.{HoldsOnEachChannel, IsMachine}
-use Rattle.pp_machine.specs.MachineState.{processor_of}
+use Rattle.pp_machine.specs.MachineState.{MachineState, processor_of}
 use Rattle.pp_machine.specs.Run.{run, run_order}
 use Rattle.pp_numbers.specs.declared.{bounds.Bounds.Bounds, window.Window.Window}
 use Rattle.pp_deck.specs.DeckMeaning.{LoadedDeck, deck_meaning}
@@ -20,13 +20,18 @@ use Rattle.pp_ends.specs.EndsText.{ends_text_of}
 use Rattle.pp_ends.specs.Loops.{AreLoops}
 use Rattle.pp_ends.specs.declared.{ending.Ending.Ending, loops.Loop.Loop}
 use Rattle.pp_endings.specs.EndingsText.{IsEndingsText}
+use Rattle.pp_steps.specs.Choice.{chosen_steps}
 use Rattle.pp_steps.specs.StepsText.{steps_text}
+use Rattle.pp_steps.specs.StepsWhere.{HasLinesWhere}
 use Rattle.pp_steps.specs.declared.choice.Choice.{Choice}
 use Rattle.pp_races.specs.Findings.{findings}
 use Rattle.pp_races.specs.RacesText.{races_text}
 use Rattle.pp_sessions.specs.SessionsText.{sessions_after}
 use Rattle.pp_draw.specs.DrawingText.{drawing_of_run}
 use Rattle.pp_run.specs.Determinacy.{IsDeterminate}
+use Rattle.pp_condition.specs.Until.{IsEndOf}
+use Rattle.pp_condition.specs.declared.{condition.Condition.Condition, until.Until.Until}
+use Rattle.pp_command.specs.TextOf.{turns_of, with_turns}
 use Rattle.pp_command.specs.declared.{text_of.ChosenSteps.ChosenSteps, text_of.TextOf.TextOf}
 use Rattle.pp_sim.specs.TextAnswer.{NothingPrevents}
 
@@ -103,6 +108,12 @@ pub record IsRacesText (first : List ℕ) (turns : ℕ) (deck : LoadedDeck) (tex
     pub same : findings (run_of first turns deck) deck.machine ≡ []
         → IsDeterminate (run_of first turns deck) deck.machine
 
+-- the text of the steps chosen of a run, or of those that meet a condition
+abbrev pub IsStepsTextBy : Option Condition → Choice → List ℕ → MachineState → List ℕ → Type 0
+IsStepsTextBy None choice steps m text = text ≡ steps_text choice steps m
+IsStepsTextBy (Some condition) choice steps m text =
+    HasLinesWhere condition (chosen_steps choice steps m) text
+
 -- the steps chosen of a run of N steps, of the processors in use if no others are given
 abbrev pub IsStepsText : List ℕ → ℕ → ChosenSteps → LoadedDeck → List ℕ → Type 0
 IsStepsText first turns chosen deck text = let choice : Choice = record {
@@ -110,7 +121,7 @@ IsStepsText first turns chosen deck text = let choice : Choice = record {
   channels = chosen.channels;
   from = chosen.from;
   to = chosen.to;
-} in text ≡ steps_text choice (run_of first turns deck) deck.machine
+} in IsStepsTextBy chosen.condition choice (run_of first turns deck) deck.machine text
 
 -- THE TEXT: which text of a loaded deck is each that is asked for, if these processors come first.
 -- The ends are those of the barrel alone, and the endings those of every order
@@ -132,3 +143,19 @@ IsTextOf first (TextOf.Draw window) = IsDrawing first window
 abbrev pub obstacle : List ℕ → TextOf → LoadedDeck → Busy → Type 0
 obstacle first (TextOf.Dump turns) = PreventsDump first turns
 obstacle first other = NothingPrevents
+
+-- what a text and its deck tell, if the run goes on until then: the same as if the text were of as
+-- many steps as such a run has
+abbrev pub AtEnd : {X : Type 0} → List ℕ → Option Until → (TextOf → LoadedDeck → X → Type 0)
+    → TextOf → LoadedDeck → X → Type 0
+AtEnd first None Tells text deck x = Tells text deck x
+AtEnd first (Some until) Tells text deck x = (turns : ℕ)
+    × IsEndOf until (run_of first (turns_of text) deck) deck.machine turns
+    × Tells (with_turns turns text) deck x
+
+-- THE TEXT of a run that goes on until then, and what stands in its way
+abbrev pub IsTextUntil : List ℕ → Option Until → TextOf → LoadedDeck → List ℕ → Type 0
+IsTextUntil first until = AtEnd first until (IsTextOf first)
+
+abbrev pub obstacle_until : List ℕ → Option Until → TextOf → LoadedDeck → Busy → Type 0
+obstacle_until first until = AtEnd first until (obstacle first)

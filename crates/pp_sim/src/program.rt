@@ -5,9 +5,8 @@ ghost use Rattle.pp_runner.specs.Report.{ReportFitsInMemory};
 ghost use Rattle.pp_sim.specs.Program.{IsDone, IsDoneOnFile, IsPrinted, IsRun, IsReported, status_of};
 
 use crate::text_fault::answer_to;
-use crate::{TextFault, check_text, deck_text, threads_text};
-use pp_command::{LineFault, Work, read_words};
-use pp_machine::PpNo;
+use crate::{TextFault, check_text, deck_text, lint_text, threads_text};
+use pp_command::{Asked, LineFault, Work, read_words};
 use pp_text::write_whole;
 use std::alloc::{Allocator, Global};
 use std::fs::{self, Files};
@@ -17,7 +16,8 @@ use std::thread::Threads;
 
 /// It is done, or help was asked for.
 const DONE: u8 = 0;
-/// The deck was refused, or can't be dumped as it stands; or a trace is not lawful.
+/// The deck was refused, or can't be dumped as it stands, or something is found in it; or a trace
+/// is not lawful.
 const BAD_INPUT: u8 = 1;
 /// The command line was refused.
 pub(crate) const BAD_USAGE: u8 = 2;
@@ -47,10 +47,9 @@ pub fn run_program<
         Err(fault) => return tell_line_fault(rt.alloc(), &fault, output, error),
     };
     let file = asked.file;
-    let first = asked.first.as_slice();
     match file {
-        None => tell_answer(do_work(rt, asked.work, first, alloc, input, output), error),
-        Some(path) => work_on_file(rt, asked.work, first, alloc, path, output, error),
+        None => tell_answer(do_work(rt, &asked, alloc, input, output), error),
+        Some(path) => work_on_file(rt, &asked, alloc, path, output, error),
     }
 }
 
@@ -60,14 +59,15 @@ fn work_on_file<
     A: Allocator + Copy + Send + Sync,
     O: Write,
     E: Write,
->(rt: &T, work: Work, first: &[PpNo], alloc: A, path: &str, output: &mut O, error: &mut E) -> u8
+>(rt: &T, asked: &Asked<'_>, alloc: A, path: &str, output: &mut O, error: &mut E) -> u8
     requires { ReportFitsInMemory A.row A.Allocator }
-    ensures { IsDoneOnFile A work first.now result (O.contents output.old) (O.contents output.new) }
+    ensures { IsDoneOnFile A asked.now.work asked.now.first.items asked.now.until result
+        (O.contents output.old) (O.contents output.new) }
 {
     let Ok(mut file) = fs::open(rt, path) else {
         return tell_unread(path, error);
     };
-    match do_work(rt, work, first, alloc, &mut file, output) {
+    match do_work(rt, asked, alloc, &mut file, output) {
         Err(TextFault::Read) => tell_unread(path, error),
         answer => tell_answer(answer, error),
     }
@@ -84,22 +84,26 @@ fn tell_unread<E: Write>(path: &str, error: &mut E) -> u8
 /// Does what the words ask for.
 fn do_work<T: Threads + Wait + Sync, I: Read, A: Allocator + Copy + Send + Sync, O: Write>(
     rt: &T,
-    work: Work,
-    first: &[PpNo],
+    asked: &Asked<'_>,
     alloc: A,
     input: &mut I,
     output: &mut O,
 ) -> Result<(), TextFault>
     requires { ReportFitsInMemory A.row A.Allocator }
-    ensures { IsDone A work first.now result (I.remaining input.old) (I.remaining input.new)
+    ensures { IsDone A asked.now.work asked.now.first.items asked.now.until result
+        (I.remaining input.old) (I.remaining input.new)
         (O.contents output.old) (O.contents output.new) }
 {
-    match work {
-        Work::Deck { profile, text } => deck_text(alloc, profile, first, input, output, &text),
-        Work::Threads { profile, limits } => {
-            threads_text(rt, alloc, profile, input, output, limits)
+    match &asked.work {
+        Work::Deck { profile, text } => {
+            let first = asked.first.as_slice();
+            deck_text(alloc, *profile, first, &asked.until, input, output, text)
         }
-        Work::Check { opened } => check_text(alloc, &opened, input, output),
+        Work::Lint { profile } => lint_text(alloc, *profile, input, output),
+        Work::Threads { profile, limits } => {
+            threads_text(rt, alloc, *profile, input, output, *limits)
+        }
+        Work::Check { opened } => check_text(alloc, opened, input, output),
     }
 }
 
@@ -136,16 +140,22 @@ fn show_help<O: Write, E: Write>(help: &[u8], output: &mut O, error: &mut E) -> 
     tell_answer(answer_to(write_whole(output, help)), error)
 }
 
-/// The status of what was done, or failed, which is reported.
+/// The status of what was done, or failed, which is reported on `error`.
 fn tell_answer<E: Write>(answer: Result<(), TextFault>, error: &mut E) -> u8
     ensures { result ≡ status_of answer }
 {
     let Err(fault) = answer else {
         return DONE;
     };
-    let _ = writeln!(error, "ppsim: {fault}");
+    // What is found is said on the output.
+    if !matches!(fault, TextFault::Findings) {
+        let _ = writeln!(error, "ppsim: {fault}");
+    }
     match fault {
-        TextFault::Deck(_) | TextFault::NotBetweenPrograms(_) | TextFault::Trace(_) => { BAD_INPUT }
+        TextFault::Deck(_)
+        | TextFault::NotBetweenPrograms(_)
+        | TextFault::Findings
+        | TextFault::Trace(_) => BAD_INPUT,
         TextFault::Read | TextFault::Write => IO_FAULT,
         TextFault::Memory => NO_MEMORY,
     }

@@ -9,8 +9,8 @@ use pp_machine::Cut;
 use pp_text::{ReportFault, WriteFault};
 use thiserror::Error;
 
-/// Why a text of a deck or of a trace was not written. Every fault but `Write` comes before the
-/// first byte is written.
+/// Why a text of a deck or of a trace was not written, or that it says what was found. Every fault
+/// but `Write` and `Findings` comes before the first byte is written.
 #[derive(Clone, Copy, Debug, Error)]
 pub enum TextFault {
     /// The reader failed.
@@ -22,6 +22,9 @@ pub enum TextFault {
     /// The run left a machine that a dump can't show, since this goes on in it.
     #[error("not between programs: {0}")]
     NotBetweenPrograms(Busy),
+    /// The text was written, and says what was found in the deck.
+    #[error("something is found")]
+    Findings,
     /// A trace is not lawful.
     #[error(transparent)]
     Trace(TraceFault),

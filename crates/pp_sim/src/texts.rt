@@ -2,19 +2,21 @@
 
 pub(crate) mod check_text;
 pub(crate) mod deck_text;
+pub(crate) mod lint_text;
 pub(crate) mod threads_text;
 
 ghost use Rattle.std.specs.Prelude.{◌≡◌, Ok};
 ghost use Rattle.pp_deck.specs.DeckMeaning.{deck_meaning};
 ghost use Rattle.pp_endings.specs.EndingsText.{IsEndingsText};
 ghost use Rattle.pp_sim.specs.TextAnswer.{AnswersLoaded, AnswersLoadedUnless};
-ghost use Rattle.pp_sim.specs.TextOf.{IsDumpText, IsEndsText, IsRacesText, IsStepsText, IsTextAfter, IsTextOf, PreventsDump, obstacle};
+ghost use Rattle.pp_sim.specs.TextOf.{IsDumpText, IsEndsText, IsRacesText, IsStepsText, IsTextAfter, IsTextOf, IsTextUntil, PreventsDump, obstacle, obstacle_until};
 ghost use Rattle.pp_state.specs.StateText.{state_after};
 
 use crate::TextFault;
 use crate::deck_bytes::DeckBytes;
 use crate::text_fault::{answer_to, answer_to_report};
 use pp_command::{ChosenSteps, TextOf};
+use pp_condition::{Until, steps_until};
 use pp_deck::Deck;
 use pp_draw::{run_seeing_steps, write_drawing};
 use pp_endings::text_of_endings;
@@ -25,13 +27,38 @@ use pp_races::write_races;
 use pp_run::{BareMachine, Order};
 use pp_sessions::{run_counting_steps, write_sessions};
 use pp_state::{write_central, write_memory, write_state};
-use pp_steps::{Choice, write_steps};
+use pp_steps::{Choice, write_steps, write_steps_where};
 use pp_text::{write_text, write_whole};
 use std::alloc::Allocator;
 use std::io::Write;
 
+/// Writes this text of a deck that is loaded, in whose run these processors come first, and which
+/// goes on until then, if that is given: first it is found how many steps the run has.
+pub(crate) fn write_text_until<A: Allocator + Copy, W: Write>(
+    alloc: A,
+    deck: &DeckBytes,
+    loaded: &mut Deck<A>,
+    writer: &mut W,
+    first: &[PpNo],
+    until: &Option<Until>,
+    text: &TextOf,
+) -> Result<(), TextFault>
+    requires { deck_meaning deck.now.profile deck.now.bytes.now
+        ≡ Ok (record { machine = loaded.old.machine; named = loaded.old.named }) }
+    ensures { AnswersLoadedUnless loaded.old.machine loaded.old.named
+        (obstacle_until first.now until.now text.now) (IsTextUntil first.now until.now text.now)
+        result (W.contents writer.old) (W.contents writer.new) }
+{
+    let Some(until) = until else {
+        return write_text_of(alloc, deck, loaded, writer, first, text);
+    };
+    let order = Order::of_run(alloc, first, loaded.machine.profile(), text.turns())?;
+    let turns = steps_until(alloc, &loaded.machine, &order, until)?;
+    write_text_of(alloc, deck, loaded, writer, first, &text.with_turns(turns))
+}
+
 /// Writes this text of a deck that is loaded, in whose run these processors come first.
-pub(crate) fn write_text_of<A: Allocator + Copy, W: Write>(
+fn write_text_of<A: Allocator + Copy, W: Write>(
     alloc: A,
     deck: &DeckBytes,
     loaded: &mut Deck<A>,
@@ -196,5 +223,11 @@ fn write_chosen_steps<A: Allocator + Copy, W: Write>(
         to: chosen.to,
     };
     let order = Order::of_run(alloc, first, loaded.machine.profile(), turns)?;
-    answer_to_report(write_steps(alloc, writer, &loaded.machine, &choice, &order))
+    let machine = &loaded.machine;
+    match &chosen.condition {
+        Some(condition) => {
+            answer_to_report(write_steps_where(alloc, writer, machine, &choice, condition, &order))
+        }
+        None => answer_to_report(write_steps(alloc, writer, machine, &choice, &order)),
+    }
 }

@@ -3,3 +3,4 @@ mod WaitLemmas
 mod MemoryLineLemmas
 mod MemoryTextLemmas
 mod MemoryLawLemmas
+mod StateTextLemmas

@@ -19,7 +19,8 @@ use Rattle.pp_state.specs.CentralText.{central_line, central_text, shown_word}
 use Rattle.pp_state.specs.DisplayCode.{display_character, display_characters, displayed}
 use Rattle.pp_numbers.specs.Bounds.{meets}
 use Rattle.pp_state.specs.MemoryText.{displayed_words, has_words, memory_line, memory_text, octal_words, padded_line, shown_line, trimmed}
-use Rattle.pp_state.specs.MemoryReading.{central_word_read, lines_of, number_in, number_on, word_read}
+use Rattle.pp_state.specs.MemoryReading.{central_word_read, lines_of, number_on, word_read}
+use Rattle.pp_text.specs.InstructionRead.{number_in}
 use Rattle.pp_numbers.specs.declared.bounds.Bounds.{Bounds}
 use Rattle.pp_state.proofs.MemoryLineLemmas.{IsPlain, line_if, lines_passing, number_after, number_trimmed}
 

@@ -1,12 +1,8 @@
 -- Words read off a text by its columns.
-use Rattle.std.specs.Prelude.{ℕ, ◌+◌, ◌-◌, ◌*◌, ◌%◌, ◌==◌, List, [], ◌∷◌, drop, take}
+use Rattle.std.specs.Prelude.{ℕ, ◌+◌, ◌-◌, ◌*◌, ◌%◌, ◌==◌, List, [], ◌∷◌}
 use Rattle.std.specs.List.{filter}
 use Rattle.std.specs.Str.Lines.{lines}
-use Rattle.pp_word.specs.Numeral.{value_of}
-
--- the octal number in some columns of a line, counted from 0
-abbrev pub number_in : ℕ → ℕ → List ℕ → ℕ
-number_in column width line = value_of 8 (take width (drop column line))
+use Rattle.pp_text.specs.InstructionRead.{number_in}
 
 -- of lines, the number in some columns of the first, or 0 where there is none
 abbrev pub number_on : ℕ → ℕ → List (List ℕ) → ℕ

@@ -1,7 +1,7 @@
 //! The laws of how things stand and of the words shown. These functions do nothing: their contracts
 //! say what is proved of the definitions.
 
-ghost use Rattle.std.specs.Prelude.{◌≡◌, ◌≢◌, ◌<◌, ◌≤◌, ◌↔◌, ℕ, [], All, List, length, slice_index};
+ghost use Rattle.std.specs.Prelude.{◌≡◌, ◌≢◌, ◌<◌, ◌≤◌, ◌↔◌, ℕ, [], All, Bool, List, length, slice_index};
 ghost use Rattle.std.specs.List.{flat_map};
 ghost use Rattle.pp_numbers.specs.ChannelNo.{channel_count};
 ghost use Rattle.pp_machine.specs.Headline.{HoldsOnEachChannel};
@@ -10,7 +10,10 @@ ghost use Rattle.pp_machine.specs.MachineStep.{step_outcome};
 ghost use Rattle.pp_machine.specs.NeedAndEffect.{need};
 ghost use Rattle.pp_machine.specs.declared.outcome.Outcome.TheVariants.{Held};
 ghost use Rattle.pp_state.specs.Changes.{changed_central, changed_section};
+ghost use Rattle.pp_run.specs.declared.step_counts.StepCounts.{StepCounts};
+ghost use Rattle.pp_state.specs.ShownStanding.{AgreeOnState, FitsItsState};
 ghost use Rattle.pp_state.specs.StateLaw.{AreMemories, IsNew, IsHeld, overwritten, words_set};
+ghost use Rattle.pp_state.specs.StateText.{state_text};
 ghost use Rattle.pp_text.specs.Standing.{held_text};
 ghost use Rattle.pp_word.specs.Address.{place_count};
 ghost use Rattle.pp_machine.specs.Central.{IsCentral};
@@ -42,6 +45,17 @@ pub fn state_law()
         → overwritten before (flat_map words_set (changed_central before after)) ≡ after }
     ensures new_central { (before after : List ℕ)
         → All (IsNew before) (flat_map words_set (changed_central before after)) }
+{}
+
+/// The text of how things stand tells what it shows: two texts that are the same show the same
+/// processors, each with P, A, its state, its instruction, the place of its block and what holds
+/// it; the same words changed, at the same places; and the same of each channel.
+pub fn state_text_law()
+    ensures { (shown others : List Bool) (before after load other : MachineState)
+        (counts more : List StepCounts) → FitsItsState shown before after counts
+        → FitsItsState others load other more
+        → state_text shown before after counts ≡ state_text others load other more
+        → AgreeOnState shown others before after load other counts more }
 {}
 
 /// The text of a memory is the memory: the word at each place within the bounds is read off its

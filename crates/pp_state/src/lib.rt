@@ -10,7 +10,7 @@ mod memory_text;
 mod whole_text;
 
 pub use central_text::write_central;
-pub use laws::{central_law, memory_law, state_law};
+pub use laws::{central_law, memory_law, state_law, state_text_law};
 pub use memory_text::write_memory;
 pub use pp_numbers::Bounds;
 pub use whole_text::{print_changes, write_state};

@@ -1,3 +1,4 @@
+mod WhereLemmas
 mod StoreLemmas
 mod LineLemmas
 mod PlaceLemmas
@@ -7,3 +8,4 @@ mod ChosenSteps
 mod TextOfSteps
 mod EventLawLemmas
 mod StepLawLemmas
+mod ShownLemmas

@@ -3,6 +3,8 @@ pub mod StepLine
 pub mod HeldRuns
 pub mod StepsText
 pub mod StepsLaw
+pub mod ShownStep
+pub mod StepsWhere
 -- cited by private contracts alone: nobody has to read these to believe what the crate promises
 pub mod Stores
 pub mod Cursor

@@ -9,8 +9,10 @@ mod laws;
 mod run_counts;
 mod step_line;
 mod steps_text;
+mod steps_where;
 mod stores;
 
 pub use choice::Choice;
-pub use laws::steps_law;
+pub use laws::{steps_law, steps_text_law};
 pub use steps_text::write_steps;
+pub use steps_where::write_steps_where;

@@ -29,7 +29,7 @@ nine : (xs : List ℕ) → length xs ≡ 9
 unfolding tabulate
 nine xs long = sym (tabulate_is 0 xs 9 (λ i. get_or xs i 0) long (λ i below. refl))
 
-three : (xs : List ℕ) → length xs ≡ 3 → get_or xs 0 0 ∷ get_or xs 1 0 ∷ get_or xs 2 0 ∷ [] ≡ xs
+pub three : (xs : List ℕ) → length xs ≡ 3 → get_or xs 0 0 ∷ get_or xs 1 0 ∷ get_or xs 2 0 ∷ [] ≡ xs
 unfolding tabulate
 three xs long = sym (tabulate_is 0 xs 3 (λ i. get_or xs i 0) long (λ i below. refl))
 

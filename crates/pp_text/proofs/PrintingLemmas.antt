@@ -10,8 +10,6 @@ use Rattle.pp_numbers.specs.GappedNumbers.{is_number, number_of}
 use Rattle.pp_numbers.specs.ChannelNo.{all_channels, channel_number, names_channel}
 use Rattle.pp_numbers.proofs.ChannelNoLemmas.{numbers_of_channels}
 use Rattle.pp_channel.specs.declared.event.Event.{Event}
-use Rattle.pp_numbers.specs.PpNo.{all_processors, names_processor}
-use Rattle.pp_numbers.proofs.PpNoLemmas.{numbers_of_processors}
 use Rattle.pp_text.specs.PrintedText.{each_below, used_channel_line}
 use Rattle.pp_text.specs.TextWriter.{Prints}
 use Rattle.pp_text.specs.declared.text_writer.TextWriter.{TextWriter}
@@ -87,7 +85,8 @@ pub walk_more : {X : Type 0} (line : ℕ → List X) (number : ℕ → ℕ) (k :
     ≡ flat_map line (tabulate (k + 1) number)
 walk_more {X} line number k = grind (arith, tabulate_more, flat_map-append, append-nil)
 
-each_is_flat : (k : ℕ) (f : ℕ → List ℕ) → each_below k f ≡ flat_map f (range_with_len 0 k)
+-- what there is of numbers from 0 on, one after another
+pub each_is_flat : (k : ℕ) (f : ℕ → List ℕ) → each_below k f ≡ flat_map f (range_with_len 0 k)
 unfolding each_below
 each_is_flat zero f = refl
 each_is_flat (suc k) f = grind (arith, range_flat, add-one, each_is_flat k f)
@@ -107,14 +106,9 @@ not_named true xs none = absurd (none refl)
 not_named false xs none = refl
 
 pub channels_by_number : (f : ℕ → List ℕ)
-    → flat_map f all_channels ≡ each_below 0o100 (λ c. if names_channel c then f c else [])
+    → flat_map f all_channels
+    ≡ flat_map (λ c. if names_channel c then f c else []) (range_with_len 0 0o100)
 channels_by_number f =
     where_named f
     ∙ numbers_of_channels (λ c. if names_channel c then f c else [])
     (λ c none. not_named (names_channel c) (f c) none)
-    ∙ sym (each_is_flat 0o100 (λ c. if names_channel c then f c else []))
-
-pub processors_by_number : (f : ℕ → List ℕ)
-    → ((n : ℕ) → (IsTrue (names_processor n) → ⊥) → f n ≡ [])
-    → flat_map f all_processors ≡ each_below 0o100 f
-processors_by_number f none = grind (arith, numbers_of_processors, each_is_flat)

@@ -1,5 +1,6 @@
 pub mod PrintedText
 pub mod InstructionText
+pub mod InstructionRead
 pub mod Standing
 pub mod Differences
 pub mod TextLaw

@@ -21,7 +21,7 @@ pub use central_words::central_word;
 pub use digits::{decimal6, octal2, octal4, octal6};
 pub use held_text::{print_flags_text, print_held_text};
 pub use instruction::{print_running, running_field};
-pub use laws::text_law;
+pub use laws::{instruction_law, text_law};
 pub use machine_text::{print_channels, write_text};
 pub use numbers::{
     print_decimal, print_octal, print_short_decimal, print_short_octal, print_upper_digits,

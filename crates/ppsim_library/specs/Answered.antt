@@ -1,5 +1,5 @@
 -- What a host learns of a work, and what stands in its room then.
-use Rattle.std.specs.Prelude.{◌≡◌, ◌≤◌, ◌<◌, ℕ, Bool, List, [], ◌++◌, length, drop, MatchOption, Option, Some, Result, Ok, Err, ◌⊎◌}
+use Rattle.std.specs.Prelude.{◌≡◌, ◌≤◌, ◌<◌, ℕ, Bool, List, [], ◌++◌, length, drop, MatchOption, Option, None, Some, Result, Ok, Err, ◌⊎◌}
 use Rattle.pp_sim.specs.Program.{IsDone}
 use Rattle.pp_sim.specs.declared.text_fault.TextFault.{TextFault}
 use Rattle.pp_command.specs.declared.{text_of.TextOf.TextOf, work.Work.Work}
@@ -10,6 +10,7 @@ use Rattle.ppsim_library.specs.declared.answer.Answer.{Answer}
 -- every work but that with one thread per processor
 abbrev pub NeedsNoThreads : Work → Type 0
 NeedsNoThreads (Work.Deck profile text) = Unit {0}
+NeedsNoThreads (Work.Lint profile) = Unit {0}
 NeedsNoThreads (Work.Threads profile limits) = ⊥
 NeedsNoThreads (Work.Check opened) = Unit {0}
 
@@ -17,6 +18,7 @@ NeedsNoThreads (Work.Check opened) = Unit {0}
 abbrev pub status_of : TextFault → ℕ
 status_of (TextFault.Deck f) = 1
 status_of (TextFault.NotBetweenPrograms going_on) = 1
+status_of TextFault.Findings = 1
 status_of (TextFault.Trace f) = 1
 status_of TextFault.Memory = 4
 status_of TextFault.Read = 4
@@ -27,6 +29,7 @@ abbrev pub line_of : TextFault → ℕ
 line_of (TextFault.Deck f) = f.line
 line_of (TextFault.Trace f) = f.line
 line_of (TextFault.NotBetweenPrograms going_on) = 0
+line_of TextFault.Findings = 0
 line_of TextFault.Memory = 0
 line_of TextFault.Read = 0
 line_of TextFault.Write = 0
@@ -39,17 +42,19 @@ pub record IsWritten (text : List ℕ) (a : Answer) (old new : List ℕ) : Type 
   pub fits : length text ≤ length old → (a.status ≡ 0) × (new ≡ text ++ drop (length text) old)
   pub exceeds : length old < length text → (a.status ≡ 5) × (new ≡ old)
 
--- the words for a fault stand at the front of the room, as far as they fit; what is not written is
--- as it was
+-- the status and the line of a fault; some words stand at the front of the room (which ones is not
+-- said), and what is not written is as it was
 pub record IsRefused (f : TextFault) (a : Answer) (old new : List ℕ) : Type 0 where
   pub status : a.status ≡ status_of f
   pub line : a.line ≡ line_of f
   pub within : a.length ≤ length old
   pub rest : drop a.length new ≡ drop a.length old
 
--- how the outcome of a work that wrote this text shows in the answer and in the room
+-- how the outcome of a work that wrote this text shows in the answer and in the room: what is found
+-- is a text as any other
 abbrev pub Shows : Result (Unit {0}) TextFault → List ℕ → Answer → (old new : List ℕ) → Type 0
 Shows (Ok done) text a old new = IsWritten text a old new
+Shows (Err TextFault.Findings) text a old new = IsWritten text a old new
 Shows (Err f) text a old new = IsRefused f a old new
 
 -- THE PROMISE: the work was done over these bytes, as the program does it over its input, onto an
@@ -60,7 +65,7 @@ pub record Tells (first : List ℕ) (work : Work) (input : List ℕ) (a : Answer
   pub outcome : Result (Unit {0}) TextFault
   pub text : List ℕ
   pub after : Option (List ℕ)
-  pub done : IsDone (Unit {0}) work first outcome (Some input) after (Some []) (Some text)
+  pub done : IsDone (Unit {0}) work first None outcome (Some input) after (Some []) (Some text)
   pub shown : Shows outcome text a old new
 
 -- a number is out of its range, and the room is as it was

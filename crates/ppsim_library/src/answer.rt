@@ -51,8 +51,9 @@ pub(crate) fn answer_of<A: Allocator>(
 ) -> Answer
     ensures { Shows outcome text.now result out.old out.new }
 {
-    let Err(fault) = outcome else {
-        return written(text, out);
+    let fault = match outcome {
+        Ok(()) | Err(TextFault::Findings) => return written(text, out),
+        Err(fault) => fault,
     };
     let length = show_fault(alloc, &fault, out);
     Answer {
@@ -88,7 +89,10 @@ fn status_of(fault: &TextFault) -> u32
     ensures { result ≡ status_of fault.now }
 {
     match fault {
-        TextFault::Deck(_) | TextFault::NotBetweenPrograms(_) | TextFault::Trace(_) => { BAD_INPUT }
+        TextFault::Deck(_)
+        | TextFault::NotBetweenPrograms(_)
+        | TextFault::Findings
+        | TextFault::Trace(_) => BAD_INPUT,
         // A reader of bytes does not fail, and a writer of bytes only for lack of memory.
         TextFault::Memory | TextFault::Read | TextFault::Write => NO_MEMORY,
     }

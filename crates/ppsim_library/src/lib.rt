@@ -96,6 +96,24 @@ pub extern "C" fn ppsim_list(
     tell_in(memory, Work::Deck { profile, text }, deck, out)
 }
 
+/// What is found in a deck. Nothing is run.
+#[unsafe(no_mangle)]
+pub extern "C" fn ppsim_lint(
+    memory: &mut Memory,
+    processors: u32,
+    deck: &[u8],
+    out: &mut [u8],
+) -> Answer
+    ensures done { MatchOption (profile_of processors 0) (RefusesNumber result out.old out.new)
+        (λ profile. Tells [] (Work.Lint profile) deck.now result out.old out.new) }
+    ensures memory { IsGivenBack memory.old memory.new }
+{
+    let Some(profile) = profile_of(processors, 0) else {
+        return refused_number();
+    };
+    tell_in(memory, Work::Lint { profile }, deck, out)
+}
+
 /// The dump after `turns` turns: a deck to go on from.
 #[unsafe(no_mangle)]
 pub extern "C" fn ppsim_dump(
@@ -319,6 +337,7 @@ pub extern "C" fn ppsim_steps(
           channels = None;
           from = from;
           to = turns;
+          condition = None;
         })) deck.now
         result out.old out.new)) }
     ensures memory { IsGivenBack memory.old memory.new }
@@ -336,6 +355,7 @@ pub extern "C" fn ppsim_steps(
             channels: None,
             from,
             to: turns,
+            condition: None,
         },
     };
     run_in(memory, profile, order, text, deck, out)

@@ -2,12 +2,12 @@
 
 ghost use Rattle.ppsim_library.specs.Answered.{NeedsNoThreads, Tells, TellsInOrder};
 ghost use Rattle.pp_sim.specs.Program.{IsDone};
-ghost use Rattle.std.specs.Prelude.{[], Some};
+ghost use Rattle.std.specs.Prelude.{[], None, Some};
 
 use crate::answer::{Answer, answer_of, refused_number};
 use crate::numbers::order_of;
 use pp_numbers::{PpNo, Profile};
-use pp_sim::{TextFault, TextOf, Work, check_text, deck_text};
+use pp_sim::{TextFault, TextOf, Work, check_text, deck_text, lint_text};
 use std::alloc::Allocator;
 
 /// Does this work over a deck, or a trace, and puts the text into the room for it. In a run these
@@ -55,11 +55,14 @@ fn do_work<A: Allocator + Copy>(
     output: &mut Vec<u8, A>,
 ) -> Result<(), TextFault>
     requires { NeedsNoThreads work }
-    ensures { IsDone (Unit {0}) work first.now result (Some input.old.now) (Some input.new.now)
+    ensures { IsDone (Unit {0}) work first.now None result (Some input.old.now) (Some input.new.now)
         (Some output.old.items) (Some output.new.items) }
 {
     match work {
-        Work::Deck { profile, text } => deck_text(alloc, profile, first, input, output, &text),
+        Work::Deck { profile, text } => {
+            deck_text(alloc, profile, first, &None, input, output, &text)
+        }
+        Work::Lint { profile } => lint_text(alloc, profile, input, output),
         Work::Threads { .. } => unreachable!(),
         Work::Check { opened } => check_text(alloc, &opened, input, output),
     }

@@ -47,6 +47,7 @@ fn other_faults(rt: HostRuntime) {
     assert!(rt; tells(alloc, &TextFault::Read, "read fault"));
     assert!(rt; tells(alloc, &TextFault::Memory, "out of memory"));
     assert!(rt; tells(alloc, &TextFault::Write, "write fault"));
+    assert!(rt; tells(alloc, &TextFault::Findings, "something is found"));
     assert!(rt; tells(alloc, &LineFault::Memory, "out of memory"));
     assert!(rt; tells(alloc, &LineFault::Number, "number out of range"));
     assert!(rt; tells(alloc, &LineFault::Picture, PICTURE));

@@ -7,7 +7,7 @@ use test_bench::{HANDOFF, LOST_AND_WAITING};
 pub(crate) type Case = (&'static [&'static str], &'static str, u64);
 
 /// Command lines that are done, or whose deck or trace is refused.
-pub(crate) const CASES: [Case; 23] = [
+pub(crate) const CASES: [Case; 26] = [
     (&["ppsim", "barrel", "--turns", "40"], HANDOFF, 5),
     (
         &["ppsim", "barrel", "--turns", "80", "--processors", "20"],
@@ -27,6 +27,11 @@ pub(crate) const CASES: [Case; 23] = [
         &["ppsim", "state", "--turns", "40", "--order", "0:3,1"],
         HANDOFF,
         5,
+    ),
+    (
+        &["ppsim", "barrel", "--turns", "40", "--until", "CH05 PUT"],
+        HANDOFF,
+        6,
     ),
     (&["ppsim", "ends", "--turns", "40"], HANDOFF, 5),
     (
@@ -48,6 +53,8 @@ pub(crate) const CASES: [Case; 23] = [
     (&["ppsim", "orders", "--states", "100"], HANDOFF, 5),
     (&["ppsim", "races", "--turns", "100"], LOST_AND_WAITING, 5),
     (&["ppsim", "draw", "--turns", "30"], LOST_AND_WAITING, 4),
+    (&["ppsim", "lint"], HANDOFF, 1),
+    (&["ppsim", "lint"], TRACE, 1),
     (&["ppsim", "check"], TRACE, 1),
     (&["ppsim", "check", "--opened", "5"], TRACE, 1),
     (&["ppsim", "dump", "--turns", "40"], HANDOFF, 5),

@@ -1,29 +1,31 @@
 ghost use Rattle.std.specs.Prelude.{[]};
 ghost use Rattle.pp_sim.specs.TextAnswer.{AnswersDeck, AnswersDeckUnless};
-ghost use Rattle.pp_sim.specs.TextOf.{IsBarrelText, IsTextOf, obstacle};
+ghost use Rattle.pp_sim.specs.TextOf.{IsBarrelText, IsTextUntil, obstacle_until};
 
 use crate::TextFault;
 use crate::deck_bytes::DeckBytes;
 use crate::streams::read_front;
-use crate::texts::write_text_of;
+use crate::texts::write_text_until;
 use pp_command::TextOf;
+use pp_condition::Until;
 use pp_machine::{PpNo, Profile};
 use std::alloc::Allocator;
 use std::io::{Read, Write};
 
 /// Reads a deck for a machine of this profile, and writes this text of it, in whose run these
-/// processors come first. If a dump is asked for and there is none, nothing is written, and the
-/// answer is `NotBetweenPrograms`.
+/// processors come first, and which goes on until then, if that is given. If a dump is asked for
+/// and there is none, nothing is written, and the answer is `NotBetweenPrograms`.
 pub fn deck_text<A: Allocator + Copy, R: Read, W: Write>(
     alloc: A,
     profile: Profile,
     first: &[PpNo],
+    until: &Option<Until>,
     reader: &mut R,
     writer: &mut W,
     text: &TextOf,
 ) -> Result<(), TextFault>
-    ensures { AnswersDeckUnless profile (obstacle first.now text.now)
-        (IsTextOf first.now text.now) result
+    ensures { AnswersDeckUnless profile (obstacle_until first.now until.now text.now)
+        (IsTextUntil first.now until.now text.now) result
         (R.remaining reader.old) (R.remaining reader.new)
         (W.contents writer.old) (W.contents writer.new) }
 {
@@ -31,7 +33,7 @@ pub fn deck_text<A: Allocator + Copy, R: Read, W: Write>(
     let bytes = front.as_slice();
     let deck = DeckBytes { profile, bytes };
     let mut loaded = deck.load(alloc)?;
-    write_text_of(alloc, &deck, &mut loaded, writer, first, text)
+    write_text_until(alloc, &deck, &mut loaded, writer, first, until, text)
 }
 
 /// Reads a deck for a machine of this profile, runs it in the barrel for `turns` turns (decimal),
@@ -47,5 +49,13 @@ pub fn barrel_text<A: Allocator + Copy, R: Read, W: Write>(
         (R.remaining reader.old) (R.remaining reader.new)
         (W.contents writer.old) (W.contents writer.new) }
 {
-    deck_text(alloc, profile, &[], reader, writer, &TextOf::Barrel(turns))
+    deck_text(
+        alloc,
+        profile,
+        &[],
+        &None,
+        reader,
+        writer,
+        &TextOf::Barrel(turns),
+    )
 }

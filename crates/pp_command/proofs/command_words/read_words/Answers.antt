@@ -11,7 +11,7 @@ pub returns-in_default-subcommand-clause-refused : goal.returns-in_default-subco
 returns-in_default-subcommand-clause-refused c =
     let e = met_none _ _ c.in-Ok-try_get_matches_from.matches c.in-Ok.ensures c.in-Ok-try_get_matches_from.ensures.matches c.in_default-subcommand.ensures.name in (
       taken_words _ _ c.in-Ok.ensures c.in-Ok-try_get_matches_from.ensures.kinds,
-      λ work first k. let bad : ⊥ = rw e at k in bad,
+      λ work first until k. let bad : ⊥ = rw e at k in bad,
       λ k. let bad : AsksForMoreAmong None = rw e at k in bad,
     )
 
@@ -38,7 +38,7 @@ returns-in-None-clause-refused c =
     c.in-Ok.ensures c.in-Ok-try_get_matches_from.ensures.matches c.in-Some.ensures.name c.in-Some.ensures.rows in
     let none = rw c.in-None.is at c.in-Ok-asked_of.ensures.none in (
       taken_words _ _ c.in-Ok.ensures c.in-Ok-try_get_matches_from.ensures.kinds,
-      λ work first k. none work first (rw e at k),
+      λ work first until k. none work first until (rw e at k),
       rw e (c.asks_for_more.ensures.0 c.if-asks_for_more.true),
     )
 
@@ -48,6 +48,6 @@ returns-clause-refused c =
     c.in-Ok.ensures c.in-Ok-try_get_matches_from.ensures.matches c.in-Some.ensures.name c.in-Some.ensures.rows in
     let none = rw c.in-None.is at c.in-Ok-asked_of.ensures.none in (
       taken_words _ _ c.in-Ok.ensures c.in-Ok-try_get_matches_from.ensures.kinds,
-      λ work first k. none work first (rw e at k),
+      λ work first until k. none work first until (rw e at k),
       λ k. let is = c.asks_for_more.ensures.1 (rw e at k) in let not = c.if-asks_for_more.false in cc,
     )

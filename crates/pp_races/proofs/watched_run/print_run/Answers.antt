@@ -6,7 +6,7 @@ use Rattle.pp_run.proofs.Moments.{run_central}
 use Rattle.pp_races.specs.Watch.{Watch, unwatched, watched}
 use Rattle.pp_races.proofs.GrowLemmas.{forgotten}
 use Rattle.pp_races.proofs.TextLemmas.{findings_none, findings_on, findings_then, first_printed}
-use Rattle.pp_races.proofs.RunLemmas.{run_begins, run_finds, run_goes_on, run_tells}
+use Rattle.pp_races.proofs.RunLemmas.{run_begins, run_finds, run_goes_on, run_is_free, run_tells}
 use Rattle.pp_races.proofs.watched_run.print_run.Goals as goal
 
 pub loop-n-init : goal.loop-n-init
@@ -65,3 +65,8 @@ pub returns-clause-same : goal.returns-clause-same
 returns-clause-same g c =
     run_tells c.args.order.now c.loop-n.n-index c.args.machine.now c.loop-n.machine c.loop-n.tables c.is_sound.ensures.processors c.is_sound.ensures.channels (omega (arith, c.loop-n-test.false, c.loop-n.auto.n-index-end, ap length c.processors-n-items.ensures.are)) c.loop-n.invariant.run
     c.in-Ok-find_unsettled.ensures.turns
+
+pub returns-clause-no_race : goal.returns-clause-no_race
+returns-clause-no_race g c =
+    run_is_free c.args.order.now c.loop-n.n-index c.args.machine.now c.loop-n.machine c.loop-n.tables c.is_sound.ensures.processors c.is_sound.ensures.channels
+    (omega (arith, c.loop-n-test.false, c.loop-n.auto.n-index-end, ap length c.processors-n-items.ensures.are)) c.loop-n.invariant.run

@@ -1,10 +1,13 @@
 use Rattle.pp_sim.proofs.program.do_work.Goals as goal
 
 pub returns-in-Deck : goal.returns-in-Deck
-returns-in-Deck g c = rw c.in-Deck.is c.deck_text.ensures
+returns-in-Deck g c = rw c.in-Deck.is (rw c.as_slice-first.ensures.value at c.deck_text.ensures)
 
 pub returns-in-Threads : goal.returns-in-Threads
 returns-in-Threads g c = rw c.in-Threads.is c.threads_text.ensures
 
 pub returns-in-Check : goal.returns-in-Check
 returns-in-Check g c = rw c.in-Check.is c.check_text.ensures
+
+pub returns-in-Lint : goal.returns-in-Lint
+returns-in-Lint g c = rw c.in-Lint.is c.lint_text.ensures

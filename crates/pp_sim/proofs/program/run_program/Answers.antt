@@ -16,8 +16,9 @@ returns g c = inl (record {
   taken = c.in-Ok.ensures.taken;
   work = c.in-Ok.asked.work;
   first = c.in-Ok.asked.first.items;
+  until = c.in-Ok.asked.until;
   asked = c.in-Ok.ensures.work;
   file = Some c.in-Some.path.now;
   named = rw c.in-Some.is at c.in-Ok.ensures.file;
-  done = (Keeps-refl _, (rw c.as_slice-first.ensures.value at c.work_on_file.ensures));
+  done = (Keeps-refl _, c.work_on_file.ensures);
 })

@@ -3,5 +3,8 @@ use Rattle.ppsim_library.proofs.over_bytes.do_work.Goals as goal
 pub returns-in-Deck : goal.returns-in-Deck
 returns-in-Deck g c = rw c.in-Deck.is c.deck_text.ensures
 
+pub returns-in-Lint : goal.returns-in-Lint
+returns-in-Lint g c = rw c.in-Lint.is c.lint_text.ensures
+
 pub returns-in-Check : goal.returns-in-Check
 returns-in-Check g c = rw c.in-Check.is c.check_text.ensures

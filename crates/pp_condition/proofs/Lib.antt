@@ -1,0 +1,3 @@
+mod ConditionTextLemmas
+mod MeetingLemmas
+mod UntilLemmas

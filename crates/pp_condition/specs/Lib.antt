@@ -1,0 +1,3 @@
+pub mod Condition
+pub mod ConditionText
+pub mod Until

@@ -1,0 +1,5 @@
+mod ColumnLemmas
+mod FaultLemmas
+mod FaultOfLineLemmas
+mod FindingLemmas
+mod LoadLemmas

@@ -1,0 +1,13 @@
+//! What is found in a deck: each fault, with its line, its column and the field at fault.
+#![tactic(auto)]
+
+mod column;
+mod fault_words;
+mod law;
+mod line_fault;
+mod line_findings;
+mod lint_text;
+mod text_lines;
+
+pub use law::lint_law;
+pub use lint_text::write_lint;

@@ -1,0 +1,32 @@
+-- The lines of steps that meet a condition, step by step.
+use Rattle.std.proofs.Common.{◌≡◌, ℕ, Bool, true, false, cond, IsTrue, List, [], ◌∷◌, ◌++◌, ◌&&◌, refl, sym, ap, ◌∙◌, append-nil, subst}
+use Rattle.std.specs.Prelude.{◌↔◌, Option, Result, Ok, Err}
+use Rattle.pp_machine.specs.MachineState.{MachineState}
+use Rattle.pp_text.specs.Written.{IsReportWritten}
+use Rattle.pp_text.specs.declared.report_fault.ReportFault.{ReportFault}
+use Rattle.pp_condition.specs.Condition.{Meets}
+use Rattle.pp_condition.specs.declared.condition.Condition.{Condition}
+use Rattle.pp_run.specs.RunSteps.{RunStep}
+use Rattle.pp_steps.specs.Choice.{chosen_steps}
+use Rattle.pp_steps.specs.declared.choice.Choice.{Choice}
+use Rattle.pp_steps.specs.StepsWhere.{HasLinesWhere, IsWrittenWhere, meets, passes, text_alone}
+
+abbrev pub own_text : Bool → Bool → RunStep → List ℕ
+own_text is_chosen meets_it step = cond (is_chosen && meets_it) (text_alone step) []
+
+-- with the next step of a run
+pub where_more : (condition : Condition) (past : List RunStep) (step : RunStep) (text : List ℕ) (is_chosen meets_it : Bool) → IsTrue meets_it ↔ Meets condition step → HasLinesWhere condition past text
+    → HasLinesWhere condition (cond is_chosen (past ++ step ∷ []) past) (text ++ own_text is_chosen meets_it step)
+where_more condition past step text true true is so_far = meets past step text so_far (is.0 refl)
+where_more condition past step text true false is so_far =
+    subst (λ (t : List ℕ). HasLinesWhere condition (past ++ step ∷ []) t) (sym (append-nil text))
+    (passes past step text so_far (λ met. let bad : false ≡ true = is.1 met in absurd (cc)))
+where_more condition past step text false true is so_far = subst (λ (t : List ℕ). HasLinesWhere condition past t) (sym (append-nil text)) so_far
+where_more condition past step text false false is so_far = subst (λ (t : List ℕ). HasLinesWhere condition past t) (sym (append-nil text)) so_far
+
+-- all of them, when the run is over
+pub written_where : (choice : Choice) (condition : Condition) (order : List ℕ) (m : MachineState) (text : List ℕ) (written : Result (Unit {0}) ReportFault) (old new : Option (List ℕ))
+    → HasLinesWhere condition (chosen_steps choice order m) text → IsReportWritten text written old new → IsWrittenWhere choice condition order m written old new
+written_where choice condition order m text (Ok done) old new lines is = (text, lines, is)
+written_where choice condition order m text (Err ReportFault.Write) old new lines is = (text, lines, is)
+written_where choice condition order m text (Err ReportFault.Memory) old new lines kept = kept
