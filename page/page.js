@@ -3,6 +3,7 @@ const make = (tag, properties) => Object.assign(document.createElement(tag), pro
 const bytesOf = text => new TextEncoder().encode(text);
 const WRITTEN = 0, BAD_NUMBER = 2, NO_MEMORY = 4, TOO_LONG = 5; // statuses of an answer
 const LAST_TURN = 999999, MOST_DRAWN = 2000, STEPS_SHOWN = 200, MOST_BUTTONS = 2000;
+const MOST_FOUND = 5; // findings in words
 const MOST_BYTES = 1048577, MOST_IN_ADDRESS = 32768; // the first is one more than a deck may have
 const NAMED = 255; // in place of a processor's number: those in use
 const WITHOUT_LIST = ['list', 'lint', 'ends', 'orders']; // the others take a list: channels, or an order of steps
@@ -143,7 +144,7 @@ function show() {
   if (shown !== (shown = name + before + text)) $('text').replaceChildren(...parts);
   $('text').classList.toggle('bad', !isWritten);
   if (name === 'Steps' || name === 'Events') $('text').scrollTop = $('text').scrollHeight;
-  if (name === 'Check') markLine('trace', isWritten ? 0 : line);
+  if (name === 'Check') markLines('trace', isWritten || !line ? [] : [{ line, words: text }]);
   $('checked').hidden = name !== 'Check';
   $('whose').hidden = name !== 'Memory';
   $('at').textContent = at;
@@ -161,10 +162,11 @@ function draw() {
   const from = Math.floor(Math.max(0, turn() - 1) / MOST_DRAWN) * MOST_DRAWN;
   const to = Math.min(last(), from + MOST_DRAWN), root = $('picture').shadowRoot;
   if (drawn?.from === from) return moveCursor();
-  const { status, line, text } = ask('draw', from, to), isWritten = status === WRITTEN;
-  markLine('deck', isWritten ? 0 : line);
-  const words = text.replace(/fault (\d).*/, (words, number) => `${words}: ${FAULTS[number]}`);
-  $('fault').textContent = isWritten ? '' : words;
+  const { status, text } = ask('draw', from, to), isWritten = status === WRITTEN;
+  const found = foundInDeck(), words = found.map(it => it.words), more = words.length - MOST_FOUND;
+  markLines('deck', found);
+  if (more > 0) words.splice(MOST_FOUND, more, `and ${more} more`);
+  $('fault').textContent = isWritten || found.length ? words.join('\n') : text;
   $('drawing').classList.toggle('old', !isWritten);
   if (!isWritten) return;
   // The one text that is read as markup: it is proved well-formed, and has no text of a deck in it.
@@ -196,13 +198,21 @@ function keepNames() {
   drawn?.legend.setAttribute('transform', `translate(${x + 8},8)`);
 }
 
-/** Numbers the lines of an editor, and marks one of them, or none at 0. */
-function markLine(id, line) {
+/** What is found in the deck: lines, and the words for each. */
+function foundInDeck() {
+  const all = ask('lint').text.matchAll(/^(\d+):\d+ .*$/gm);
+  return [...all].map(([words, line]) => ({ line: Number(line), words }));
+}
+
+/** Numbers the lines of an editor, and marks those at which something is found. */
+function markLines(id, found) {
   const numbers = $(id).value.split('\n').map((_, n) => `${n + 1}\n`);
-  if (line > 0) numbers[line - 1] = make('b', { textContent: numbers[line - 1] });
+  for (const { line, words } of found) {
+    numbers[line - 1] = make('b', { textContent: `${line}\n`, title: words });
+  }
   $(`${id}-numbers`).replaceChildren(...numbers);
-  $(id).classList.toggle('faulty', line > 0);
-  $(id).style.setProperty('--line', line - 1);
+  $(id).classList.toggle('faulty', found.length > 0);
+  $(id).style.setProperty('--line', (found[0]?.line ?? 0) - 1);
   $(`${id}-numbers`).scrollTop = $(id).scrollTop;
 }
 

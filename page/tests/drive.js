@@ -163,11 +163,16 @@ async function faults() {
   await show();
   await write('deck', 'PP 0\nPP 12\n');
   await becomes('a fault is shown at its line, in words',
-    `$('fault').textContent === 'deck fault 5 at line 2: no such processor'
+    `$('fault').textContent === '2:4 no such processor: 12'
       && $('deck').classList.contains('faulty')
       && $('deck-numbers').querySelector('b').textContent === '2\\n'`);
   expect('the last drawing stays', await value(`$('drawing').classList.contains('old')`));
   await picture('fault');
+  await write('deck', 'PP 0\n0100 8\n0101 0\npp 1\n');
+  await becomes('all faults are shown',
+    `$('fault').textContent === '2:6 wrong digits: 8\\n4:1 no such line here: pp'
+      && $('deck-numbers').querySelectorAll('b').length === 2
+      && $('deck-numbers').querySelector('b').title === '2:6 wrong digits: 8'`);
   await write('deck', 'PP 0\n0100 0300 * <img src=x onerror=alert(1)><script>alert(2)</script>\n'
     + 'START 0100\n');
   await becomes('a mended deck is run',
@@ -229,7 +234,7 @@ async function decks() {
   expect('the address has it', kept.startsWith('#deck=PP+3%0A0200'));
   await write('deck', '* '.repeat(600000));
   await becomes('a deck of more than a megabyte is refused',
-    `$('fault').textContent === 'deck fault 1 at line 0: too long'`);
+    `$('fault').textContent === '1:1 longer than 1048576 bytes'`);
 }
 
 async function names() {
