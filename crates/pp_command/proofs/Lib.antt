@@ -1,4 +1,6 @@
+mod CallLemmas
 mod CommandLemmas
+mod FindLemmas
 mod NamedCommands
 mod NumberListLemmas
 mod OrderListLemmas

@@ -4,3 +4,4 @@ pub mod ProcessorList
 pub mod CommandLine
 pub mod OrderList
 pub mod TextOf
+pub mod CallWords

@@ -1,90 +1,87 @@
 //! Reading the words of a command line.
 
 ghost use Rattle.std.specs.Prelude.{◌≡◌, ◌↔◌, ℕ, [], List, Option, IsTrue, codes, map, option_map, IfOk, IfErr, IfNone, IfSome, OnOk};
-ghost use Rattle.pp_command.specs.CommandLine.{AskFor, AsksForMore, Finds, IsAskedOf, IsFaultBy, IsRefused, IsWorkOf, Name, ReadsFile, refusals, value_in};
+ghost use Rattle.pp_command.specs.CommandLine.{AskFor, AsksForMore, Finds, IsAskedOf, IsFaultBy, IsRefused, IsWorkOf, Name, ReadsFile, refusals};
 ghost use Rattle.pp_command.specs.declared.work.Work.{Work};
 ghost use Rattle.pp_condition.specs.declared.until.Until.{Until};
 
 use crate::command::command;
 use crate::option_values::{
-    channels_of, fits_a_picture, limits_of, number_of, order_of, profile_of, until_of, value_of,
-    window_of,
+    channels_of, fits_a_picture, limits_of, number_of, order_of, profile_of, until_of,     window_of,
 };
 use crate::text_of::text_of;
-use crate::{Asked, LineFault, Work};
+use crate::{Asked, LineFault, Values, Work};
 use clap::error::ErrorKind;
-use clap::{ArgMatches, Error};
+use clap::Error;
 use pp_numbers::CHANNELS;
-use std::alloc::{AllocError, Global};
+use std::alloc::{AllocError, Allocator, Global};
 
 /// Whether a command asks for a picture of more turns than it has.
-fn asks_for_more(name: &str, matches: &ArgMatches<'_>) -> bool
-    ensures { IsTrue result ↔ AsksForMore name.now (value_in matches.now) }
+pub(crate) fn asks_for_more<V: Values>(name: &str, values: &V) -> bool
+    ensures { IsTrue result ↔ AsksForMore name.now (V.value values.now) }
 {
-    match window_of(matches) {
+    match window_of(values) {
         Some(window) => name == "draw" && !fits_a_picture(window),
         None => false,
     }
 }
 
 /// The work that a command asks for, if its numbers are in range.
-fn work_of(name: &str, matches: &ArgMatches<'_>) -> Option<Work>
-    ensures { Finds (IsWorkOf name.now (value_in matches.now)) result }
+fn work_of<V: Values>(name: &str, values: &V) -> Option<Work>
+    ensures { Finds (IsWorkOf name.now (V.value values.now)) result }
 {
     match name {
         "threads" => {
-            let profile = profile_of(matches)?;
+            let profile = profile_of(values)?;
             let limits = limits_of(
-                number_of(matches, "steps")?,
-                number_of(matches, "patience")?,
+                number_of(values, "steps")?,
+                number_of(values, "patience")?,
             )?;
             Some(Work::Threads { profile, limits })
         }
         "lint" => Some(Work::Lint {
-            profile: profile_of(matches)?,
+            profile: profile_of(values)?,
         }),
         "check" => {
-            let opened = channels_of(matches, "opened")?.unwrap_or([false; CHANNELS]);
+            let opened = channels_of(values, "opened")?.unwrap_or([false; CHANNELS]);
             Some(Work::Check { opened })
         }
         _ => {
-            let profile = profile_of(matches)?;
-            let text = text_of(name, matches, profile)?;
+            let profile = profile_of(values)?;
+            let text = text_of(name, values, profile)?;
             Some(Work::Deck { profile, text })
         }
     }
 }
 
 /// What a command asks for, if its numbers are in range.
-fn asked_of<'a>(
-    alloc: Global,
+pub(crate) fn asked_of<V: Values, A: Allocator>(
+    alloc: A,
     name: &str,
-    matches: &ArgMatches<'a>,
-) -> Result<Option<Asked<'a>>, AllocError>
+    values: &V,
+) -> Result<Option<Asked<A>>, AllocError>
     ensures asked { IfOk result (λ found. IfSome found (λ asked.
-        IsAskedOf name.now (value_in matches.now) asked.work asked.first.items asked.until)) }
-    ensures file { IfOk result (λ found. IfSome found (λ asked.
-        ReadsFile (value_in matches.now (codes "file"))
-        (option_map (λ s. s.now) asked.file))) }
+        IsAskedOf name.now (V.value values.now) asked.work asked.first.items asked.until)) }
     ensures none { IfOk result (λ found. IfNone found ((work : Work) (first : List ℕ)
-        (until : Option Until) → ¬ IsAskedOf name.now (value_in matches.now) work first until)) }
+        (until : Option Until) → ¬ IsAskedOf name.now (V.value values.now) work first until)) }
 {
-    let Some(work) = work_of(name, matches) else {
+    let Some(work) = work_of(name, values) else {
         return Ok(None);
     };
-    let Some(first) = order_of(alloc, matches)? else {
+    let Some(first) = order_of(alloc, values)? else {
         return Ok(None);
     };
-    let Some(until) = until_of(matches) else {
+    let Some(until) = until_of(values) else {
         return Ok(None);
     };
-    let file = value_of(matches, "file").filter(|path| *path != "-");
-    Ok(Some(Asked {
-        work,
-        first,
-        until,
-        file,
-    }))
+    Ok(Some(Asked { work, first, until }))
+}
+
+/// The file to read, if the word for it names one.
+pub(crate) fn named_file(word: Option<&str>) -> Option<&str>
+    ensures { ReadsFile (option_map (λ s. s.now) word.entry) (option_map (λ s. s.now) result) }
+{
+    word.filter(|path| *path != "-")
 }
 
 /// The fault of a parse that failed.
@@ -97,12 +94,16 @@ fn refusal(error: Error) -> LineFault
     }
 }
 
-/// What the words of a command line ask for. The first word is the program's name.
-pub fn read_words<'a>(alloc: Global, words: &'a [&'a str]) -> Result<Asked<'a>, LineFault>
-    ensures work { IfOk result (λ asked.
-        AskFor (map (λ s. s.now) words.entry.now) asked.work asked.first.items asked.until) }
-    ensures file { IfOk result (λ asked. Name (map (λ s. s.now) words.entry.now)
-        (option_map (λ s. s.now) asked.file)) }
+/// What the words of a command line ask for, and the file to read; none for standard input. The
+/// first word is the program's name.
+pub fn read_words<'a>(
+    alloc: Global,
+    words: &'a [&'a str],
+) -> Result<(Asked<Global>, Option<&'a str>), LineFault>
+    ensures work { IfOk result (λ read. AskFor (map (λ s. s.now) words.entry.now)
+        read.0.work read.0.first.items read.0.until) }
+    ensures file { IfOk result (λ read. Name (map (λ s. s.now) words.entry.now)
+        (option_map (λ s. s.now) read.1)) }
     ensures taken { OnOk result (refusals (map (λ s. s.now) words.entry.now) ≡ []) }
     // One of clap's refusals of these words, and not for want of memory; or the words are a command
     // line, and no work is asked for within the ranges: `Picture` for a picture of more turns than
@@ -123,7 +124,7 @@ pub fn read_words<'a>(alloc: Global, words: &'a [&'a str]) -> Result<Asked<'a>, 
         return Err(LineFault::Memory);
     };
     match found {
-        Some(asked) => Ok(asked),
+        Some(asked) => Ok((asked, named_file(inner.get_str("file")))),
         None if asks_for_more(name, inner) => Err(LineFault::Picture),
         None => Err(LineFault::Number),
     }

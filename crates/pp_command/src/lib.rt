@@ -1,6 +1,8 @@
 //! The command line: what its words ask for, or why they are refused, and its help.
 #![tactic(auto)]
 
+mod call_fault;
+mod call_words;
 mod channel_list;
 mod command;
 mod command_words;
@@ -12,11 +14,15 @@ mod order_list;
 mod processor_list;
 mod run_options;
 mod text_of;
+mod values;
 mod work;
 
+pub use call_fault::CallFault;
+pub use call_words::read_call;
 pub use channel_list::listed_channels;
 pub use command_words::read_words;
 pub use line_fault::LineFault;
 pub use order_list::listed_order;
 pub use text_of::{ChosenSteps, TextOf};
+pub(crate) use values::Values;
 pub use work::{Asked, Work};

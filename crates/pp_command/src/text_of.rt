@@ -1,13 +1,13 @@
 //! Which text of a deck is asked for, and how a command line asks for it.
 
 ghost use Rattle.std.specs.Prelude.{◌≢◌, codes};
-ghost use Rattle.pp_command.specs.CommandLine.{AsksForText, Finds, ReadsTurns, value_in};
+ghost use Rattle.pp_command.specs.CommandLine.{AsksForText, Finds, ReadsTurns};
 
 use crate::option_values::{
     bounds_of, channels_of, condition_of, fits_a_picture, is_flagged, processor_of, processors_of,
     states_of, turn_of, turns_of, window_of,
 };
-use clap::ArgMatches;
+use crate::Values;
 use pp_condition::Condition;
 use pp_numbers::{Bounds, CHANNELS, PROCESSORS, PpNo, Profile, Window};
 
@@ -155,28 +155,28 @@ const PLACES: u32 = 0o10000;
 const MOST_CENTRAL_WORDS: u32 = 0o400000;
 
 /// The text of a deck that a command asks for, if its numbers are in range.
-pub(crate) fn text_of(name: &str, matches: &ArgMatches<'_>, profile: Profile) -> Option<TextOf>
-    ensures { Finds (AsksForText name.now (value_in matches.now) profile) result }
+pub(crate) fn text_of<V: Values>(name: &str, values: &V, profile: Profile) -> Option<TextOf>
+    ensures { Finds (AsksForText name.now (V.value values.now) profile) result }
 {
     match name {
         "list" => Some(TextOf::List),
-        "orders" => Some(TextOf::Orders(states_of(matches)?)),
+        "orders" => Some(TextOf::Orders(states_of(values)?)),
         "draw" => {
-            let window = window_of(matches)?;
+            let window = window_of(values)?;
             fits_a_picture(window).then_some(TextOf::Draw(window))
         }
-        _ => run_text_of(name, matches, profile),
+        _ => run_text_of(name, values, profile),
     }
 }
 
 /// The text of a deck that a command asks for which makes a run, and draws none.
-fn run_text_of(name: &str, matches: &ArgMatches<'_>, profile: Profile) -> Option<TextOf>
+fn run_text_of<V: Values>(name: &str, values: &V, profile: Profile) -> Option<TextOf>
     requires list { name.now ≢ codes "list" }
     requires orders { name.now ≢ codes "orders" }
     requires draw { name.now ≢ codes "draw" }
-    ensures { Finds (AsksForText name.now (value_in matches.now) profile) result }
+    ensures { Finds (AsksForText name.now (V.value values.now) profile) result }
 {
-    let turns = turns_of(matches)?;
+    let turns = turns_of(values)?;
     match name {
         "barrel" => Some(TextOf::Barrel(turns)),
         "dump" => Some(TextOf::Dump(turns)),
@@ -185,33 +185,33 @@ fn run_text_of(name: &str, matches: &ArgMatches<'_>, profile: Profile) -> Option
         "ends" => Some(TextOf::Ends(turns)),
         "sessions" => Some(TextOf::Sessions {
             turns,
-            words: is_flagged(matches, "words"),
+            words: is_flagged(values, "words"),
         }),
         "memory" => Some(TextOf::Memory {
             turns,
-            processor: processor_of(matches, profile)?,
-            bounds: bounds_of(matches, PLACES)?,
+            processor: processor_of(values, profile)?,
+            bounds: bounds_of(values, PLACES)?,
         }),
         "central" => Some(TextOf::Central {
             turns,
-            bounds: bounds_of(matches, MOST_CENTRAL_WORDS)?,
+            bounds: bounds_of(values, MOST_CENTRAL_WORDS)?,
         }),
-        "steps" => steps_text_of(matches, profile, turns),
+        "steps" => steps_text_of(values, profile, turns),
         _ => None,
     }
 }
 
 /// The text of a deck that `steps` asks for, of a run of this many turns.
-fn steps_text_of(matches: &ArgMatches<'_>, profile: Profile, turns: u32) -> Option<TextOf>
-    requires { ReadsTurns (value_in matches.now) turns }
-    ensures { Finds (AsksForText (codes "steps") (value_in matches.now) profile) result }
+fn steps_text_of<V: Values>(values: &V, profile: Profile, turns: u32) -> Option<TextOf>
+    requires { ReadsTurns (V.value values.now) turns }
+    ensures { Finds (AsksForText (codes "steps") (V.value values.now) profile) result }
 {
     let chosen = ChosenSteps {
-        processors: processors_of(matches, profile)?,
-        channels: channels_of(matches, "ch")?,
-        from: turn_of(matches, "from", 0)?,
-        to: turn_of(matches, "to", turns)?,
-        condition: condition_of(matches, "where", profile)?,
+        processors: processors_of(values, profile)?,
+        channels: channels_of(values, "ch")?,
+        from: turn_of(values, "from", 0)?,
+        to: turn_of(values, "to", turns)?,
+        condition: condition_of(values, "where", profile)?,
     };
     Some(TextOf::Steps { turns, chosen })
 }

@@ -1,7 +1,7 @@
 use crate::TextOf;
 use pp_condition::Until;
 use pp_numbers::{CHANNELS, Limits, PpNo, Profile};
-use std::alloc::Global;
+use std::alloc::Allocator;
 
 /// The work that a command line asks for.
 #[derive(Clone, Copy)]
@@ -17,12 +17,11 @@ pub enum Work {
     Check { opened: [bool; CHANNELS] },
 }
 
-/// A work, the processors whose steps come first in its run, until when the run goes on, if not for
-/// all its turns, and the file whose bytes it is done over; none for those of standard input.
+/// A work, the processors whose steps come first in its run, and until when the run goes on, if not
+/// for all its turns.
 #[derive(Drop)]
-pub struct Asked<'a> {
+pub struct Asked<A: Allocator> {
     pub work: Work,
-    pub first: Vec<PpNo, Global>,
+    pub first: Vec<PpNo, A>,
     pub until: Option<Until>,
-    pub file: Option<&'a str>,
 }

@@ -3,4 +3,4 @@ use Rattle.pp_command.proofs.CommandLemmas.{no_fit}
 use Rattle.pp_command.proofs.command_words.asks_for_more.Goals as goal
 
 pub returns-then-eq : goal.returns-then-eq
-returns-then-eq c = grind (arith, rules, no_fit)
+returns-then-eq g c = grind (arith, rules, no_fit)

@@ -1,5 +1,6 @@
-use Rattle.std.proofs.Common.{None}
+use Rattle.std.proofs.Common.{None, codes, ◌∙◌}
 use Rattle.clap.specs.Words.{found_of}
+use Rattle.clap.proofs.WalkLemmas.{first_value-rows}
 use Rattle.pp_command.specs.CommandLine.{AsksForMoreAmong}
 use Rattle.pp_command.proofs.CommandLemmas.{met_command, met_none, refused_words, taken_words}
 use Rattle.pp_command.proofs.command_words.read_words.Goals as goal
@@ -29,7 +30,8 @@ pub returns-in-Some-found-clause-file : goal.returns-in-Some-found-clause-file
 returns-in-Some-found-clause-file c =
     let e = met_command _ _ c.in-Ok-try_get_matches_from.matches c.in-Some.name.now (found_of c.in-Some.inner.now)
     c.in-Ok.ensures c.in-Ok-try_get_matches_from.ensures.matches c.in-Some.ensures.name c.in-Some.ensures.rows in
-    let named = rw c.in-Some-found.is at c.in-Ok-asked_of.ensures.file in
+    let value = c.get_str.ensures ∙ first_value-rows (found_of c.in-Some.inner.now) (codes "file") in
+    let named = rw value at c.named_file.ensures in
     rw e named
 
 pub returns-in-None-clause-refused : goal.returns-in-None-clause-refused
