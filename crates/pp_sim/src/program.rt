@@ -42,11 +42,10 @@ pub fn run_program<
         (I.remaining input.new)
         (O.contents output.old) (O.contents output.new) }
 {
-    let asked = match read_words(rt.alloc(), words) {
-        Ok(asked) => asked,
+    let (asked, file) = match read_words(rt.alloc(), words) {
+        Ok(read) => read,
         Err(fault) => return tell_line_fault(rt.alloc(), &fault, output, error),
     };
-    let file = asked.file;
     match file {
         None => tell_answer(do_work(rt, &asked, alloc, input, output), error),
         Some(path) => work_on_file(rt, &asked, alloc, path, output, error),
@@ -59,7 +58,7 @@ fn work_on_file<
     A: Allocator + Copy + Send + Sync,
     O: Write,
     E: Write,
->(rt: &T, asked: &Asked<'_>, alloc: A, path: &str, output: &mut O, error: &mut E) -> u8
+>(rt: &T, asked: &Asked<Global>, alloc: A, path: &str, output: &mut O, error: &mut E) -> u8
     requires { ReportFitsInMemory A.row A.Allocator }
     ensures { IsDoneOnFile A asked.now.work asked.now.first.items asked.now.until result
         (O.contents output.old) (O.contents output.new) }
@@ -84,7 +83,7 @@ fn tell_unread<E: Write>(path: &str, error: &mut E) -> u8
 /// Does what the words ask for.
 fn do_work<T: Threads + Wait + Sync, I: Read, A: Allocator + Copy + Send + Sync, O: Write>(
     rt: &T,
-    asked: &Asked<'_>,
+    asked: &Asked<Global>,
     alloc: A,
     input: &mut I,
     output: &mut O,

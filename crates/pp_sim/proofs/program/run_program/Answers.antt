@@ -14,9 +14,9 @@ returns-in-Err g c = inr (record {
 pub returns : goal.returns
 returns g c = inl (record {
   taken = c.in-Ok.ensures.taken;
-  work = c.in-Ok.asked.work;
-  first = c.in-Ok.asked.first.items;
-  until = c.in-Ok.asked.until;
+  work = c.in-Ok.read.0.work;
+  first = c.in-Ok.read.0.first.items;
+  until = c.in-Ok.read.0.until;
   asked = c.in-Ok.ensures.work;
   file = Some c.in-Some.path.now;
   named = rw c.in-Some.is at c.in-Ok.ensures.file;
