@@ -1,11 +1,17 @@
--- What a host learns of a work, and what stands in its room then.
-use Rattle.std.specs.Prelude.{◌≡◌, ◌≤◌, ◌<◌, ℕ, Bool, List, [], ◌++◌, length, drop, MatchOption, Option, None, Some, Result, Ok, Err, ◌⊎◌}
+-- What a host learns of a call, and what stands in its room then.
+use Rattle.std.specs.Prelude.{◌≡◌, ◌≢◌, ◌≤◌, ◌<◌, ℕ, ◌==◌, List, [], ◌++◌, length, drop, Option, None, Some, Result, Ok, Err, ◌⊎◌}
+use Rattle.std.specs.List.{slice_split}
+use Rattle.std.specs.Str.{IsUtf8}
+use Rattle.pp_command.specs.CallWords.{CallFor, IsCallRefused}
+use Rattle.pp_command.specs.declared.{call_fault.CallFault.CallFault, work.Work.Work}
+use Rattle.pp_condition.specs.declared.until.Until.{Until}
 use Rattle.pp_sim.specs.Program.{IsDone}
 use Rattle.pp_sim.specs.declared.text_fault.TextFault.{TextFault}
-use Rattle.pp_command.specs.declared.{text_of.TextOf.TextOf, work.Work.Work}
-use Rattle.pp_numbers.specs.declared.profile.Profile.{Profile}
-use Rattle.ppsim_library.specs.Numbers.{AreChannels, order_of}
 use Rattle.ppsim_library.specs.declared.answer.Answer.{Answer}
+
+-- the words of a text: there is a byte 0 between two of them
+unfoldable pub words_of : List ℕ → List (List ℕ)
+words_of text = slice_split (λ byte. byte == 0) text
 
 -- every work but that with one thread per processor
 abbrev pub NeedsNoThreads : Work → Type 0
@@ -14,7 +20,8 @@ NeedsNoThreads (Work.Lint profile) = Unit {0}
 NeedsNoThreads (Work.Threads profile limits) = ⊥
 NeedsNoThreads (Work.Check opened) = Unit {0}
 
--- the status of a fault
+-- the status of a fault: the program's own, but that bytes are read without a fault, and are written
+-- without one but for want of memory
 abbrev pub status_of : TextFault → ℕ
 status_of (TextFault.Deck f) = 1
 status_of (TextFault.NotBetweenPrograms going_on) = 1
@@ -24,65 +31,70 @@ status_of TextFault.Memory = 4
 status_of TextFault.Read = 4
 status_of TextFault.Write = 4
 
--- the line that it names
-abbrev pub line_of : TextFault → ℕ
-line_of (TextFault.Deck f) = f.line
-line_of (TextFault.Trace f) = f.line
-line_of (TextFault.NotBetweenPrograms going_on) = 0
-line_of TextFault.Findings = 0
-line_of TextFault.Memory = 0
-line_of TextFault.Read = 0
-line_of TextFault.Write = 0
-
--- a text stands at the front of the room, or the room is too small for it; what is not written is
--- as it was
-pub record IsWritten (text : List ℕ) (a : Answer) (old new : List ℕ) : Type 0 where
-  pub counted : a.length ≡ length text
-  pub lineless : a.line ≡ 0
-  pub fits : length text ≤ length old → (a.status ≡ 0) × (new ≡ text ++ drop (length text) old)
+-- a text stands at the front of the room, and the status is this one; or the room is too small for
+-- it. What is not written is as it was.
+pub record IsWritten (status : ℕ) (text : List ℕ) (a : Answer) (old new : List ℕ) : Type 0 where
+  pub counted : a.output ≡ length text
+  pub silent : a.error ≡ 0
+  pub fits : length text ≤ length old
+      → (a.status ≡ status) × (new ≡ text ++ drop (length text) old)
   pub exceeds : length old < length text → (a.status ≡ 5) × (new ≡ old)
 
--- the status and the line of a fault; some words stand at the front of the room (which ones is not
--- said), and what is not written is as it was
-pub record IsRefused (f : TextFault) (a : Answer) (old new : List ℕ) : Type 0 where
-  pub status : a.status ≡ status_of f
-  pub line : a.line ≡ line_of f
-  pub within : a.length ≤ length old
-  pub rest : drop a.length new ≡ drop a.length old
+-- the status is this one, and there is no text; some words stand at the front of the room (which
+-- ones is not said), and what is not written is as it was
+pub record IsFailed (status : ℕ) (a : Answer) (old new : List ℕ) : Type 0 where
+  pub status_is : a.status ≡ status
+  pub nothing : a.output ≡ 0
+  pub within : a.error ≤ length old
+  pub rest : drop a.error new ≡ drop a.error old
 
 -- how the outcome of a work that wrote this text shows in the answer and in the room: what is found
 -- is a text as any other
 abbrev pub Shows : Result (Unit {0}) TextFault → List ℕ → Answer → (old new : List ℕ) → Type 0
-Shows (Ok done) text a old new = IsWritten text a old new
-Shows (Err TextFault.Findings) text a old new = IsWritten text a old new
-Shows (Err f) text a old new = IsRefused f a old new
+Shows (Ok done) text a old new = IsWritten 0 text a old new
+Shows (Err TextFault.Findings) text a old new = IsWritten 1 text a old new
+Shows (Err f) text a old new = IsFailed (status_of f) a old new
 
--- THE PROMISE: the work was done over these bytes, as the program does it over its input, onto an
--- empty output, and if it has a run, these processors came first in it; its outcome and its text
--- show in the answer and in the room
-pub record Tells (first : List ℕ) (work : Work) (input : List ℕ) (a : Answer) (old new : List ℕ) :
-    Type 0 where
+-- the work was done over these bytes, as the program does it over its input, onto an empty output;
+-- its outcome and its text show in the answer and in the room
+pub record Tells (work : Work) (first : List ℕ) (until : Option Until) (input : List ℕ) (a : Answer)
+    (old new : List ℕ) : Type 0 where
+  pub without_threads : NeedsNoThreads work
   pub outcome : Result (Unit {0}) TextFault
   pub text : List ℕ
   pub after : Option (List ℕ)
-  pub done : IsDone (Unit {0}) work first None outcome (Some input) after (Some []) (Some text)
+  pub done : IsDone (Unit {0}) work first until outcome (Some input) after (Some []) (Some text)
   pub shown : Shows outcome text a old new
 
--- a number is out of its range, and the room is as it was
-abbrev pub RefusesNumber : Answer → (old new : List ℕ) → Type 0
-RefusesNumber a old new = (a.status ≡ 2) × (a.line ≡ 0) × (a.length ≡ 0) × (new ≡ old)
+-- a work is done, or refused since it needs threads
+abbrev pub IsAnswered : Work → List ℕ → Option Until → List ℕ → Answer → (old new : List ℕ) → Type 0
+IsAnswered work first until input a old new = Tells work first until input a old new
+    ⊎ (¬ NeedsNoThreads work × IsFailed 2 a old new)
 
--- THE PROMISE of a call on a deck that is run: it makes this text, in whose run the processors of
--- a list come first, or refuses what is no list of steps; or memory for the list was refused
-abbrev pub TellsInOrder : Profile → List ℕ → TextOf → List ℕ → Answer → (old new : List ℕ) → Type 0
-TellsInOrder profile order text deck a old new =
-    MatchOption (order_of profile order) (RefusesNumber a old new)
-    (λ first. Tells first (Work.Deck profile text) deck a old new)
-    ⊎ IsRefused TextFault.Memory a old new
+-- the words ask for this work, which is answered
+pub record HasAnswered (words : List (List ℕ)) (input : List ℕ) (a : Answer) (old new : List ℕ) :
+    Type 0 where
+  pub work : Work
+  pub first : List ℕ
+  pub until : Option Until
+  pub asked : CallFor words work first until None
+  pub answered : IsAnswered work first until input a old new
 
--- THE PROMISE of a call on a trace: the answer gives the outcome of its check, begun with the
--- channels of a list open, or refuses what is no list of channels
-abbrev pub TellsOfTrace : List ℕ → List ℕ → Answer → (old new : List ℕ) → Type 0
-TellsOfTrace listed trace a old new =
-    ((flags : List Bool) × AreChannels listed flags × Tells [] (Work.Check flags) trace a old new)
-    ⊎ (RefusesNumber a old new × ((flags : List Bool) → AreChannels listed flags → ⊥))
+-- they ask for a work over a file
+pub record NamesFile (words : List (List ℕ)) : Type 0 where
+  pub work : Work
+  pub first : List ℕ
+  pub until : Option Until
+  pub file : List ℕ
+  pub asked : CallFor words work first until (Some file)
+
+-- why words are refused: they are no call, or one for nothing within the ranges; or name a file
+abbrev pub CantBeTaken : List (List ℕ) → Type 0
+CantBeTaken words = (fault : CallFault) × IsCallRefused words fault × (fault ≢ CallFault.Memory)
+
+-- THE PROMISE of a call: what its words ask for is answered; or they are not text, no words of a
+-- call, or name a file, and are refused; or memory for them was refused
+abbrev pub Answers : List ℕ → List ℕ → Answer → (old new : List ℕ) → Type 0
+Answers text input a old new = HasAnswered (words_of text) input a old new
+    ⊎ (((¬ IsUtf8 text ⊎ (CantBeTaken (words_of text) ⊎ NamesFile (words_of text)))
+    × IsFailed 2 a old new) ⊎ IsFailed 4 a old new)

@@ -1,8 +1,9 @@
 //! What a host learns of a call.
 
 ghost use Rattle.std.specs.Prelude.{◌≡◌, ◌≤◌, drop, length};
-ghost use Rattle.ppsim_library.specs.Answered.{Shows, IsWritten, line_of, status_of};
+ghost use Rattle.ppsim_library.specs.Answered.{IsFailed, IsWritten, Shows, status_of};
 
+use std::fmt::Display;
 use pp_sim::TextFault;
 use std::alloc::Allocator;
 
@@ -10,78 +11,88 @@ use std::alloc::Allocator;
 #[repr(C)]
 #[derive(Clone, Copy)]
 pub struct Answer {
-    /// 0: the text is written. 1: the deck or the trace is refused, or the deck can't be dumped as
-    /// it stands. 2: a number is out of its range, or a list is no list of channels or of steps. 4:
-    /// memory was refused. 5: the text is longer than the room for it, and nothing is written.
+    /// The program's exit status: 0, the work is done; 1, the deck or the trace is refused, the
+    /// deck can't be dumped as it stands, or something is found in it; 2, the words are refused; 4,
+    /// memory was refused. Or 5: the text for standard output is longer than the room, and nothing
+    /// is written.
     pub status: u32,
-    /// The line at which a deck or a trace is refused, from 1 on (decimal); 0 if no line is.
-    pub line: u64,
-    /// The length of the text in bytes (decimal); at status 1 and 4 that of the words for the fault
-    /// that stand in its place, as far as there is room; at status 2, 0.
-    pub length: u64,
+    /// The length of the text for standard output in bytes (decimal). It stands at the front of the
+    /// room, but at status 5.
+    pub output: u64,
+    /// The length of the text for standard error in bytes (decimal), as far as there is room: what
+    /// went wrong, in words. It stands at the front of the room, as nothing goes to standard output
+    /// then.
+    pub error: u64,
 }
 
-const WRITTEN: u32 = 0;
+const DONE: u32 = 0;
 
 const BAD_INPUT: u32 = 1;
 
-const NUMBER_REFUSED: u32 = 2;
+const BAD_USAGE: u32 = 2;
 
 const NO_MEMORY: u32 = 4;
 
 const TOO_LONG: u32 = 5;
-
-/// The answer to a number out of its range.
-pub fn refused_number() -> Answer
-    ensures { (result.status ≡ 2) × (result.line ≡ 0) × (result.length ≡ 0) }
-{
-    Answer {
-        status: NUMBER_REFUSED,
-        line: 0,
-        length: 0,
-    }
-}
 
 /// The answer to a call whose work had this outcome and wrote this text.
 pub(crate) fn answer_of<A: Allocator>(
     alloc: A,
     outcome: Result<(), TextFault>,
     text: &[u8],
-    out: &mut [u8],
+    room: &mut [u8],
 ) -> Answer
-    ensures { Shows outcome text.now result out.old out.new }
+    ensures { Shows outcome text.now result room.old room.new }
 {
-    let fault = match outcome {
-        Ok(()) | Err(TextFault::Findings) => return written(text, out),
-        Err(fault) => fault,
-    };
-    let length = show_fault(alloc, &fault, out);
+    match outcome {
+        Ok(()) => written(DONE, text, room),
+        Err(TextFault::Findings) => written(BAD_INPUT, text, room),
+        Err(fault) => failed(alloc, status_of(&fault), &fault, room),
+    }
+}
+
+/// The answer to words that are refused.
+pub(crate) fn refused<A: Allocator, D: Display>(alloc: A, why: &D, room: &mut [u8]) -> Answer
+    ensures { IsFailed 2 result room.old room.new }
+{
+    failed(alloc, BAD_USAGE, why, room)
+}
+
+/// The answer if memory for the words was refused.
+pub(crate) fn without_memory<A: Allocator>(alloc: A, room: &mut [u8]) -> Answer
+    ensures { IsFailed 4 result room.old room.new }
+{
+    failed(alloc, NO_MEMORY, &TextFault::Memory, room)
+}
+
+/// Puts a text into the room, if it fits.
+fn written(status: u32, text: &[u8], room: &mut [u8]) -> Answer
+    ensures { IsWritten status text.now result room.old room.new }
+{
+    let output = text.len() as u64;
+    if room.len() < text.len() {
+        return Answer {
+            status: TOO_LONG,
+            output,
+            error: 0,
+        };
+    }
+    room[..text.len()].copy_from_slice(text);
     Answer {
-        status: status_of(&fault),
-        line: line_of(&fault),
-        length,
+        status,
+        output,
+        error: 0,
     }
 }
 
-/// Puts a text into the room for it, if it fits.
-fn written(text: &[u8], out: &mut [u8]) -> Answer
-    ensures { IsWritten text.now result out.old out.new }
-{
-    let length = text.len() as u64;
-    if out.len() < text.len() {
-        return answer_without_fault(TOO_LONG, length);
-    }
-    out[..text.len()].copy_from_slice(text);
-    answer_without_fault(WRITTEN, length)
-}
-
-fn answer_without_fault(status: u32, length: u64) -> Answer
-    ensures { (result.status ≡ status) × (result.line ≡ 0) × (result.length ≡ length) }
+/// Says in the room why a call failed, as the program does on standard error.
+fn failed<A: Allocator, D: Display>(alloc: A, status: u32, why: &D, room: &mut [u8]) -> Answer
+    ensures { IsFailed status result room.old room.new }
 {
     Answer {
         status,
-        line: 0,
-        length,
+        output: 0,
+        error: show(alloc, why, room),
     }
 }
 
@@ -98,26 +109,16 @@ fn status_of(fault: &TextFault) -> u32
     }
 }
 
-fn line_of(fault: &TextFault) -> u64
-    ensures { result ≡ line_of fault.now }
+/// Puts a line that says why into the room, as far as it fits; returns how many bytes.
+fn show<A: Allocator, D: Display>(alloc: A, why: &D, room: &mut [u8]) -> u64
+    ensures within { result ≤ length room.old }
+    ensures rest { drop result room.new ≡ drop result room.old }
 {
-    match fault {
-        TextFault::Deck(fault) => u64::from(fault.line),
-        TextFault::Trace(fault) => fault.line,
-        _ => 0,
-    }
-}
-
-/// Puts the words for a fault into the room, as far as they fit; returns how many bytes.
-fn show_fault<A: Allocator>(alloc: A, fault: &TextFault, out: &mut [u8]) -> u64
-    ensures within { result ≤ length out.old }
-    ensures rest { drop result out.new ≡ drop result out.old }
-{
-    let Ok(words) = format!(in alloc; "{fault}") else {
+    let Ok(words) = format!(in alloc; "ppsim: {why}\n") else {
         return 0;
     };
     let bytes = words.as_bytes();
-    let count = bytes.len().min(out.len());
-    out[..count].copy_from_slice(&bytes[..count]);
+    let count = bytes.len().min(room.len());
+    room[..count].copy_from_slice(&bytes[..count]);
     count as u64
 }

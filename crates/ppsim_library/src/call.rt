@@ -1,69 +1,89 @@
-//! A work over bytes in memory.
+//! Calls: their words, and their work over bytes in memory.
 
-ghost use Rattle.ppsim_library.specs.Answered.{NeedsNoThreads, Tells, TellsInOrder};
+ghost use Rattle.std.specs.Prelude.{◌≡◌, IfOk, Some, map};
 ghost use Rattle.pp_sim.specs.Program.{IsDone};
-ghost use Rattle.std.specs.Prelude.{[], None, Some};
+ghost use Rattle.ppsim_library.specs.Answered.{Answers, IsAnswered, NeedsNoThreads, words_of};
 
-use crate::answer::{Answer, answer_of, refused_number};
-use crate::numbers::order_of;
-use pp_numbers::{PpNo, Profile};
-use pp_sim::{TextFault, TextOf, Work, check_text, deck_text, lint_text};
-use std::alloc::Allocator;
+use crate::answer::{Answer, answer_of, refused, without_memory};
+use crate::refusal::Refusal;
+use std::str;
+use pp_command::{Asked, CallFault, read_call};
+use pp_sim::{TextFault, Work, check_text, deck_text, lint_text};
+use std::alloc::{AllocError, Allocator};
 
-/// Does this work over a deck, or a trace, and puts the text into the room for it. In a run these
-/// processors come first.
-pub fn tell<A: Allocator + Copy>(
+/// Answers a call: does what its words ask for, or says why they are refused.
+pub(crate) fn answer_call<A: Allocator + Copy>(
     alloc: A,
-    work: Work,
-    first: &[PpNo],
+    words: &[u8],
     input: &[u8],
-    out: &mut [u8],
+    room: &mut [u8],
 ) -> Answer
-    requires { NeedsNoThreads work }
-    ensures { Tells first.now work input.now result out.old out.new }
+    ensures { Answers words.now input.now result room.old room.new }
 {
-    let mut reader = input;
-    let mut text = Vec::new(alloc);
-    let outcome = do_work(alloc, work, first, &mut reader, &mut text);
-    answer_of(alloc, outcome, text.as_slice(), out)
+    let Ok(text) = str::from_utf8(words) else {
+        return refused(alloc, &Refusal::NotText, room);
+    };
+    let Ok(listed) = words_of(alloc, text) else {
+        return without_memory(alloc, room);
+    };
+    match read_call(alloc, listed.as_slice()) {
+        Ok((_, Some(_))) => refused(alloc, &Refusal::File, room),
+        Ok((asked, None)) => answer_work(alloc, &asked, input, room),
+        Err(CallFault::Memory) => without_memory(alloc, room),
+        Err(fault) => refused(alloc, &fault, room),
+    }
 }
 
-/// Puts this text of a deck into the room for it. In its run the processors of a list come first.
-pub fn tell_in_order<A: Allocator + Copy>(
-    alloc: A,
-    profile: Profile,
-    order: &[u8],
-    text: TextOf,
-    deck: &[u8],
-    out: &mut [u8],
-) -> Answer
-    ensures { TellsInOrder profile order.now text deck.now result out.old out.new }
+/// The words of a text, between bytes 0.
+fn words_of<A: Allocator>(alloc: A, text: &str) -> Result<Vec<&str, A>, AllocError>
+    ensures { IfOk result (λ words. map (λ word. word.now) words.items ≡ words_of text.now) }
 {
-    let work = Work::Deck { profile, text };
-    match order_of(alloc, profile, order) {
-        Ok(Some(first)) => tell(alloc, work, first.as_slice(), deck, out),
-        Ok(None) => refused_number(),
-        Err(_) => answer_of(alloc, Err(TextFault::Memory), &[], out),
+    let mut words = Vec::new(alloc);
+    let mut rest = text;
+    while let Some((word, others)) = rest.split_once('\0') {
+        words.push(word)?;
+        rest = others;
     }
+    words.push(rest)?;
+    Ok(words)
+}
+
+/// Does what is asked for over the input, if it needs no threads.
+fn answer_work<A: Allocator + Copy>(
+    alloc: A,
+    asked: &Asked<A>,
+    input: &[u8],
+    room: &mut [u8],
+) -> Answer
+    ensures { IsAnswered asked.now.work asked.now.first.items asked.now.until input.now
+        result room.old room.new }
+{
+    if let Work::Threads { .. } = asked.work {
+        return refused(alloc, &Refusal::Threads, room);
+    }
+    let mut reader = input;
+    let mut text = Vec::new(alloc);
+    let outcome = do_work(alloc, asked, &mut reader, &mut text);
+    answer_of(alloc, outcome, text.as_slice(), room)
 }
 
 fn do_work<A: Allocator + Copy>(
     alloc: A,
-    work: Work,
-    first: &[PpNo],
+    asked: &Asked<A>,
     input: &mut &[u8],
     output: &mut Vec<u8, A>,
 ) -> Result<(), TextFault>
-    requires { NeedsNoThreads work }
-    ensures { IsDone (Unit {0}) work first.now None result (Some input.old.now) (Some input.new.now)
-        (Some output.old.items) (Some output.new.items) }
+    requires { NeedsNoThreads asked.now.work }
+    ensures { IsDone (Unit {0}) asked.now.work asked.now.first.items asked.now.until result
+        (Some input.old.now) (Some input.new.now) (Some output.old.items) (Some output.new.items) }
 {
-    match work {
+    match &asked.work {
         Work::Deck { profile, text } => {
-            deck_text(alloc, profile, first, &None, input, output, &text)
+            let first = asked.first.as_slice();
+            deck_text(alloc, *profile, first, &asked.until, input, output, text)
         }
-        Work::Lint { profile } => lint_text(alloc, profile, input, output),
+        Work::Lint { profile } => lint_text(alloc, *profile, input, output),
         Work::Threads { .. } => unreachable!(),
-        Work::Check { opened } => check_text(alloc, &opened, input, output),
+        Work::Check { opened } => check_text(alloc, opened, input, output),
     }
 }

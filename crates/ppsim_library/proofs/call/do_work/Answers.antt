@@ -1,7 +1,7 @@
-use Rattle.ppsim_library.proofs.over_bytes.do_work.Goals as goal
+use Rattle.ppsim_library.proofs.call.do_work.Goals as goal
 
 pub returns-in-Deck : goal.returns-in-Deck
-returns-in-Deck g c = rw c.in-Deck.is c.deck_text.ensures
+returns-in-Deck g c = rw c.in-Deck.is (rw c.as_slice-first.ensures.value at c.deck_text.ensures)
 
 pub returns-in-Lint : goal.returns-in-Lint
 returns-in-Lint g c = rw c.in-Lint.is c.lint_text.ensures
