@@ -7,8 +7,8 @@ ghost use Rattle.pp_condition.specs.declared.until.Until.{Until};
 
 use crate::command::command;
 use crate::option_values::{
-    channels_of, fits_a_picture, limits_of, number_of, order_of, profile_of, until_of, value_of,
-    window_of,
+    channels_of, fits_a_picture, limits_of, number_of, order_of, profile_of, turns_of, until_of,
+    value_of, window_of,
 };
 use crate::text_of::text_of;
 use crate::{Asked, LineFault, Work};
@@ -42,6 +42,10 @@ fn work_of(name: &str, matches: &ArgMatches<'_>) -> Option<Work>
         }
         "lint" => Some(Work::Lint {
             profile: profile_of(matches)?,
+        }),
+        "test" => Some(Work::Test {
+            profile: profile_of(matches)?,
+            turns: turns_of(matches)?,
         }),
         "check" => {
             let opened = channels_of(matches, "opened")?.unwrap_or([false; CHANNELS]);
