@@ -99,7 +99,8 @@ A deck with a fault is refused, as in 'ppsim: deck fault 4 at line 3':
 
 The exit status is 0 when the work is done or help was asked for, 1 when the deck is refused or
 can't be dumped as it stands, when lint finds something, when test finds no expectation or one that
-fails, or when a trace is not lawful, 2 when the command line is refused, 3 after a read or write fault, and 4 when memory runs out.
+fails, or when a trace is not lawful, 2 when the command line is refused, 3 after a read or write
+fault, and 4 when memory runs out.
 
 The pages TUTORIAL.md, VIEWS.md, docs/MACHINE.md (the instructions), docs/DECK.md and
 docs/OUTPUT.md of the repository say more.
