@@ -19,7 +19,7 @@ use std::sync::Wait;
 use std::thread::Threads;
 
 /// The pages whose commands are run. Links at the top of the repository lead to the first four.
-const PAGES: [&str; 27] = [
+const PAGES: [&str; 28] = [
     "README.md",
     "TUTORIAL.md",
     "VIEWS.md",
@@ -38,6 +38,7 @@ const PAGES: [&str; 27] = [
     "cases/draw.md",
     "cases/order.md",
     "cases/until.md",
+    "cases/test.md",
     "cases/races.md",
     "cases/races_by_chance.md",
     "cases/orders.md",

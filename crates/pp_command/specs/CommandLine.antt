@@ -94,6 +94,7 @@ commands = steps (codes "barrel") []
     ∷ steps (codes "central") (optional_value (codes "first") ∷ optional_value (codes "last") ∷ [])
     ∷ steps (codes "sessions") (flag_option (codes "words") ∷ []) ∷ steps (codes "races") []
     ∷ (codes "orders", number_option (codes "states") ∷ processors_option ∷ [])
+    ∷ steps (codes "test") []
     ∷ steps (codes "draw") (optional_value (codes "from") ∷ optional_value (codes "to") ∷ [])
     ∷ (codes "check", optional_value (codes "opened") ∷ []) ∷ []
 
@@ -249,6 +250,8 @@ IsWorkOf name value_of (Work.Deck profile text) =
     ReadsProfile (value_of (codes "processors")) profile × AsksForText name value_of profile text
 IsWorkOf name value_of (Work.Lint profile) =
     (name ≡ codes "lint") × ReadsProfile (value_of (codes "processors")) profile
+IsWorkOf name value_of (Work.Test profile turns) = (name ≡ codes "test")
+    × ReadsProfile (value_of (codes "processors")) profile × ReadsTurns value_of turns
 IsWorkOf name value_of (Work.Threads profile limits) =
     (name ≡ codes "threads") × ReadsProfile (value_of (codes "processors")) profile
     × ReadsNumber (value_of (codes "steps")) limits.steps

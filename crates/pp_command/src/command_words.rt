@@ -7,7 +7,8 @@ ghost use Rattle.pp_condition.specs.declared.until.Until.{Until};
 
 use crate::command::command;
 use crate::option_values::{
-    channels_of, fits_a_picture, limits_of, number_of, order_of, profile_of, until_of,     window_of,
+    channels_of, fits_a_picture, limits_of, number_of, order_of, profile_of, turns_of, until_of,
+    window_of,
 };
 use crate::text_of::text_of;
 use crate::{Asked, LineFault, Values, Work};
@@ -41,6 +42,10 @@ fn work_of<V: Values>(name: &str, values: &V) -> Option<Work>
         }
         "lint" => Some(Work::Lint {
             profile: profile_of(values)?,
+        }),
+        "test" => Some(Work::Test {
+            profile: profile_of(values)?,
+            turns: turns_of(values)?,
         }),
         "check" => {
             let opened = channels_of(values, "opened")?.unwrap_or([false; CHANNELS]);

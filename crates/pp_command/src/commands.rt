@@ -98,8 +98,9 @@ A deck with a fault is refused, as in 'ppsim: deck fault 4 at line 3':
   9  out of memory, printed as 'ppsim: out of memory'
 
 The exit status is 0 when the work is done or help was asked for, 1 when the deck is refused or
-can't be dumped as it stands, when lint finds something, or when a trace is not lawful, 2 when the
-command line is refused, 3 after a read or write fault, and 4 when memory runs out.
+can't be dumped as it stands, when lint finds something, when test finds no expectation or one that
+fails, or when a trace is not lawful, 2 when the command line is refused, 3 after a read or write
+fault, and 4 when memory runs out.
 
 The pages TUTORIAL.md, VIEWS.md, docs/MACHINE.md (the instructions), docs/DECK.md and
 docs/OUTPUT.md of the repository say more.
@@ -113,7 +114,7 @@ pub(crate) const EXAMPLE: &str = handoff_example!("barrel --turns 40");
 pub(crate) const FILE_HELP: &str = "The file to read; standard input if not given, or -";
 
 /// The commands, in the order in which help lists them.
-pub(crate) const COMMANDS: [CommandHelp; 15] = [
+pub(crate) const COMMANDS: [CommandHelp; 16] = [
     command! {
         name: "barrel",
         about: "Runs a deck in the barrel, one step a turn, and prints what happened",
@@ -397,6 +398,29 @@ of each channel. If more than N would have to be, the first line ends with OR MO
 may be missing.",
         example: handoff_example!("orders --states 1000"),
         options: &[option!(required: true, "states", Number(STATES)), PROCESSORS_OPTION],
+    },
+    command! {
+        name: "test",
+        about: "Runs a deck in the barrel, and says whether it came to what the deck expects",
+        long_about: "\
+Runs a deck in the barrel, and says whether the run came to what the deck expects, in comments that
+begin with *= or *!.
+
+Reads the deck from FILE or standard input. What stands after *= has to begin some line of the run,
+word by word; what stands after *! must begin none. The lines of a run are those of processors and
+channels that state prints; the places of the processors shown, as 'PP 0 0050 0010'; the central
+words, as 'CM 20 00010002000300040005'; the events without their turns, as 'PP00 CH05 PUT 0007'; the
+word or two for how the run ends, as AT REST; and those that sessions --words prints.
+
+Prints to standard output, for each expectation that fails, its line (decimal) and its text, and
+under it the line that has the most words in front in common; then HELD and how many there are, or
+FAILED and how many of how many, or 'no expectations'. The exit status is 0 after HELD, else 1. What
+else goes wrong is one line on standard error.",
+        example: example!("test --turns 40", "four.deck", "  PP 0
+  0100 1405 1603 3450 0300
+  START 0100
+  *= PP 0 0050 0010"),
+        options: RUN_OPTIONS,
     },
     command! {
         name: "draw",

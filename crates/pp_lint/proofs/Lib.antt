@@ -1,5 +1,6 @@
 mod ColumnLemmas
 mod FaultLemmas
 mod FaultOfLineLemmas
-mod FindingLemmas
 mod LoadLemmas
+-- facts of the definitions, which proofs of other crates cite
+pub mod FindingLemmas

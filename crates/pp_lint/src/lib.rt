@@ -9,5 +9,7 @@ mod line_findings;
 mod lint_text;
 mod text_lines;
 
+pub use fault_words::print_bytes;
 pub use law::lint_law;
 pub use lint_text::write_lint;
+pub use text_lines::TextLines;

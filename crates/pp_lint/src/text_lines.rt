@@ -4,7 +4,7 @@ use std::marker::Model;
 
 /// The lines of a text that are left, from the first to the last. Contracts see the list of them.
 #[derive(Drop)]
-pub(crate) struct TextLines<'a> {
+pub struct TextLines<'a> {
     /// What is left of the text; nothing after the last line.
     text: Option<&'a [u8]>,
 }
@@ -26,14 +26,14 @@ impl<'a> TextLines<'a> {
     ghost use Rattle.pp_deck.specs.DeckText.{is_line_feed};
 
     /// The lines of a text.
-    pub(crate) fn of(text: &'a [u8]) -> TextLines<'a>
+    pub fn of(text: &'a [u8]) -> TextLines<'a>
         ensures { result ≡ slice_split is_line_feed text.now }
     {
         TextLines { text: Some(text) }
     }
 
     /// The next line, if there is one.
-    pub(crate) fn next_line(&mut self) -> Option<&'a [u8]>
+    pub fn next_line(&mut self) -> Option<&'a [u8]>
         ensures taken { IfSome result (λ line. self.old ≡ line.now ∷ self.new) }
         ensures none { IfNone result (self.old ≡ []) }
     {

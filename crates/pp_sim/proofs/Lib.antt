@@ -1,2 +1,3 @@
 mod AnswerLemmas
 mod ByteLemmas
+mod TestAnswerLemmas

@@ -3,4 +3,5 @@ pub mod ThreadsText
 pub mod CheckText
 pub mod LintAnswer
 pub mod TextOf
+pub mod TestAnswer
 pub mod Program

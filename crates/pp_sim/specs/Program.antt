@@ -7,6 +7,7 @@ use Rattle.clap.specs.declared.error.kind.ErrorKind.TheVariants.{DisplayHelp, Di
 use Rattle.pp_sim.specs.CheckText.{AnswersTrace}
 use Rattle.pp_command.specs.CommandLine.{AskFor, IsRefused, Name, refusals}
 use Rattle.pp_sim.specs.LintAnswer.{AnswersLint}
+use Rattle.pp_sim.specs.TestAnswer.{AnswersTest}
 use Rattle.pp_sim.specs.TextAnswer.{AnswersDeck, AnswersDeckUnless}
 use Rattle.pp_condition.specs.declared.until.Until.{Until}
 use Rattle.pp_sim.specs.TextOf.{IsTextUntil, obstacle_until}
@@ -16,13 +17,14 @@ use Rattle.pp_command.specs.declared.{line_fault.LineFault.LineFault, work.Work.
 use Rattle.pp_sim.specs.declared.text_fault.TextFault.{TextFault}
 
 -- The answer of a work: a text of the deck that was read, in whose run these processors come first,
--- and which goes on until then, or what stands in its way; what is found in the deck; or the check
--- of the trace that was read. Z is the allocator's type, of which a report is made.
+-- and which goes on until then, or what stands in its way; what is found in the deck; the verdict on
+-- such a run; or the check of the trace that was read. Z is the allocator's type, of which a report is made.
 abbrev pub IsDone : Type 0 → Work → List ℕ → Option Until → Result (Unit {0}) TextFault
     → Option (List ℕ) → Option (List ℕ) → Option (List ℕ) → Option (List ℕ) → Type 0
 IsDone Z (Work.Deck profile text) first until =
     AnswersDeckUnless profile (obstacle_until first until text) (IsTextUntil first until text)
 IsDone Z (Work.Lint profile) first until = AnswersLint profile
+IsDone Z (Work.Test profile turns) first until = AnswersTest profile first until turns
 IsDone Z (Work.Threads profile limits) first until = AnswersDeck profile (IsThreadsText Z limits)
 IsDone Z (Work.Check opened) first until = AnswersTrace opened
 

@@ -16,4 +16,5 @@ pub use text_fault::TextFault;
 pub use texts::check_text::check_text;
 pub use texts::deck_text::{barrel_text, deck_text};
 pub use texts::lint_text::lint_text;
+pub use texts::test_text::test_text;
 pub use texts::threads_text::threads_text;

@@ -5,7 +5,7 @@ ghost use Rattle.pp_runner.specs.Report.{ReportFitsInMemory};
 ghost use Rattle.pp_sim.specs.Program.{IsDone, IsDoneOnFile, IsPrinted, IsRun, IsReported, status_of};
 
 use crate::text_fault::answer_to;
-use crate::{TextFault, check_text, deck_text, lint_text, threads_text};
+use crate::{TextFault, check_text, deck_text, lint_text, test_text, threads_text};
 use pp_command::{Asked, LineFault, Work, read_words};
 use pp_text::write_whole;
 use std::alloc::{Allocator, Global};
@@ -16,8 +16,8 @@ use std::thread::Threads;
 
 /// It is done, or help was asked for.
 const DONE: u8 = 0;
-/// The deck was refused, or can't be dumped as it stands, or something is found in it; or a trace
-/// is not lawful.
+/// The deck was refused, or can't be dumped as it stands, or something is found in it, or its run is
+/// not as it expects; or a trace is not lawful.
 const BAD_INPUT: u8 = 1;
 /// The command line was refused.
 pub(crate) const BAD_USAGE: u8 = 2;
@@ -99,6 +99,10 @@ fn do_work<T: Threads + Wait + Sync, I: Read, A: Allocator + Copy + Send + Sync,
             deck_text(alloc, *profile, first, &asked.until, input, output, text)
         }
         Work::Lint { profile } => lint_text(alloc, *profile, input, output),
+        Work::Test { profile, turns } => {
+            let first = asked.first.as_slice();
+            test_text(alloc, *profile, first, &asked.until, input, output, *turns)
+        }
         Work::Threads { profile, limits } => {
             threads_text(rt, alloc, *profile, input, output, *limits)
         }

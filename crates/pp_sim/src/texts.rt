@@ -3,6 +3,7 @@
 pub(crate) mod check_text;
 pub(crate) mod deck_text;
 pub(crate) mod lint_text;
+pub(crate) mod test_text;
 pub(crate) mod threads_text;
 
 ghost use Rattle.std.specs.Prelude.{◌≡◌, Ok};

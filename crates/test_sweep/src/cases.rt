@@ -7,7 +7,7 @@ use test_bench::{HANDOFF, LOST_AND_WAITING};
 pub(crate) type Case = (&'static [&'static str], &'static str, u64);
 
 /// Command lines that are done, or whose deck or trace is refused.
-pub(crate) const CASES: [Case; 26] = [
+pub(crate) const CASES: [Case; 28] = [
     (&["ppsim", "barrel", "--turns", "40"], HANDOFF, 5),
     (
         &["ppsim", "barrel", "--turns", "80", "--processors", "20"],
@@ -55,6 +55,14 @@ pub(crate) const CASES: [Case; 26] = [
     (&["ppsim", "draw", "--turns", "30"], LOST_AND_WAITING, 4),
     (&["ppsim", "lint"], HANDOFF, 1),
     (&["ppsim", "lint"], TRACE, 1),
+    (&["ppsim", "test", "--turns", "40"], EXPECTED, 6),
+    (
+        &[
+            "ppsim", "test", "--turns", "40", "--order", "0:3,1", "--until", "LOST",
+        ],
+        EXPECTED,
+        7,
+    ),
     (&["ppsim", "check"], TRACE, 1),
     (&["ppsim", "check", "--opened", "5"], TRACE, 1),
     (&["ppsim", "dump", "--turns", "40"], HANDOFF, 5),
@@ -109,6 +117,15 @@ DEAD
 PP 0
 0100 1405 7301 0200
 START 0100
+";
+
+/// A deck that expects what its run comes to, and what it does not.
+const EXPECTED: &str = "\
+PP 0
+0100 1405 3450 0300
+START 0100
+*= PP 0 0050 0005
+*! AT REST
 ";
 
 /// A trace that is lawful only if its channel was not open before.

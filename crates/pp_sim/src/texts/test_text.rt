@@ -1,0 +1,84 @@
+ghost use Rattle.std.specs.Prelude.{◌≡◌, ◌≤◌, Ok, IfOk, IfErr, length};
+ghost use Rattle.pp_deck.specs.DeckMeaning.{deck_meaning};
+ghost use Rattle.pp_sim.specs.TestAnswer.{AnswersTest, HasTurns, IsTest};
+ghost use Rattle.pp_sim.specs.TextAnswer.{most_bytes};
+ghost use Rattle.pp_sim.specs.declared.text_fault.TextFault.TheVariants.{Memory};
+
+use crate::TextFault;
+use crate::deck_bytes::DeckBytes;
+use crate::streams::read_front;
+use pp_condition::{Until, steps_until};
+use pp_deck::Deck;
+use pp_machine::{PpNo, Profile};
+use pp_run::Order;
+use pp_test::{run_to_lines, write_verdict};
+use std::alloc::Allocator;
+use std::io::{Read, Write};
+
+/// Reads a deck for a machine of this profile, runs it for `turns` turns (decimal), in which these
+/// processors come first, and which go on until then, if that is given; and writes the verdict on
+/// the run by the expectations in the deck: `Findings` if there are none, or one failed.
+pub fn test_text<A: Allocator + Copy, R: Read, W: Write>(
+    alloc: A,
+    profile: Profile,
+    first: &[PpNo],
+    until: &Option<Until>,
+    reader: &mut R,
+    writer: &mut W,
+    turns: u32,
+) -> Result<(), TextFault>
+    ensures { AnswersTest profile first.now until.now turns result
+        (R.remaining reader.old) (R.remaining reader.new)
+        (W.contents writer.old) (W.contents writer.new) }
+{
+    let front = read_front(alloc, reader)?;
+    let bytes = front.as_slice();
+    let deck = DeckBytes { profile, bytes };
+    let mut loaded = deck.load(alloc)?;
+    write_test(alloc, &deck, &mut loaded, writer, first, until, turns)
+}
+
+/// Runs a deck, and writes the verdict on its run.
+fn write_test<A: Allocator + Copy, W: Write>(
+    alloc: A,
+    deck: &DeckBytes,
+    loaded: &mut Deck<A>,
+    writer: &mut W,
+    first: &[PpNo],
+    until: &Option<Until>,
+    turns: u32,
+) -> Result<(), TextFault>
+    requires meant { deck_meaning deck.now.profile deck.now.bytes.now
+        ≡ Ok (record { machine = loaded.old.machine; named = loaded.old.named }) }
+    requires short { length deck.now.bytes.now ≤ most_bytes }
+    ensures { IsTest deck.now.profile first.now until.now turns result deck.now.bytes.now
+        (W.contents writer.old) (W.contents writer.new) }
+{
+    let turns = turns_of_run(alloc, loaded, first, until, turns)?;
+    let lines = run_to_lines(alloc, deck.profile, deck.bytes, loaded, first, turns)?;
+    match write_verdict(writer, deck.bytes, lines.as_slice()) {
+        Ok(true) => Ok(()),
+        Ok(false) => Err(TextFault::Findings),
+        Err(_) => Err(TextFault::Write),
+    }
+}
+
+/// How many turns a run has, which goes on until then.
+fn turns_of_run<A: Allocator + Copy>(
+    alloc: A,
+    loaded: &Deck<A>,
+    first: &[PpNo],
+    until: &Option<Until>,
+    turns: u32,
+) -> Result<u32, TextFault>
+    ensures ok { IfOk result (HasTurns first.now until.now turns
+        (record { machine = loaded.now.machine; named = loaded.now.named })) }
+    ensures fault { IfErr result (λ fault. fault ≡ Memory) }
+{
+    let Some(until) = until else {
+        return Ok(turns);
+    };
+    let order = Order::of_run(alloc, first, loaded.machine.profile(), turns)?;
+    let end = steps_until(alloc, &loaded.machine, &order, until)?;
+    Ok(end)
+}

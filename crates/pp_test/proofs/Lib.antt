@@ -1,0 +1,2 @@
+mod NearestLemmas
+mod VerdictLemmas

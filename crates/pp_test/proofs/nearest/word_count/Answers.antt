@@ -1,0 +1,8 @@
+use Rattle.std.proofs.Common.{ap, arith, length}
+use Rattle.pp_lint.proofs.FindingLemmas.{few_fields}
+use Rattle.pp_test.proofs.nearest.word_count.Goals as goal
+
+pub overflow_add-count : goal.overflow_add-count
+overflow_add-count c =
+    let more = ap length c.in-Some.ensures.taken in
+    omega (arith, c.loop-count.invariant, more, few_fields c.args.words.now, c.requires)
