@@ -53,7 +53,7 @@ fn print_at<W: Write>(text: &mut TextWriter<W>, words: &[u8], field: &[u8])
 }
 
 /// Prints some bytes, however many.
-fn print_bytes<W: Write>(text: &mut TextWriter<W>, bytes: &[u8])
+pub(crate) fn print_bytes<W: Write>(text: &mut TextWriter<W>, bytes: &[u8])
     ensures { Prints W.contents text.old text.new bytes.now }
 {
     let mut rest = bytes;
