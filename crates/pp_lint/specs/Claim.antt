@@ -1,7 +1,7 @@
 -- What a comment says of the instructions of its line: `* LDN 5, STM 0300,20: the next word` is a
 -- mnemonic and its operand for each, with comma or semicolon between. What comes after a colon, or
--- after a field that is neither, is prose. Characters are ASCII codes in decimal: `*` is 42, a comma
--- 44, a colon 58, a semicolon 59.
+-- after a field that is neither, is prose. Characters are ASCII codes in decimal: `*` is 42, a
+-- comma 44, a colon 58, a semicolon 59.
 use Rattle.std.specs.Prelude.{ℕ, ◌+◌, ◌-◌, ◌==◌, ◌&&◌, ◌||◌, Bool, not, List, [], ◌∷◌, Option, length, take, slice_index, find, if◌then◌else◌}
 use Rattle.std.specs.List.{list_all, list_any, range_with_len}
 use Rattle.std.specs.Str.{bytes_eq}
@@ -10,8 +10,8 @@ use Rattle.pp_word.specs.Opcode.{operations, row_of}
 use Rattle.pp_deck.specs.DeckText.{Field, Fields}
 use Rattle.pp_lint.specs.Column.{begins_field}
 
--- what is said of an instruction: its mnemonic, which is field n of the comment, the first 0; and its
--- operand, empty if none is said
+-- what is said of an instruction: its mnemonic, which is this field of the comment, the first 0; and
+-- its operand, empty if none is said
 pub record Claim : Type 0 where
   pub field : ℕ
   pub mnemonic : List ℕ
@@ -58,5 +58,7 @@ claims n (field ∷ []) =
 claims n (field ∷ next ∷ fields) =
     if not (is_mnemonic (unmarked field)) then []
     else if is_marked field || not (is_operand (unmarked next))
-    then claim n (unmarked field) [] ∷ (if goes_on field then claims (n + 1) (next ∷ fields) else [])
-    else claim n (unmarked field) (unmarked next) ∷ (if goes_on next then claims (n + 2) fields else [])
+    then claim n (unmarked field) []
+    ∷ (if goes_on field then claims (n + 1) (next ∷ fields) else [])
+    else claim n (unmarked field) (unmarked next)
+    ∷ (if goes_on next then claims (n + 2) fields else [])

@@ -28,7 +28,7 @@ abbrev pub is_so_there : Claim → Option Instruction → Bool
 is_so_there claim None = false
 is_so_there claim (Some instruction) = is_so claim instruction
 
--- a claim of line k, by the instruction that it is about; column i is that of field i of the comment
+-- a claim of line k, by the instruction that it is about; column i is that of the comment's field i
 abbrev pub claim_findings : ℕ → (ℕ → ℕ) → Claim → Option Instruction → List Finding
 claim_findings k column claim instruction = if is_so_there claim instruction then [] else record {
   line = k + 1;

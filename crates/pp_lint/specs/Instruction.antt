@@ -18,7 +18,8 @@ instructions place (w ∷ []) = record { place = place; word = w; second = None 
 instructions place (w ∷ m ∷ ws) = if is_long w
     then record { place = place; word = w; second = Some m }
     ∷ instructions (next_place (next_place place)) ws
-    else record { place = place; word = w; second = None } ∷ instructions (next_place place) (m ∷ ws)
+    else record { place = place; word = w; second = None }
+    ∷ instructions (next_place place) (m ∷ ws)
 
 -- the mnemonic of a word
 abbrev pub mnemonic_of : ℕ → List ℕ
