@@ -36,9 +36,9 @@ pub no_column : (line : List ℕ) (n : ℕ) → length (passing (begins_field li
 unfolding column_of
 no_column line n few = ap (λ k. k + 1) (sym (get_or_past (passing (begins_field line) (length line)) n 0 few))
 
--- how many are still to be passed over, after one more place
-pub left_after : (p : ℕ → Bool) (n left total : ℕ) → length (passing p n) + left ≡ total → p n ≡ true → (left ≡ 0 → ⊥) → length (passing p (n + 1)) + (left - 1) ≡ total
-left_after p n left total counted passes some = grind (arith, passing_count, counted, passes, some)
+-- how many fields begin before the next place
+pub count_more : (p : ℕ → Bool) (n count : ℕ) → length (passing p n) ≡ count → p n ≡ true → length (passing p (n + 1)) ≡ count + 1
+count_more p n count counted passes = passing_count p n ∙ ap (λ b. length (passing p n) + (if b then 1 else 0)) passes ∙ ap (λ m. m + 1) counted
 
-pub left_same : (p : ℕ → Bool) (n left total : ℕ) → length (passing p n) + left ≡ total → p n ≡ false → length (passing p (n + 1)) + (left - 0) ≡ total
-left_same p n left total counted fails = grind (arith, passing_count, counted, fails)
+pub count_same : (p : ℕ → Bool) (n count : ℕ) → length (passing p n) ≡ count → p n ≡ false → length (passing p (n + 1)) ≡ count + 0
+count_same p n count counted fails = passing_count p n ∙ ap (λ b. length (passing p n) + (if b then 1 else 0)) fails ∙ ap (λ m. m + 0) counted

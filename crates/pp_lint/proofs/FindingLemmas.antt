@@ -11,7 +11,7 @@ use Rattle.std.proofs.lemmas.Slice.Eq.{bytes_eq-Decides}
 use Rattle.std.proofs.lemmas.List.Splits.{length-slice_split}
 use Rattle.pp_numbers.specs.declared.profile.Profile.{Profile}
 use Rattle.pp_deck.specs.OctalNumber.{number}
-use Rattle.pp_deck.specs.DeckLine.{central_line, keyword_of}
+use Rattle.pp_deck.specs.DeckLine.{Line, central_line, keyword_of}
 use Rattle.pp_deck.specs.DeckMeaning.{begins_section, has_fields, is_foreign, size_by, size_in, size_of, stated_size}
 use Rattle.pp_deck.specs.DeckText.{Fields, fields_in, fields_of, is_blank, is_comment, is_line_feed, is_nonempty, lines_of}
 use Rattle.pp_deck.specs.declared.deck_fault.DeckCode.{DeckCode}
@@ -19,9 +19,11 @@ use Rattle.pp_text.proofs.PrintingLemmas.{prints_on, range_flat}
 use Rattle.pp_text.specs.PrintedText.{line_end}
 use Rattle.pp_text.specs.TextWriter.{Prints}
 use Rattle.pp_text.specs.declared.text_writer.TextWriter.{TextWriter}
+use Rattle.pp_lint.specs.CommentFindings.{comment_findings}
 use Rattle.pp_lint.specs.FaultWords.{fault_words}
-use Rattle.pp_lint.specs.Findings.{Finding, fault_found, findings, findings_at, findings_in, line_findings, mark}
-use Rattle.pp_lint.specs.LineFault.{HasFault, after_fields, before_line, fault_after, lone_number}
+use Rattle.pp_lint.specs.Finding.{Finding}
+use Rattle.pp_lint.specs.Findings.{fault_found, findings, findings_at, findings_in, line_findings, mark}
+use Rattle.pp_lint.specs.LineFault.{HasFault, after_fields, before_line, fault_after, lone_number, said_after}
 use Rattle.pp_lint.specs.LintText.{finding_line, is_something_found, lint_text}
 use Rattle.pp_lint.specs.declared.{line_fault.Before.Before, line_fault.Fault.Fault}
 use Rattle.pp_lint.proofs.FaultLemmas.{code_is, field_is}
@@ -45,19 +47,20 @@ few_fields line =
 
 -- ---- a line
 
-pub foreign_found : (k : ℕ) (line : List ℕ) (fault_of : Fields → Option DeckCode) (i : ℕ) → Some i ≡ position is_foreign line
-    → line_findings k line fault_of ≡ record { line = k + 1; column = i + 1; words = fault_words DeckCode.NotAscii [] } ∷ []
+pub foreign_found : (k : ℕ) (line : List ℕ) (fault_of : Fields → Option DeckCode) (said : Option Line) (i : ℕ) → Some i ≡ position is_foreign line
+    → line_findings k line fault_of said ≡ record { line = k + 1; column = i + 1; words = fault_words DeckCode.NotAscii [] } ∷ []
 unfolding line_findings
-foreign_found k line fault_of i is = rw (← is) refl
+foreign_found k line fault_of said i is = rw (← is) refl
 
-pub fault_is_found : (k : ℕ) (line : List ℕ) (fault_of : Fields → Option DeckCode) (fault : Fault) → None ≡ position is_foreign line
-    → HasFault fault_of (fields_of line) 0 fault → line_findings k line fault_of ≡ fault_found k line fault.code fault.field ∷ []
+pub fault_is_found : (k : ℕ) (line : List ℕ) (fault_of : Fields → Option DeckCode) (said : Option Line) (fault : Fault) → None ≡ position is_foreign line
+    → HasFault fault_of (fields_of line) 0 fault → line_findings k line fault_of said ≡ fault_found k line fault.code fault.field ∷ []
 unfolding line_findings
-fault_is_found k line fault_of fault ascii has = rw (← ascii, code_is fault_of (fields_of line) fault has, field_is fault_of (fields_of line) fault has) refl
+fault_is_found k line fault_of said fault ascii has = rw (← ascii, code_is fault_of (fields_of line) fault has, field_is fault_of (fields_of line) fault has) refl
 
-pub nothing_is_found : (k : ℕ) (line : List ℕ) (fault_of : Fields → Option DeckCode) → None ≡ position is_foreign line → fault_of (fields_of line) ≡ None → line_findings k line fault_of ≡ []
+pub comment_is_found : (k : ℕ) (line : List ℕ) (fault_of : Fields → Option DeckCode) (said : Option Line) → None ≡ position is_foreign line → fault_of (fields_of line) ≡ None
+    → line_findings k line fault_of said ≡ comment_findings k line said
 unfolding line_findings
-nothing_is_found k line fault_of ascii none = rw (← ascii, none) refl
+comment_is_found k line fault_of said ascii none = rw (← ascii, none) refl
 
 pub one_line : (finding : Finding) → finding_line finding ≡ flat_map finding_line (finding ∷ [])
 one_line finding = sym (append-nil (finding_line finding))
@@ -192,7 +195,7 @@ before_next profile lines k line before is within here =
     ∙ before_more profile (map fields_of lines) k (omega (arith, within, length-map lines fields_of))
 
 pub findings_here : (profile : Profile) (lines : List (List ℕ)) (k : ℕ) (line : List ℕ) (before : Before) → before ≡ before_line profile (map fields_of lines) k → get_or lines k [] ≡ line
-    → line_findings k line (fault_after before) ≡ findings_at profile lines k
+    → line_findings k line (fault_after before) (said_after before (fields_of line)) ≡ findings_at profile lines k
 findings_here profile lines k line before is here = rw (is, ← here) refl
 
 pub found_at : (profile : Profile) (lines : List (List ℕ)) (k : ℕ) (found here : Bool) → found ≡ is_something_found (flat_map (findings_at profile lines) (range_with_len 0 k))

@@ -75,12 +75,12 @@ record IsClean (line : List ℕ) (fault : Option DeckCode) : Type 0 where
   ascii : position is_foreign line ≡ None
   right : fault ≡ None
 
-clean_by : (k : ℕ) (line : List ℕ) (fault_of : Fields → Option DeckCode) (o : Option ℕ) (fault : Option DeckCode) → position is_foreign line ≡ o → fault_of (fields_of line) ≡ fault
-    → line_findings k line fault_of ≡ [] → IsClean line (fault_of (fields_of line))
+clean_by : (k : ℕ) (line : List ℕ) (fault_of : Fields → Option DeckCode) (said : Option Line) (o : Option ℕ) (fault : Option DeckCode) → position is_foreign line ≡ o → fault_of (fields_of line) ≡ fault
+    → line_findings k line fault_of said ≡ [] → IsClean line (fault_of (fields_of line))
 unfolding line_findings
-clean_by k line fault_of None None at is none = record { ascii = at; right = is }
-clean_by k line fault_of None (Some code) at is none = let found = rw (at, is) at none in absurd (cc)
-clean_by k line fault_of (Some i) fault at is none = let found = rw at at none in absurd (cc)
+clean_by k line fault_of said None None at is none = record { ascii = at; right = is }
+clean_by k line fault_of said None (Some code) at is none = let found = rw (at, is) at none in absurd (cc)
+clean_by k line fault_of said (Some i) fault at is none = let found = rw at at none in absurd (cc)
 
 -- each line of a text in which nothing is found
 clean_at : (profile : Profile) (text : List ℕ) → findings_in profile text ≡ [] → (k : ℕ) → k < length (slice_split is_line_feed text)
@@ -88,7 +88,7 @@ clean_at : (profile : Profile) (text : List ℕ) → findings_in profile text �
 unfolding findings_in
 clean_at profile text none k below =
     let lines = slice_split is_line_feed text in
-    clean_by k (get_or lines k []) (fault_as_line profile (map fields_of lines) k) _ _ refl refl (nothing_at (findings_at profile lines) (length lines) none k below)
+    clean_by k (get_or lines k []) (fault_as_line profile (map fields_of lines) k) _ _ _ refl refl (nothing_at (findings_at profile lines) (length lines) none k below)
 
 -- ---- the whole deck
 

@@ -1,24 +1,26 @@
 -- What is found in a deck, in the order of its lines.
 use Rattle.std.specs.Prelude.{ℕ, ◌+◌, Bool, true, false, List, [], ◌∷◌, length, take, drop, map, Option, None, Some, position, bytes_eq, codes, slice_index_or, nat_lt, if◌then◌else◌}
 use Rattle.std.specs.List.{flat_map, list_any, range_with_len, slice_split}
+use Rattle.std.specs.Result.{result_ok}
 use Rattle.pp_numbers.specs.declared.profile.Profile.{Profile}
-use Rattle.pp_deck.specs.DeckLine.{line_after}
+use Rattle.pp_deck.specs.DeckLine.{Line, line_after}
 use Rattle.pp_deck.specs.DeckMeaning.{begins_section, has_fields, is_foreign, size_of}
 use Rattle.pp_deck.specs.DeckText.{Fields, fields_of, is_line_feed}
 use Rattle.pp_deck.specs.Flaw.{code_of}
 use Rattle.pp_deck.specs.declared.deck_fault.DeckCode.{DeckCode}
 use Rattle.pp_deck.specs.declared.deck_fault.DeckCode.TheVariants.{TooLong, NotAscii}
 use Rattle.pp_lint.specs.Column.{column_of}
+use Rattle.pp_lint.specs.CommentFindings.{comment_findings}
 use Rattle.pp_lint.specs.FaultWords.{fault_words}
 use Rattle.pp_lint.specs.FieldAtFault.{fault_in, field_at_fault}
+use Rattle.pp_lint.specs.Finding.{Finding}
 
--- a line and a column, counted from 1, and what is said of them
-pub record Finding : Type 0 where
-  pub line : ℕ
-  pub column : ℕ
-  pub words : List ℕ
+-- what fields say as line k of these lines, and the fault that they have if they say nothing
+abbrev pub said_as_line : Profile → List Fields → ℕ → Fields → Option Line
+said_as_line profile lines k fields =
+    result_ok (line_after profile (size_of lines) (list_any has_fields (take k lines))
+    (list_any begins_section (take k lines)) fields)
 
--- the fault that fields have as line k of these lines
 abbrev pub fault_as_line : Profile → List Fields → ℕ → Fields → Option DeckCode
 fault_as_line profile lines k fields =
     fault_in code_of (line_after profile (size_of lines) (list_any has_fields (take k lines))
@@ -32,27 +34,30 @@ fault_found k line code i = record {
   words = fault_words code (slice_index_or (fields_of line) i []);
 }
 
--- the fault that the fields of line k have, if they have one
-abbrev pub faults_found : ℕ → List ℕ → (Fields → Option DeckCode) → Option DeckCode → List Finding
-faults_found k line fault_of None = []
-faults_found k line fault_of (Some code) =
+-- the fault that the fields of line k have; if they have none, what is found in its comment
+abbrev pub found_in : ℕ → List ℕ → (Fields → Option DeckCode) → Option Line → Option DeckCode
+    → List Finding
+found_in k line fault_of said None = comment_findings k line said
+found_in k line fault_of said (Some code) =
     fault_found k line code (field_at_fault fault_of (fields_of line)) ∷ []
 
--- the first byte of line k that is not ASCII; if all are, the fault of its fields
-abbrev pub found_unless_foreign : ℕ → List ℕ → (Fields → Option DeckCode) → Option ℕ
+-- the first byte of line k that is not ASCII; if all are, what is found in it by its fields
+abbrev pub found_unless_foreign : ℕ → List ℕ → (Fields → Option DeckCode) → Option Line → Option ℕ
     → List Finding
-found_unless_foreign k line fault_of (Some i) =
+found_unless_foreign k line fault_of said (Some i) =
     record { line = k + 1; column = i + 1; words = fault_words NotAscii [] } ∷ []
-found_unless_foreign k line fault_of None =
-    faults_found k line fault_of (fault_of (fields_of line))
+found_unless_foreign k line fault_of said None =
+    found_in k line fault_of said (fault_of (fields_of line))
 
-unfoldable pub line_findings : ℕ → List ℕ → (Fields → Option DeckCode) → List Finding
-line_findings k line fault_of = found_unless_foreign k line fault_of (position is_foreign line)
+unfoldable pub line_findings : ℕ → List ℕ → (Fields → Option DeckCode) → Option Line → List Finding
+line_findings k line fault_of said =
+    found_unless_foreign k line fault_of said (position is_foreign line)
 
 -- what is found in line k of these lines
 abbrev pub findings_at : Profile → List (List ℕ) → ℕ → List Finding
-findings_at profile lines k = line_findings k (slice_index_or lines k [])
-    (fault_as_line profile (map fields_of lines) k)
+findings_at profile lines k = let line = slice_index_or lines k [] in
+    line_findings k line (fault_as_line profile (map fields_of lines) k)
+    (said_as_line profile (map fields_of lines) k (fields_of line))
 
 -- what is found in the lines of a text
 unfoldable pub findings_in : Profile → List ℕ → List Finding

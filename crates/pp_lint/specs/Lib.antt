@@ -1,7 +1,13 @@
 pub mod Column
+pub mod Finding
+pub mod Claim
+pub mod Instruction
+pub mod CommentFindings
 pub mod FieldAtFault
 pub mod FaultWords
 pub mod Findings
 pub mod LintText
 -- cited only by private contracts: nobody has to read these to believe what the crate promises
 pub mod LineFault
+pub mod FieldsBefore
+pub mod WordsOfLine

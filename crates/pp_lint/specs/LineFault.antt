@@ -1,9 +1,10 @@
 -- A fault of a line as it is met, field by field.
 use Rattle.std.specs.Prelude.{◌≡◌, ◌≢◌, ℕ, ◌+◌, ◌-◌, ◌<◌, ◌≤◌, ◌||◌, List, [], ◌∷◌, length, take, Bool, true, false, nat_lt, Option, None, Some}
 use Rattle.std.specs.List.{list_any}
+use Rattle.std.specs.Result.{result_ok}
 use Rattle.pp_word.specs.Numeral.{numeral}
 use Rattle.pp_numbers.specs.declared.profile.Profile.{Profile}
-use Rattle.pp_deck.specs.DeckLine.{line_after}
+use Rattle.pp_deck.specs.DeckLine.{Line, line_after}
 use Rattle.pp_deck.specs.DeckMeaning.{begins_section, has_fields, size_of}
 use Rattle.pp_deck.specs.DeckText.{Field, Fields}
 use Rattle.pp_deck.specs.Flaw.{code_of}
@@ -11,7 +12,11 @@ use Rattle.pp_deck.specs.declared.deck_fault.DeckCode.{DeckCode}
 use Rattle.pp_lint.specs.FieldAtFault.{fault_in, fault_number}
 use Rattle.pp_lint.specs.declared.{line_fault.Before.Before, line_fault.Fault.Fault}
 
--- the fault that fields have as a line after others
+-- what fields say as a line after others, and the fault that they have if they say nothing
+abbrev pub said_after : Before → Fields → Option Line
+said_after before fields = result_ok (line_after before.profile before.size
+    before.is_after_fields before.is_in_section fields)
+
 abbrev pub fault_after : Before → Fields → Option DeckCode
 fault_after before fields = fault_in code_of (line_after before.profile before.size
     before.is_after_fields before.is_in_section fields)

@@ -4,7 +4,8 @@ use Rattle.std.specs.List.{flat_map}
 use Rattle.pp_numbers.specs.declared.profile.Profile.{Profile}
 use Rattle.pp_word.specs.Numeral.{short_decimal}
 use Rattle.pp_text.specs.PrintedText.{line_end}
-use Rattle.pp_lint.specs.Findings.{Finding, findings}
+use Rattle.pp_lint.specs.Finding.{Finding}
+use Rattle.pp_lint.specs.Findings.{findings}
 
 -- `3:11 wrong digits: 1603,3450`: line and column in decimal
 abbrev pub finding_line : Finding → List ℕ

@@ -1,8 +1,12 @@
-//! What is found in a deck: each fault, with its line, its column and the field at fault.
+//! What is found in a deck: each fault, with its line, its column and the field at fault, and what
+//! comments say of instructions that are others.
 #![tactic(auto)]
 
+mod claim;
 mod column;
+mod comment_findings;
 mod fault_words;
+mod instruction;
 mod law;
 mod line_fault;
 mod line_findings;

@@ -81,7 +81,8 @@ pub(crate) fn is(field: &[u8], keyword: &[u8]) -> bool
     field == keyword
 }
 
-fn begins_with_digit(field: &[u8]) -> bool
+/// Whether a line of words begins with this field.
+pub(crate) fn begins_with_digit(field: &[u8]) -> bool
     ensures { result ≡ is_ascii_digit (slice_index field.now 0) }
 {
     matches!(field, [b'0'..=b'9', ..])

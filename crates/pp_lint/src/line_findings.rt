@@ -8,11 +8,12 @@ ghost use Rattle.pp_deck.specs.DeckText.{fields_of};
 ghost use Rattle.pp_lint.specs.Column.{column_of};
 ghost use Rattle.pp_lint.specs.FaultWords.{fault_words};
 ghost use Rattle.pp_lint.specs.Findings.{line_findings};
-ghost use Rattle.pp_lint.specs.LineFault.{fault_after};
+ghost use Rattle.pp_lint.specs.LineFault.{fault_after, said_after};
 ghost use Rattle.pp_lint.specs.LintText.{finding_line, is_something_found};
 ghost use Rattle.pp_text.specs.TextWriter.{Prints};
 
-use crate::column::column_of;
+use crate::column::Columns;
+use crate::comment_findings::print_comment_findings;
 use crate::fault_words::print_fault_words;
 use crate::line_fault::{Before, Fault, fault_of};
 use pp_deck::{DeckCode, Fields};
@@ -27,9 +28,11 @@ pub(crate) fn print_line_findings<W: Write>(
     line: &[u8],
 ) -> bool
     ensures prints { (k : ℕ) → number ≡ k + 1 → Prints W.contents text.old text.new
-        (flat_map finding_line (line_findings k line.now (fault_after before.now))) }
+        (flat_map finding_line (line_findings k line.now (fault_after before.now)
+        (said_after before.now (fields_of line.now)))) }
     ensures found { (k : ℕ)
-        → result ≡ is_something_found (line_findings k line.now (fault_after before.now)) }
+        → result ≡ is_something_found (line_findings k line.now (fault_after before.now)
+        (said_after before.now (fields_of line.now))) }
 {
     if let Some(place) = first_foreign(line) {
         print_finding(text, number, place as u64 + 1, DeckCode::NotAscii, &[]);
@@ -40,7 +43,7 @@ pub(crate) fn print_line_findings<W: Write>(
             print_fault(text, number, line, &fault);
             true
         }
-        None => false,
+        None => print_comment_findings(text, number, line),
     }
 }
 
@@ -57,7 +60,7 @@ fn print_fault<W: Write>(text: &mut TextWriter<W>, number: u64, line: &[u8], fau
     print_finding(
         text,
         number,
-        column_of(line, fault.field),
+        Columns::of(line).column_of(fault.field),
         fault.code,
         field,
     );

@@ -8,7 +8,7 @@ use crate::answer::{Answer, answer_of, refused, without_memory};
 use crate::refusal::Refusal;
 use std::str;
 use pp_command::{Asked, CallFault, read_call};
-use pp_sim::{TextFault, Work, check_text, deck_text, lint_text};
+use pp_sim::{TextFault, Work, check_text, deck_text, lint_text, test_text};
 use std::alloc::{AllocError, Allocator};
 
 /// Answers a call: does what its words ask for, or says why they are refused.
@@ -83,6 +83,10 @@ fn do_work<A: Allocator + Copy>(
             deck_text(alloc, *profile, first, &asked.until, input, output, text)
         }
         Work::Lint { profile } => lint_text(alloc, *profile, input, output),
+        Work::Test { profile, turns } => {
+            let first = asked.first.as_slice();
+            test_text(alloc, *profile, first, &asked.until, input, output, *turns)
+        }
         Work::Threads { .. } => unreachable!(),
         Work::Check { opened } => check_text(alloc, opened, input, output),
     }

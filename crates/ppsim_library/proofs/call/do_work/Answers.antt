@@ -8,3 +8,6 @@ returns-in-Lint g c = rw c.in-Lint.is c.lint_text.ensures
 
 pub returns-in-Check : goal.returns-in-Check
 returns-in-Check g c = rw c.in-Check.is c.check_text.ensures
+
+pub returns-in-Test : goal.returns-in-Test
+returns-in-Test g c = rw c.in-Test.is (rw c.as_slice-first-in-Test.ensures.value at c.test_text.ensures)

@@ -1,0 +1,262 @@
+-- What a line of words says, by its fields.
+use Rattle.std.proofs.Common.{◌≡◌, ℕ, ◌+◌, Bool, true, false, List, [], ◌∷◌, Option, Some, None, Result, Ok, Err, refl, sym, ap, ◌∙◌}
+use Rattle.std.specs.Prelude.{◌&&◌, bytes_eq, codes, nat_le, nat_lt, if◌then◌else◌, IfNone, IfSome, drop, is_some, not, slice_get, slice_index, unwrap_or}
+use Rattle.std.specs.Char.{is_ascii_digit}
+use Rattle.std.specs.Option.{ok_or}
+use Rattle.std.specs.Result.{result_ok}
+use Rattle.std.proofs.lemmas.Slice.Eq.{bytes_eq-Decides}
+use Rattle.pp_word.specs.Address.{next_place, place_count}
+use Rattle.pp_word.specs.Numeral.{numeral}
+use Rattle.pp_numbers.specs.Profile.{has_processor}
+use Rattle.pp_numbers.specs.declared.profile.Profile.{Profile}
+use Rattle.pp_deck.specs.DeckLine.{◌>>=◌, Line, central_line, central_size, central_words, central_words_line, dead_start, ends_with, keyword_of, line_after, nothing, number_then, section, section_line, start, start_from, start_line, words, words_in, words_line}
+use Rattle.pp_deck.specs.DeckText.{Field, Fields, fields_of}
+use Rattle.pp_deck.specs.Flaw.{code_of}
+use Rattle.pp_deck.specs.OctalNumber.{number}
+use Rattle.pp_text.specs.InstructionText.{is_long}
+use Rattle.pp_lint.specs.Claim.{claims, comment_place}
+use Rattle.pp_lint.specs.Column.{column_of}
+use Rattle.pp_lint.specs.CommentFindings.{claims_findings, comment_findings}
+use Rattle.pp_lint.specs.FieldAtFault.{fault_in}
+use Rattle.pp_lint.specs.Instruction.{instructions}
+use Rattle.pp_lint.specs.LineFault.{fault_after, said_after}
+use Rattle.pp_lint.specs.WordsOfLine.{word_in, words_in_fields}
+use Rattle.pp_lint.proofs.CommentLemmas.{comment_is}
+use Rattle.pp_lint.specs.declared.{instruction.Instruction.Instruction, line_fault.Before.Before}
+
+-- ---- the words
+
+record Taken {F : Type 0} (o : Option ℕ) (read : Result (List ℕ) F) (ws : List ℕ) : Type 0 where
+  word : ℕ
+  more : List ℕ
+  first : o ≡ Some word
+  later : read ≡ Ok more
+  all : ws ≡ word ∷ more
+
+taken : (o : Option ℕ) (within : Bool) (bad past : _) (read : Result (List ℕ) _) (ws : List ℕ)
+    → (ok_or o bad >>= λ word. (if within then read else Err past) >>= λ more. Ok (word ∷ more)) ≡ Ok ws → Taken o read ws
+taken None within bad past read ws is = absurd (cc)
+taken (Some word) false bad past read ws is = absurd (cc)
+taken (Some word) true bad past (Err flaw) ws is = absurd (cc)
+taken (Some word) true bad past (Ok more) ws is = record { word = word; more = more; first = refl; later = refl; all = cc }
+
+words_are : (place : ℕ) (past : _) (fields : Fields) (ws : List ℕ) → words_in 4 place place_count past fields ≡ Ok ws → ws ≡ words_in_fields fields
+unfolding words_in number
+words_are place past [] ws is = cc
+words_are place past (field ∷ fields) ws is =
+    let t = taken (numeral 8 4 field) (nat_lt place place_count) _ past (words_in 4 (place + 1) place_count past fields) ws is in
+    let later = words_are (place + 1) past fields t.more t.later in
+    let word : t.word ≡ word_in field = sym (ap (λ o. unwrap_or o 0) t.first) in
+    t.all ∙ ap (λ w. w ∷ t.more) word ∙ ap (λ rest. word_in field ∷ rest) later
+
+pub record IsWordsLine (first : Field) (rest : Fields) (said : Option Line) : Type 0 where
+  pub place : ℕ
+  pub at : numeral 8 4 first ≡ Some place
+  pub is : said ≡ Some (words place (words_in_fields rest))
+
+-- what is read of a line without a fault
+made_of : (x : ℕ) (past : _) (rest : Fields) (read : Result (List ℕ) _) → words_in 4 x place_count past rest ≡ read → fault_in code_of (read >>= λ ws. Ok (words x ws)) ≡ None
+    → result_ok (read >>= λ ws. Ok (words x ws)) ≡ Some (words x (words_in_fields rest))
+made_of x past rest (Err flaw) read none = absurd (cc)
+made_of x past rest (Ok ws) read none = ap (λ more. Some (words x more)) (words_are x past rest ws read)
+
+placed : (o : Option ℕ) (bad past : _) (first : Field) (rest : Fields) → numeral 8 4 first ≡ o
+    → fault_in code_of (ok_or o bad >>= λ x. words_in 4 x place_count past rest >>= λ ws. Ok (words x ws)) ≡ None
+    → IsWordsLine first rest (result_ok (ok_or o bad >>= λ x. words_in 4 x place_count past rest >>= λ ws. Ok (words x ws)))
+placed None bad past first rest at none = absurd (cc)
+placed (Some x) bad past first rest at none = record { place = x; at = at; is = made_of x past rest _ refl none }
+
+words_line_says : (first : Field) (rest : Fields) → fault_in code_of (words_line first rest) ≡ None → IsWordsLine first rest (result_ok (words_line first rest))
+unfolding words_line number
+words_line_says first rest none = placed (numeral 8 4 first) _ _ first rest refl none
+
+differ : true ≡ false → ⊥
+differ same = cc
+
+no_digit : (field keyword : Field) (b : Bool) → bytes_eq field keyword ≡ b → is_ascii_digit (slice_index field 0) ≡ true → is_ascii_digit (slice_index keyword 0) ≡ false → b ≡ false
+no_digit field keyword false is digit none = refl
+no_digit field keyword true is digit none = absurd (differ (sym digit ∙ ap (λ word. is_ascii_digit (slice_index word 0)) ((bytes_eq-Decides field keyword).0 is) ∙ none))
+
+in_section : (b : Bool) (first : Field) (rest : Fields) (early : _) → fault_in code_of (if b then words_line first rest else Err early) ≡ None
+    → IsWordsLine first rest (result_ok (if b then words_line first rest else Err early))
+in_section true first rest early none = words_line_says first rest none
+in_section false first rest early none = absurd (cc)
+
+pub words_said : (b : Before) (first : Field) (rest : Fields) → fault_after b (first ∷ rest) ≡ None → is_ascii_digit (slice_index first 0) ≡ true
+    → IsWordsLine first rest (said_after b (first ∷ rest))
+unfolding line_after keyword_of
+words_said b first rest none digit =
+    let central = no_digit first (codes "CENTRAL") _ refl digit refl in
+    let cm = no_digit first (codes "CM") _ refl digit refl in
+    let pp = no_digit first (codes "PP") _ refl digit refl in
+    let st = no_digit first (codes "START") _ refl digit refl in
+    let dead = no_digit first (codes "DEAD") _ refl digit refl in
+    rw (central, cm, pp, st, dead, digit) (in_section b.is_in_section first rest _ (rw (central, cm, pp, st, dead, digit) at none))
+
+-- ---- lines of other kinds
+
+abbrev says_words : Option Line → Bool
+says_words (Some (words x ws)) = true
+says_words other = false
+
+ended : (line : Line) (fields : Fields) → says_words (Some line) ≡ false → says_words (result_ok (ends_with line fields)) ≡ false
+ended line [] none = none
+ended line (field ∷ fields) none = refl
+
+after_number : (o : Option ℕ) (bad : _) (next : ℕ → Result Line _) → ((n : ℕ) → says_words (result_ok (next n)) ≡ false) → says_words (result_ok (ok_or o bad >>= next)) ≡ false
+after_number None bad next none = refl
+after_number (Some n) bad next none = none n
+
+numbered : (most : ℕ) (fields : Fields) (next : ℕ → Fields → Result Line _) → ((n : ℕ) (more : Fields) → says_words (result_ok (next n more)) ≡ false) → says_words (result_ok (number_then most fields next)) ≡ false
+unfolding number
+numbered most [] next none = refl
+numbered most (field ∷ fields) next none = after_number (numeral 8 most field) _ (λ n. next n fields) (λ n. none n fields)
+
+if_else : {F : Type 0} (b : Bool) (line : Result Line F) (flaw : F) → says_words (result_ok line) ≡ false → says_words (result_ok (if b then line else Err flaw)) ≡ false
+if_else true line flaw none = none
+if_else false line flaw none = refl
+
+unless : {F : Type 0} (b : Bool) (line : Result Line F) (flaw : F) → says_words (result_ok line) ≡ false → says_words (result_ok (if b then Err flaw else line)) ≡ false
+unless true line flaw none = refl
+unless false line flaw none = none
+
+central_says : (fields : Fields) → says_words (result_ok (central_line fields)) ≡ false
+unfolding central_line
+central_says fields = numbered 6 fields _ (λ n more. if_else (nat_le 1 n && nat_le n 0o400000) (ends_with (central_size n) more) _ (ended (central_size n) more refl))
+
+of_central : (a : ℕ) (read : Result (List ℕ) _) → says_words (result_ok (read >>= λ ws. Ok (central_words a ws))) ≡ false
+of_central a (Ok ws) = refl
+of_central a (Err flaw) = refl
+
+central_words_says : (size : ℕ) (fields : Fields) → says_words (result_ok (central_words_line size fields)) ≡ false
+unfolding central_words_line
+central_words_says size fields = numbered 6 fields _ (λ a more. of_central a (words_in 20 a size _ more))
+
+section_says : (profile : Profile) (fields : Fields) → says_words (result_ok (section_line profile fields)) ≡ false
+unfolding section_line
+section_says profile fields = numbered 2 fields _ (λ n more. if_else (has_processor profile n) (ends_with (section n) more) _ (ended (section n) more refl))
+
+start_from_says : (p : ℕ) (fields : Fields) → says_words (result_ok (start_from p fields)) ≡ false
+unfolding number
+start_from_says p [] = refl
+start_from_says p (field ∷ fields) = after_number (numeral 8 6 field) _ (λ a. ends_with (start p a) fields) (λ a. ended (start p a) fields refl)
+
+start_says : (fields : Fields) → says_words (result_ok (start_line fields)) ≡ false
+unfolding start_line
+start_says fields = numbered 4 fields _ (λ p more. start_from_says p more)
+
+other_said : (b : Before) (first : Field) (rest : Fields) (central cm pp st dead : Bool)
+    → bytes_eq first (codes "CENTRAL") ≡ central → bytes_eq first (codes "CM") ≡ cm → bytes_eq first (codes "PP") ≡ pp → bytes_eq first (codes "START") ≡ st → bytes_eq first (codes "DEAD") ≡ dead
+    → is_ascii_digit (slice_index first 0) ≡ false → says_words (said_after b (first ∷ rest)) ≡ false
+unfolding line_after keyword_of
+other_said b first rest true cm pp st dead is1 is2 is3 is4 is5 none = rw is1 (unless b.is_after_fields (central_line rest) _ (central_says rest))
+other_said b first rest false true pp st dead is1 is2 is3 is4 is5 none = rw (is1, is2) (central_words_says b.size rest)
+other_said b first rest false false true st dead is1 is2 is3 is4 is5 none = rw (is1, is2, is3) (section_says b.profile rest)
+other_said b first rest false false false true dead is1 is2 is3 is4 is5 none = rw (is1, is2, is3, is4) (if_else b.is_in_section (start_line rest) _ (start_says rest))
+other_said b first rest false false false false true is1 is2 is3 is4 is5 none = rw (is1, is2, is3, is4, is5) (ended dead_start rest refl)
+other_said b first rest false false false false false is1 is2 is3 is4 is5 none = rw (is1, is2, is3, is4, is5, none) refl
+
+nothing_in_comment : (k : ℕ) (line : List ℕ) (said : Option Line) → says_words said ≡ false → comment_findings k line said ≡ []
+unfolding comment_findings
+nothing_in_comment k line None none = refl
+nothing_in_comment k line (Some nothing) none = refl
+nothing_in_comment k line (Some (central_size n)) none = refl
+nothing_in_comment k line (Some (central_words a ws)) none = refl
+nothing_in_comment k line (Some (section n)) none = refl
+nothing_in_comment k line (Some (start p a)) none = refl
+nothing_in_comment k line (Some (words x ws)) none = absurd (cc)
+nothing_in_comment k line (Some dead_start) none = refl
+
+pub no_words_said : (k : ℕ) (b : Before) (line : List ℕ) (first : Field) (rest : Fields) → is_ascii_digit (slice_index first 0) ≡ false
+    → comment_findings k line (said_after b (first ∷ rest)) ≡ []
+no_words_said k b line first rest other = nothing_in_comment k line _ (other_said b first rest _ _ _ _ _ refl refl refl refl refl other)
+
+pub blank_said : (k : ℕ) (b : Before) (line : List ℕ) → comment_findings k line (said_after b []) ≡ []
+unfolding line_after comment_findings
+blank_said k b line = refl
+
+pub no_comment_said : (k : ℕ) (line : List ℕ) (said : Option Line) → comment_place line ≡ None → comment_findings k line said ≡ []
+unfolding comment_findings
+no_comment_said k line None none = refl
+no_comment_said k line (Some nothing) none = refl
+no_comment_said k line (Some (central_size n)) none = refl
+no_comment_said k line (Some (central_words a ws)) none = refl
+no_comment_said k line (Some (section n)) none = refl
+no_comment_said k line (Some (start p a)) none = refl
+no_comment_said k line (Some (words x ws)) none = rw none refl
+no_comment_said k line (Some dead_start) none = refl
+
+-- ---- instructions
+
+pub no_instruction : (place : ℕ) → instructions place [] ≡ []
+unfolding instructions
+no_instruction place = refl
+
+pub short_first : (place word : ℕ) (ws : List ℕ) → is_long word ≡ false
+    → instructions place (word ∷ ws) ≡ record { place = place; word = word; second = None } ∷ instructions (next_place place) ws
+unfolding instructions
+short_first place word [] short = refl
+short_first place word (m ∷ ws) short = rw short refl
+
+pub long_first : (place word m : ℕ) (ws : List ℕ) → is_long word ≡ true
+    → instructions place (word ∷ m ∷ ws) ≡ record { place = place; word = word; second = Some m } ∷ instructions (next_place (next_place place)) ws
+unfolding instructions
+long_first place word m ws long = rw long refl
+
+cut_first : (place word : ℕ) → instructions place (word ∷ []) ≡ record { place = place; word = word; second = None } ∷ []
+unfolding instructions
+cut_first place word = refl
+
+-- what is left, unless it is ended
+pub left_is : (ended : Bool) (all now : List Instruction) → (if ended then [] else all) ≡ now → ended ≡ false → now ≡ all
+left_is false all now is goes = sym is
+left_is true all now is goes = absurd (cc)
+
+-- a field of the line, and its word
+abbrev pub TakesWord : Fields → Fields → ℕ → Type 0
+TakesWord old new word = (field : List ℕ) × ((old ≡ field ∷ new) × (word_in field ≡ word))
+
+first_word : (old new : Fields) (word : ℕ) → TakesWord old new word → words_in_fields old ≡ word ∷ words_in_fields new
+first_word old new word taken = ap words_in_fields taken.1.0 ∙ ap (λ w. w ∷ words_in_fields new) taken.1.1
+
+pub short_step : (place next word : ℕ) (ended : Bool) (left rest : Fields) → is_long word ≡ false → next ≡ next_place place → ended ≡ false → TakesWord left rest word
+    → instructions place (words_in_fields left) ≡ record { place = place; word = word; second = None } ∷ (if ended then [] else instructions next (words_in_fields rest))
+short_step place next word ended left rest short after goes taken =
+    ap (instructions place) (first_word left rest word taken) ∙ short_first place word (words_in_fields rest) short ∙ rw (after, goes) refl
+
+on : (ended : Bool) → true ≡ not ended → ended ≡ false
+on false goes = refl
+on true goes = absurd (cc)
+
+over : (ended : Bool) → false ≡ not ended → ended ≡ true
+over true goes = refl
+over false goes = absurd (cc)
+
+pub long_step : (place next after word : ℕ) (ended : Bool) (fields left rest : Fields) (o : Option ℕ) → is_long word ≡ true → next ≡ next_place place → after ≡ next_place next → is_some o ≡ not ended
+    → TakesWord fields left word → IfSome o (TakesWord left rest) → IfNone o (left ≡ [])
+    → instructions place (words_in_fields fields) ≡ record { place = place; word = word; second = o } ∷ (if ended then [] else instructions after (words_in_fields rest))
+long_step place next after word ended fields left rest (Some m) long is1 is2 goes taken some none =
+    ap (instructions place) (first_word fields left word taken ∙ ap (λ ws. word ∷ ws) (first_word left rest m some)) ∙ long_first place word m (words_in_fields rest) long ∙ rw (is2, is1, on ended goes) refl
+long_step place next after word ended fields left rest None long is1 is2 goes taken some none =
+    ap (instructions place) (first_word fields left word taken ∙ ap (λ fs. word ∷ words_in_fields fs) none) ∙ cut_first place word ∙ rw (over ended goes) refl
+
+pub first_is : (old new : List Instruction) (o : Option Instruction) → IfSome o (λ i. old ≡ i ∷ new) → IfNone o ((old ≡ []) × (new ≡ [])) → slice_get old 0 ≡ o
+first_is old new (Some i) some none = ap (λ is. slice_get is 0) some
+first_is old new None some none = ap (λ is. slice_get is 0) none.0
+
+pub later_are : (old new : List Instruction) (o : Option Instruction) → IfSome o (λ i. old ≡ i ∷ new) → IfNone o ((old ≡ []) × (new ≡ [])) → drop 1 old ≡ new
+later_are old new (Some i) some none = ap (drop 1) some
+later_are old new None some none = ap (drop 1) none.0 ∙ sym none.1
+
+-- what is found by a comment and the words of its line
+pub by_words : (k : ℕ) (before : Before) (line comment : List ℕ) (first : Field) (rest : Fields) (star : ℕ) (is : List Instruction) → fault_after before (fields_of line) ≡ None → fields_of line ≡ first ∷ rest
+    → is_ascii_digit (slice_index first 0) ≡ true → Some star ≡ comment_place line → comment ≡ drop (star + 1) line → is ≡ instructions (word_in first) (words_in_fields rest)
+    → claims_findings k (λ i. star + 1 + column_of comment i) (claims 0 (fields_of comment)) is ≡ comment_findings k line (said_after before (fields_of line))
+by_words k before line comment first rest star is none begins digit at after are =
+    let said = words_said before first rest (ap (fault_after before) (sym begins) ∙ none) digit in
+    let place : word_in first ≡ said.place = ap (λ o. unwrap_or o 0) said.at in
+    ap (λ text. claims_findings k (λ i. star + 1 + column_of text i) (claims 0 (fields_of text)) is) after
+    ∙ ap (claims_findings k (λ i. star + 1 + column_of (drop (star + 1) line) i) (claims 0 (fields_of (drop (star + 1) line)))) (are ∙ ap (λ x. instructions x (words_in_fields rest)) place)
+    ∙ sym (comment_is k line said.place (words_in_fields rest) star (sym at))
+    ∙ ap (comment_findings k line) (sym said.is)
+    ∙ ap (λ fields. comment_findings k line (said_after before fields)) (sym begins)
