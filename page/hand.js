@@ -1,0 +1,171 @@
+// ---- moving through a run, and making its steps by hand
+
+/** How each processor shown stands at the turn, by its two digits. */
+/** @type {Map<string, { place: string, line: string }>} */
+const standing = new Map();
+/** How the run by turns ends, once it is known, and of which deck.
+ * @type {{ deck: Uint8Array, of: number, line: string } | null} */
+let ending = null;
+let timer = 0;
+
+const say = (/** @type {string} */ text) => { $('ran').textContent = text; };
+
+function setLast(/** @type {number} */ to) {
+  $('last').value = $('turn').max = Math.min(LAST_TURN, Math.max(0, to));
+}
+
+/** Goes to after so many steps; past the end the run becomes longer. */
+function go(/** @type {number} */ at) {
+  const to = Math.min(LAST_TURN, Math.max(0, at));
+  if (to > last()) setLast(to);
+  $('turn').value = to;
+  showSoon();
+}
+
+/** One step of this processor comes next. What the list has after the cursor it takes the place of. */
+function stepBy(/** @type {number} */ number) {
+  const t = turn();
+  if (!numbers().includes(number) || t >= LAST_TURN) return;
+  if (t === list.length || stepper(t) !== number) {
+    if (t !== list.length) list = Array.from({ length: t }, (_, n) => stepper(n));
+    list.push(number);
+    if (back.worksFor() > PATIENCE) back.stop();
+  }
+  go(t + 1);
+}
+
+/** The list is what was typed. A cursor within the old list goes to the end of the new one. */
+function typeOrder() {
+  const steps = orderOf($('order').value), isKnown = steps !== null;
+  $('order').ariaInvalid = `${!isKnown}`;
+  if (!isKnown) return say('An order is a list of processors, as 0:3,1: three steps of 0, one of 1.');
+  const isWithin = turn() <= list.length;
+  list = steps;
+  go(isWithin ? steps.length : Math.max(turn(), steps.length));
+}
+
+async function copyOrder() {
+  const text = orderText(list, turn());
+  await navigator.clipboard.writeText(text).then(() => say(`Copied: ${text || 'nothing, the turn order'}`),
+    () => { $('order').select(); say('Copy the order marked now.'); });
+}
+
+/** Goes to after the next step that meets a condition. */
+async function runTo(/** @type {string} */ condition) {
+  const from = turn(), asked = deck, rest = restTurn();
+  $('target').value = condition;
+  if (!condition) return say('Say where to: CH05 for an event of channel 5, PP00 P=0105 for a place.');
+  for (const more of [1000, 10000, 100000, LAST_TURN]) {
+    const to = Math.min(LAST_TURN, from + more);
+    const words = overRun('steps', to, '--from', `${from}`, '--where', condition);
+    const answer = await ask(words, back), at = parseInt(answer.output, 10);
+    if (deck !== asked || turn() !== from) return;
+    if (answer.status !== 0) return say(faultOf(answer));
+    if (at >= 0) {
+      go(at + 1);
+      return say(`${condition}: after turn ${at}`);
+    }
+    if (to === LAST_TURN || (rest >= 0 && rest < to)) break;
+  }
+  say(`${condition} does not come after turn ${from}.`);
+}
+
+async function play() {
+  if (timer) return pause();
+  if (turn() === last()) go(0);
+  $('play').textContent = '⏸';
+  $('play').ariaLabel = 'Pause';
+  const beat = Math.max(20, Math.min(150, 8000 / last()));
+  timer = setInterval(() => {
+    if (front.worksFor() > 0) return;
+    if (turn() < last()) go(turn() + 1);
+    else pause();
+  }, beat);
+}
+
+function pause() {
+  clearInterval(timer);
+  timer = 0;
+  $('play').textContent = '▶';
+  $('play').ariaLabel = 'Play';
+}
+
+/** Shows how the processors stand, and the order so far. */
+function showHand(/** @type {Answer} */ { status, output }) {
+  if (status === 0) {
+    standing.clear();
+    for (const line of output.match(/^PP\d\d P=.*$/gm) ?? []) {
+      standing.set(line.slice(2, 4), { place: line.slice(7, 11), line });
+    }
+  }
+  const names = [...standing.keys()].join();
+  if ($('steps').dataset.names !== names) {
+    $('steps').dataset.names = names;
+    $('steps').replaceChildren(...[...standing.keys()].map(name => {
+      const number = parseInt(name, 8), key = keyOf(number);
+      return make('button', { type: 'button', textContent: `PP${name}`, onclick: () => stepBy(number),
+        ariaLabel: `Step of processor ${number.toString(8)}`, ariaKeyShortcuts: key });
+    }));
+  }
+  for (const button of $('steps').children) {
+    const line = standing.get(button.textContent.slice(2))?.line ?? '';
+    button.title = `One step of this processor, key ${keyOf(parseInt(button.textContent.slice(2), 8))}\n${line}`;
+    button.className = line.includes(' HELD ') ? 'held' : line.includes(' RUNNING ') ? '' : 'rest';
+  }
+  const length = Math.min(turn(), list.length), turns = turn() - length, after = list.length - length;
+  if (document.activeElement !== $('order')) {
+    $('order').value = orderText(list, length);
+    $('order').ariaInvalid = 'false';
+  }
+  $('then').textContent = turns ? `then ${turns} by turns` : after ? `${after} more after the cursor` : '';
+}
+
+/** The key that makes a step of a processor: 8 and 9 are 10 and 11, with shift the further ten. */
+const keyOf = (/** @type {number} */ number) => (number < 10 ? `${number}` : `Shift+${number - 16}`);
+
+// ---- how the run ends
+
+/** Finds how the run by turns ends, and says whether the run shown is cut before that. */
+async function noteEnd() {
+  const of = processors(), asked = deck, words = VIEWS.Ends.words();
+  if (ending?.deck !== deck || ending.of !== of) {
+    const { status, output } = await ask(words, back);
+    if (deck !== asked) return;
+    if (status === -1) return;
+    ending = { deck, of, line: status === 0 ? output.split('\n', 1)[0] : '' };
+    if (view() === 'Steps') showSoon();
+  }
+  const [, how, from, , every] = /^(.*?) (?:FROM|AT) (\d+)( EVERY (\d+))?/.exec(ending.line) ?? [];
+  const to = Number(from) + Number(every ?? 0), isCut = last() < to && how !== 'GOING ON';
+  const isOver = [...standing.values()].every(({ line }) => !line.includes(' RUNNING ') || line.includes(' HELD '));
+  $('cut').hidden = false;
+  if (list.length) {
+    $('cut').hidden = turn() < last() || isOver;
+    $('cut').textContent = 'still running: go on';
+    $('cut').onclick = () => go(Math.min(LAST_TURN, last() * 2 + 100));
+  } else if (isCut) {
+    $('cut').textContent = `cut: still running. Run to the end, ${to}`;
+    $('cut').onclick = () => { setLast(to); go(to); };
+  } else if (how === 'GOING ON') {
+    $('cut').textContent = 'goes on';
+    $('cut').onclick = () => choose('Ends');
+  } else if (from) {
+    $('cut').textContent = how === 'REPEATS' ? `repeats from ${Number(from)} every ${every}`
+      : `${how.toLowerCase()} from ${Number(from)}`;
+    $('cut').onclick = () => go(Number(from));
+  } else {
+    $('cut').hidden = true;
+  }
+}
+
+/** The turn from which on the run by turns rests, or -1: it does not, or it is not known. */
+function restTurn() {
+  const found = ending?.deck === deck && !list.length && /^(?:AT REST|STUCK) FROM (\d+)/.exec(ending.line);
+  return found ? Number(found[1]) : -1;
+}
+
+/** The turn at which the run by turns has come to its end, as far as that is known. */
+function endTurn() {
+  const found = ending?.deck === deck && / FROM (\d+)/.exec(ending.line);
+  return found ? Number(found[1]) : LAST_TURN;
+}

@@ -1,0 +1,246 @@
+// ---- showing
+
+const MOST_FOUND = 5, MOST_LIT = 2000; // findings in words; lines of a deck in which steps are lit
+let shows = 0, frame = 0;
+
+/** Shows all of it, once the worker is free; what has been at work for long is not waited for. */
+function showSoon() {
+  $('at').textContent = turn();
+  moveCursor();
+  if (front.worksFor() > PATIENCE) front.stop();
+  frame ||= requestAnimationFrame(async () => {
+    await front.free();
+    frame = 0;
+    show();
+  });
+}
+
+async function show() {
+  const it = ++shows, isOld = () => it !== shows, name = view(), drawing = drawingWords();
+  clearTimeout(saving);
+  const [picture, lint, state] = await Promise.all(
+    [drawing, ['lint', ...machineWords()], overRun('state', turn())].map(words => ask(words)));
+  if (isOld()) return;
+  showFaults(picture, lint);
+  draw(drawing, picture);
+  showHand(state);
+  lightLines();
+  for (const box of document.querySelectorAll('[data-of]')) {
+    /** @type {HTMLElement} */ (box).hidden = /** @type {HTMLElement} */ (box).dataset.of !== name;
+  }
+  saving = setTimeout(() => { remember(); noteEnd(); }, 300);
+  if (name === 'Compare') await findEndings(isOld);
+  if (isOld()) return;
+  const { words, by, input } = VIEWS[name], asked = words();
+  $('words').textContent = asked.length ? `ppsim ${asked.map(it => (/[^\w:,.-]/.test(it) ? `'${it}'` : it)).join(' ')}` : '';
+  if (name === 'Help') return paintParts(name, helpParts);
+  if (name === 'Compare') return compare(isOld);
+  const answer = await ask(asked, by, input?.());
+  if (!isOld()) await paint(name, answer, isOld);
+}
+
+/** The endings, if they are known, else found now. */
+async function findEndings(/** @type {() => boolean} */ isOld) {
+  const { status, output } = await ask(VIEWS.Endings.words(), back);
+  if (!isOld()) endings = status === 0 ? endingsOf(output) : [];
+}
+
+function showFaults(/** @type {Answer} */ picture, /** @type {Answer} */ { output }) {
+  const found = [...output.matchAll(/^(\d+):\d+ .*$/gm)].map(([words, line]) => ({ line: Number(line), words }));
+  const words = found.map(it => it.words), more = words.length - MOST_FOUND;
+  markLines('deck', found);
+  if (more > 0) words.splice(MOST_FOUND, more, `and ${more} more`);
+  $('fault').textContent = picture.status < 1 || found.length ? words.join('\n') : faultOf(picture);
+}
+
+/** @type {Record<string, string>} */
+const numbered = {};
+/** Numbers the lines of an editor, and marks those at which something is found. */
+function markLines(/** @type {string} */ id, /** @type {{ line: number, words: string }[]} */ found) {
+  const count = $(id).value.split('\n').length, key = JSON.stringify([count, found]);
+  if (numbered[id] === key) return;
+  numbered[id] = key;
+  const parts = [];
+  let from = 1;
+  const plain = (/** @type {number} */ to) => Array.from({ length: to - from }, (_, n) => `${from + n}\n`);
+  const rows = count > MOST_LIT ? null : [...Array(count).keys()];
+  for (const { line, words } of rows ? [] : found) {
+    parts.push(plain(line).join(''), make('b', { textContent: `${line}\n`, title: words }));
+    from = line + 1;
+  }
+  if (!rows) parts.push(plain(count + 1).join(''));
+  const titles = new Map(found.map(it => [it.line - 1, it.words]));
+  $(`${id}-numbers`).replaceChildren(...rows?.map(n => make(titles.has(n) ? 'b' : 'span',
+    { textContent: `${n + 1}\n`, title: titles.get(n) ?? '' })) ?? parts);
+  $(id).classList.toggle('faulty', found.length > 0);
+  $(id).style.setProperty('--line', `${(found[0]?.line ?? 0) - 1}`);
+  $(`${id}-numbers`).scrollTop = $(id).scrollTop;
+}
+
+// ---- the places of a deck's lines
+
+/** @type {{ text: string, lines: Map<string, number> }} */
+let placed = { text: '', lines: new Map() };
+/** For each place that a deck sets, as `00 0100`, the line that sets it. */
+function linesOfPlaces() {
+  const text = $('deck').value;
+  if (placed.text === text) return placed.lines;
+  const lines = new Map();
+  let section = '';
+  for (const [n, line] of text.split('\n').entries()) {
+    const [first = '', ...words] = line.replace(/(^|\s)\*.*/, '').trim().split(/\s+/);
+    if (first === 'PP') section = (words[0] ?? '').padStart(2, '0');
+    else if (/^[0-7]{1,4}$/.test(first)) {
+      words.forEach((_, at) => lines.set(`${section} ${octal(parseInt(first, 8) + at, 4)}`, n));
+    }
+  }
+  placed = { text, lines };
+  return lines;
+}
+
+/** Lights the numbers of the lines at which processors stand. */
+function lightLines() {
+  const rows = $('deck-numbers').children, places = rows.length > MOST_LIT ? new Map() : linesOfPlaces();
+  const lit = new Map();
+  for (const [name, { place, line }] of standing) {
+    const at = places.get(`${name} ${place}`);
+    if (at !== undefined && line.includes(' RUNNING ')) lit.set(at, [...lit.get(at) ?? [], line]);
+  }
+  for (let n = 0; n < rows.length && rows.length <= MOST_LIT; n++) {
+    const words = lit.get(n)?.join('\n');
+    rows[n].classList.toggle('lit', !!words);
+    if (words && rows[n].localName !== 'b') rows[n].title = words;
+  }
+}
+
+/** A click on the number of a line goes to where its first word comes to run. */
+function runToLine(/** @type {MouseEvent} */ e) {
+  const row = [...$('deck-numbers').children].indexOf(/** @type {Element} */ (e.target));
+  const found = [...linesOfPlaces()].find(([, line]) => line === row);
+  if (found && row >= 0) runTo(`PP${found[0].slice(0, 2)} P=${found[0].slice(3)}`);
+}
+
+// ---- help
+
+function helpParts() {
+  return HELP.map(({ title, rows }) => make('section', {}, make('h2', { textContent: title }),
+    make('table', {}, ...rows.map((row, n) => make('tr', {},
+      ...row.map(it => make(n ? 'td' : 'th', { textContent: it })))))));
+}
+
+// ---- what a reader does
+/** The deck, the machine or the length of the run has changed. */
+function renew() {
+  deck = bytesOf($('deck').value);
+  forget();
+  drawn = null;
+  endings = [];
+  for (const it of [front, back]) if (it.worksFor() > 0) it.stop();
+  const pp = $('pp'), names = numbers().map(it => it.toString(8)), old = pp.dataset.wanted ?? pp.value;
+  pp.replaceChildren(...names.map(it => make('option', { textContent: it })));
+  pp.value = names.includes(old) ? old : '0';
+  delete pp.dataset.wanted;
+  if (list.some(it => !numbers().includes(it))) list = [];
+  say('');
+  showSoon();
+}
+
+/** Takes the length of the run, or says what it may be. */
+function takeLast() {
+  const wanted = Number($('last').value), isNumber = $('last').value !== '' && $('last').validity.valid;
+  $('last').ariaInvalid = `${!isNumber}`;
+  if (!isNumber) return say('Turns are a whole number from 0 to 999999 (decimal).');
+  const wasAtEnd = turn() === last(), rest = restTurn();
+  setLast(wanted);
+  if (wasAtEnd) $('turn').value = rest >= 0 ? Math.min(rest, wanted) : wanted;
+  say('');
+  showSoon();
+}
+
+async function takeEvents() {
+  const { status, output } = await ask(overRun('barrel', last()), back);
+  $('trace').value = status === 0 ? output : '';
+  showSoon();
+}
+
+function choose(/** @type {string} */ name) {
+  $('views').elements.view.value = name;
+  changeView();
+}
+
+function changeView() {
+  if (view() === 'Check' && !$('trace').value) takeEvents();
+  else showSoon();
+}
+
+function press(/** @type {any} */ e) {
+  const sideways = /** @type {Record<string, number>} */ ({ ArrowLeft: -1, ArrowRight: 1 })[e.key];
+  const isTyping = e.target.matches('textarea, select, input:not([type=range]):not([type=radio])');
+  if (isTyping || e.ctrlKey || e.altKey || e.metaKey) return;
+  const digit = /^(?:Digit|Numpad)(\d)$/.exec(e.code)?.[1];
+  if (sideways && e.target.matches('[type=radio]')) return;
+  if (sideways) go(turn() + sideways * (e.shiftKey ? processors() : 1));
+  else if (digit) stepBy(Number(digit) + (e.shiftKey ? 16 : 0));
+  else if (e.key === 'Home') go(0);
+  else if (e.key === 'End') go(last());
+  else if (e.key === ' ' && !e.target.matches('button')) play();
+  else return;
+  e.preventDefault();
+}
+
+function preparePrint() {
+  $('paper').textContent = $('deck').value;
+  $('drawing').scrollLeft = 0;
+}
+
+async function begin() {
+  library = await WebAssembly.compile(/** @type {any} */ (Uint8Array).fromBase64(MODULE));
+  front.start();
+  back.start();
+  $('picture').attachShadow({ mode: 'open' });
+  for (const { title, names } of GROUPS) {
+    $('example').append(make('optgroup', { label: title }, ...names.map(it => make('option',
+      { value: it, textContent: it, title: EXAMPLES[it].title }))));
+  }
+  readStored();
+  recall(true);
+  const clicks = { play, save: saveFile, take: takeEvents, open: () => $('file').click(), copy: copyOrder,
+    load: () => go(0), back: () => go(turn() - 1), turnOn: () => go(turn() + 1),
+    roundOn: () => go(turn() + processors()), run: () => runTo($('target').value.trim()),
+    stop: () => { for (const it of [front, back]) if (it.worksFor() > 0) it.stop(); } };
+  for (const [id, does] of Object.entries(clicks)) $(id).onclick = does;
+  $('file').onchange = () => openFile($('file').files[0]);
+  $('example').onchange = () => {
+    const choice = $('example').value, it = own.find(it => OWN + it.id === choice) ?? EXAMPLES[choice];
+    load(choice, it);
+  };
+  $('last').onchange = takeLast;
+  $('order').onchange = typeOrder;
+  $('target').onkeydown = (/** @type {KeyboardEvent} */ e) => {
+    if (e.key !== 'Enter') return;
+    e.preventDefault();
+    $('run').click();
+  };
+  $('views').onsubmit = (/** @type {Event} */ e) => e.preventDefault();
+  $('views').onchange = changeView;
+  $('views').onclick = (/** @type {PointerEvent} */ e) => {
+    if (e.pointerType && /** @type {Element} */ (e.target).matches('[type=radio]')) $('text').focus({ preventScroll: true });
+  };
+  $('deck').oninput = edited;
+  $('processors').oninput = renew;
+  $('deck-numbers').onclick = runToLine;
+  $('turn').oninput = $('trace').oninput = $('opened').oninput = showSoon;
+  for (const id of ['deck', 'trace']) {
+    $(id).onscroll = () => { $(`${id}-numbers`).scrollTop = $(id).scrollTop; };
+  }
+  $('drawing').onscroll = keepNames;
+  $('drawing').onpointerdown = $('drawing').onpointermove = drag;
+  Object.assign(window, { onkeydown: press, onhashchange: () => recall(false), onbeforeprint: preparePrint });
+  window.ondragover = window.ondrop = e => {
+    e.preventDefault();
+    if (e.dataTransfer) openFile(e.dataTransfer.files[0]);
+  };
+  window.onpagehide = keepMine;
+}
+
+begin().catch(e => { $('text').textContent = `This page needs a browser of late 2025: ${e}`; });
