@@ -50,24 +50,29 @@ async function copyOrder() {
     () => { $('order').select(); say('Copy the order marked now.'); });
 }
 
-/** Goes to after the next step that meets a condition. */
+/** Goes to after the next step that meets a condition, or else to the first one of the run. */
 async function runTo(/** @type {string} */ condition) {
-  const from = turn(), asked = deck, rest = restTurn();
+  const start = turn(), asked = deck;
   $('target').value = condition;
   if (!condition) return say('Say where to: CH05 for an event of channel 5, PP00 P=0105 for a place.');
-  for (const more of [1000, 10000, 100000, LAST_TURN]) {
-    const to = Math.min(LAST_TURN, from + more);
-    const words = overRun('steps', to, '--from', `${from}`, '--where', condition);
-    const answer = await ask(words, back), at = parseInt(answer.output, 10);
-    if (deck !== asked || turn() !== from) return;
-    if (answer.status !== 0) return say(faultOf(answer));
-    if (at >= 0) {
-      go(at + 1);
-      return say(`${condition}: after turn ${at}`);
+  const find = async (/** @type {number} */ from, /** @type {number} */ end) => {
+    for (let more = 1000; ; more *= 10) {
+      const to = Math.min(end, from + more), rest = restTurn();
+      const answer = await ask(overRun('steps', to, '--from', `${from}`, '--where', condition), back);
+      const at = parseInt(answer.output, 10), isAtRest = rest >= 0 && rest < to;
+      if (answer.status !== 0 || at >= 0 || to === end || isAtRest) return { answer, at };
     }
-    if (to === LAST_TURN || (rest >= 0 && rest < to)) break;
+  };
+  let { answer, at } = await find(start, LAST_TURN), where = '';
+  if (answer.status === 0 && !(at >= 0) && start > 0) {
+    ({ answer, at } = await find(0, start));
+    where = ', the first of the run';
   }
-  say(`${condition} does not come after turn ${from}.`);
+  if (deck !== asked || turn() !== start) return;
+  if (answer.status !== 0) return say(faultOf(answer));
+  const isAtLoad = !(at >= 0) && (await ask(overRun('state', 0))).output.includes(`${condition} `);
+  if (at >= 0 || isAtLoad) go(isAtLoad ? 0 : at + 1);
+  say(isAtLoad ? `${condition}: at the load.` : at >= 0 ? `${condition}: after turn ${at}${where}.` : `${condition} does not come.`);
 }
 
 async function play() {

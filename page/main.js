@@ -91,7 +91,7 @@ function linesOfPlaces() {
     const [first = '', ...words] = line.replace(/(^|\s)\*.*/, '').trim().split(/\s+/);
     if (first === 'PP') section = (words[0] ?? '').padStart(2, '0');
     else if (/^[0-7]{1,4}$/.test(first)) {
-      words.forEach((_, at) => lines.set(`${section} ${octal(parseInt(first, 8) + at, 4)}`, n));
+      for (const at of words.keys()) lines.set(`${section} ${octal(parseInt(first, 8) + at, 4)}`, n);
     }
   }
   placed = { text, lines };
@@ -194,8 +194,9 @@ function preparePrint() {
 }
 
 async function begin() {
-  library = await WebAssembly.compile(/** @type {any} */ (Uint8Array).fromBase64(MODULE));
   front.start();
+  library = await WebAssembly.compile(/** @type {any} */ (Uint8Array).fromBase64(MODULE));
+  front.give();
   back.start();
   $('picture').attachShadow({ mode: 'open' });
   for (const { title, names } of GROUPS) {

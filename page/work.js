@@ -37,9 +37,10 @@ function engine() {
     later.splice(0).forEach(it => it());
     showWork();
   };
+  const give = () => worker.postMessage({ module: library });
   const start = () => {
     worker = new Worker(source ||= URL.createObjectURL(new Blob([WORKER], { type: 'text/javascript' })));
-    worker.postMessage({ module: library });
+    if (library) give();
     worker.onmessage = ({ data: { id, ...answer } }) => {
       waiting.get(id)?.(answer);
       waiting.delete(id);
@@ -55,7 +56,7 @@ function engine() {
     rest();
   };
   return {
-    start, stop,
+    start, give, stop,
     /** @type {(words: string[], input: Uint8Array) => Promise<Answer>} */
     run: (words, input) => new Promise(answered => {
       if (!waiting.size) [since, sign] = [performance.now(), setTimeout(showWork, SIGN_AFTER)];
