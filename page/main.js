@@ -230,7 +230,8 @@ async function begin() {
   $('deck').oninput = edited;
   $('processors').oninput = renew;
   $('deck-numbers').onclick = runToLine;
-  $('turn').oninput = $('trace').oninput = $('opened').oninput = showSoon;
+  for (const id of ['turn', 'trace', 'opened']) $(id).oninput = showSoon;
+  for (const id of ['pp', 'states', 'left', 'right']) $(id).onchange = showSoon;
   for (const id of ['deck', 'trace']) {
     $(id).onscroll = () => { $(`${id}-numbers`).scrollTop = $(id).scrollTop; };
   }
