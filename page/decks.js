@@ -140,7 +140,7 @@ function remember() {
   const whose = !it ? { example: chosen } : isLong ? { kept: it.id } : { deck: text };
   const words = new URLSearchParams({ ...whose, processors: `${run.processors}`, turns: `${run.turns}`,
     turn: `${run.turn}`, ...(order && (!isLong || !it) && order.length <= MOST_IN_ADDRESS && { order }),
-    view: view(), ...(opened && { opened }), ...(view() === 'Memory' && { pp: $('pp').value }),
+    view: view(), ...(opened && { opened }), ...($('pp').value !== '0' && { pp: $('pp').value }),
     ...(view() === 'Endings' && { states: $('states').value }) });
   history.replaceState(null, '', isLong && it && !isInStorage ? '#' : `#${words}`);
   $('kept').textContent = !isLong ? '' : !it ? 'The order is too long for the address: copy it.'

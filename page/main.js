@@ -1,7 +1,7 @@
 // ---- showing
 
 const MOST_FOUND = 5, MOST_LIT = 2000; // findings in words; lines of a deck in which steps are lit
-let shows = 0, frame = 0;
+let shows = 0, frame = 0, shownView = '';
 
 /** Shows all of it, once the worker is free; what has been at work for long is not waited for. */
 function showSoon() {
@@ -35,8 +35,11 @@ async function show() {
   $('words').textContent = asked.length ? `ppsim ${asked.map(it => (/[^\w:,.-]/.test(it) ? `'${it}'` : it)).join(' ')}` : '';
   if (name === 'Help') return paintParts(name, helpParts);
   if (name === 'Compare') return compare(isOld);
+  const sign = setTimeout(() => { if (!isOld() && shownView !== name) paintParts('', () => ['at work…']); }, SIGN_AFTER);
   const answer = await ask(asked, by, input?.());
+  clearTimeout(sign);
   if (!isOld()) await paint(name, answer, isOld);
+  shownView = name;
 }
 
 /** The endings, if they are known, else found now. */

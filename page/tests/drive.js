@@ -238,7 +238,7 @@ async function moving() {
   await becomes('an instruction leads to the turn at which its processor stands there',
     `$('ran').textContent === 'PP00 P=0103: after turn 20, the first of the run.' && turn() === 21`);
   await click('#deck-numbers span:nth-child(11)');
-  await becomes('so does the number of its line', `turn() === 42 && $('target').value === 'PP01 P=0103'`);
+  await becomes('so does the number of its line', `turn() === 32 && $('target').value === 'PP01 P=0103'`);
   expect('lines that run are lit', await value(
     `$('deck-numbers').children[10].classList.contains('lit')`));
   await pause(500);
@@ -249,7 +249,7 @@ async function moving() {
   await click('#views label:nth-of-type(1)');
   await becomes('a click chooses a view', `view() === 'State'`);
   await press('ArrowRight');
-  await becomes('after it the keys still move the turn', `turn() === 43 && view() === 'State'`);
+  await becomes('after it the keys still move the turn', `turn() === 33 && view() === 'State'`);
 }
 
 async function lists() {
