@@ -81,7 +81,7 @@ async function show(words = {}, width = 1400, height = 900, scheme = 'light') {
   await send('Emulation.setEmulatedMedia', { features });
   await send('Page.navigate', { url: 'about:blank' });
   await send('Page.navigate', { url: `${url}#${new URLSearchParams(words)}` });
-  for (let n = 0; n < 300; n++) {
+  for (let n = 0; n < 1000; n++) {
     const shown = `typeof $ === 'function' && !!$('text')?.textContent`;
     if (await value(shown).catch(() => false)) return;
     await pause(10);
@@ -117,7 +117,7 @@ async function reload() {
   await pause(500);
   await send('Page.reload');
   await pause(100);
-  for (let n = 0; n < 300; n++) {
+  for (let n = 0; n < 1000; n++) {
     if (await value(`typeof $ === 'function' && !!$('text')?.textContent`).catch(() => false)) return;
     await pause(10);
   }
@@ -424,8 +424,8 @@ async function edits() {
 
 /** Work that takes long can be stopped, and the page is not held up. */
 async function work() {
-  await show({ example: 'poll_loop', view: 'Endings', states: 9999999 });
-  await value(`$('states').value = 9999999; showSoon()`);
+  await show({ example: 'poll_loop', view: 'Endings', states: 20000 });
+  await value(`$('states').value = 20001; showSoon()`);
   await becomes('long work is said to go on', `!$('busy').hidden`);
   await press('ArrowLeft');
   await becomes('the page goes on beside it', `turn() === 399 && standing.get('00')?.line.includes('STOPPED')`);
