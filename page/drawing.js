@@ -13,7 +13,7 @@ function drawingWords() {
 /** Shows a drawing. Over a faulty deck the last one stays. */
 function draw(/** @type {string[]} */ words, /** @type {Answer} */ answer) {
   const { status, output } = answer, root = $('picture').shadowRoot;
-  $('drawing').classList.toggle('old', status !== 0);
+  if (status >= 0) $('drawing').classList.toggle('old', status !== 0);
   if (status !== 0 || drawn?.answer === answer) return moveCursor();
   // The one text that is read as markup: it is proved well-formed, and has no text of a deck in it.
   const [element, style] = /** @type {RegExpExecArray} */ (/<style>(.*?)<\/style>/s.exec(output));

@@ -16,44 +16,35 @@ function showSoon() {
 }
 
 async function show() {
-  const it = ++shows, isOld = () => it !== shows, name = view(), drawing = drawingWords();
+  const it = ++shows, isOld = () => it !== shows, name = view(), { words, by, input } = VIEWS[name];
   clearTimeout(saving);
-  const [picture, lint, state] = await Promise.all(
-    [drawing, ['lint', ...machineWords()], overRun('state', turn())].map(words => ask(words)));
+  const [state, lint] = await Promise.all([overRun('state', turn()), ['lint', ...machineWords()]].map(it => ask(it)));
   if (isOld()) return;
-  showFaults(picture, lint);
-  draw(drawing, picture);
   showHand(state);
+  showFaults(state, lint);
   lightLines();
   for (const box of document.querySelectorAll('[data-of]')) {
     /** @type {HTMLElement} */ (box).hidden = /** @type {HTMLElement} */ (box).dataset.of !== name;
   }
   saving = setTimeout(() => { remember(); noteEnd(); }, 300);
-  if (name === 'Compare') await findEndings(isOld);
-  if (isOld()) return;
-  const { words, by, input } = VIEWS[name], asked = words();
-  $('words').textContent = asked.length ? `ppsim ${asked.map(it => (/[^\w:,.-]/.test(it) ? `'${it}'` : it)).join(' ')}` : '';
-  if (name === 'Help') return paintParts(name, helpParts);
-  if (name === 'Compare') return compare(isOld);
-  const sign = setTimeout(() => { if (!isOld() && shownView !== name) paintParts('', () => ['at work…']); }, SIGN_AFTER);
-  const answer = await ask(asked, by, input?.());
+  const asked = words(), quoted = asked.map(it => (/[^\w:,.-]/.test(it) ? `'${it}'` : it));
+  $('words').textContent = asked.length ? `ppsim ${quoted.join(' ')}` : '';
+  const answer = asked.length && name !== 'Compare' ? ask(asked, by, input?.()) : null, drawing = drawingWords();
+  ask(drawing).then(picture => { if (!isOld()) draw(drawing, picture); });
+  const sign = setTimeout(() => { if (!isOld() && shownView !== name) paintParts('work', () => ['at work…']); }, SIGN_AFTER);
+  if (answer) await paint(name, await answer, isOld);
+  else if (name === 'Compare') await compare(isOld);
+  else paintParts(name, helpParts);
   clearTimeout(sign);
-  if (!isOld()) await paint(name, answer, isOld);
   shownView = name;
 }
 
-/** The endings, if they are known, else found now. */
-async function findEndings(/** @type {() => boolean} */ isOld) {
-  const { status, output } = await ask(VIEWS.Endings.words(), back);
-  if (!isOld()) endings = status === 0 ? endingsOf(output) : [];
-}
-
-function showFaults(/** @type {Answer} */ picture, /** @type {Answer} */ { output }) {
+function showFaults(/** @type {Answer} */ state, /** @type {Answer} */ { output }) {
   const found = [...output.matchAll(/^(\d+):\d+ .*$/gm)].map(([words, line]) => ({ line: Number(line), words }));
   const words = found.map(it => it.words), more = words.length - MOST_FOUND;
   markLines('deck', found);
   if (more > 0) words.splice(MOST_FOUND, more, `and ${more} more`);
-  $('fault').textContent = picture.status < 1 || found.length ? words.join('\n') : faultOf(picture);
+  $('fault').textContent = state.status < 1 || found.length ? words.join('\n') : faultOf(state);
 }
 
 /** @type {Record<string, string>} */
@@ -245,7 +236,7 @@ async function begin() {
     e.preventDefault();
     if (e.dataTransfer) openFile(e.dataTransfer.files[0]);
   };
-  window.onpagehide = keepMine;
+  window.onpagehide = remember;
 }
 
 begin().catch(e => { $('text').textContent = `This page needs a browser of late 2025: ${e}`; });

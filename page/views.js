@@ -142,6 +142,7 @@ function paintParts(/** @type {string} */ key, /** @type {() => (Node | string)[
 async function paint(/** @type {string} */ name, /** @type {Answer} */ answer, /** @type {() => boolean} */ isOld) {
   const { status, output } = answer, isWritten = status === 0;
   const lined = /^line (\d+)/.exec(faultOf(answer));
+  if (isOld()) return;
   if (name === 'Check') markLines('trace', lined ? [{ line: Number(lined[1]), words: faultOf(answer) }] : []);
   $('text').classList.toggle('bad', !isWritten);
   if (!isWritten) return paintParts(`fault ${faultOf(answer)}`, () => [faultOf(answer)]);
@@ -152,7 +153,7 @@ async function paint(/** @type {string} */ name, /** @type {Answer} */ answer, /
   const earlier = overRun(words[0], at, ...(name === 'Memory' ? words.slice(3, 5) : []));
   const before = at < 0 ? answer : await ask(earlier);
   if (isOld()) return;
-  paintParts(`${name} ${before.output} ${output}`, () => marked(output, before.output));
+  paintParts(`${name} ${before.output} ${output}`, () => (output ? marked(output, before.output) : ['All words are 0.']));
 }
 
 /** What is shown where no step was made in the turns round the cursor. */
@@ -183,6 +184,9 @@ function sideWords(/** @type {'left' | 'right'} */ id) {
 }
 
 async function compare(/** @type {() => boolean} */ isOld) {
+  const found = await ask(VIEWS.Endings.words(), back);
+  if (isOld()) return;
+  endings = found.status === 0 ? endingsOf(found.output) : [];
   const names = Object.keys(sides());
   for (const id of ['left', 'right']) {
     const old = $(id).value || $(id).dataset.wanted;

@@ -405,8 +405,9 @@ async function edits() {
   await press('KeyZ', 0, 2);
   await becomes('undo brings it back too', `$('deck').value.startsWith('* mine')
     && $('example').value === ${JSON.stringify(mine)}`);
+  await becomes('the address follows', `location.hash.startsWith('#deck=')`);
   await reload();
-  await becomes('so does the address', `$('deck').value.startsWith('* mine')`);
+  await becomes('and has it after a reload', `$('deck').value.startsWith('* mine')`);
   const long = `${'* long\n'.repeat(8000)}PP 0\n0100 0300\nSTART 0100\n`;
   await write('deck', long);
   await becomes('what is too long for the address is said to be', `$('kept').textContent.startsWith('Too long')`);
