@@ -122,7 +122,7 @@ function showHand(/** @type {Answer} */ { status, output }) {
     $('order').value = orderText(list, length);
     $('order').ariaInvalid = 'false';
   }
-  $('then').textContent = turns ? `then ${turns} by turns` : after ? `${after} more after the cursor` : '';
+  $('then').textContent = turns ? `then ${turns} turns` : after ? `${after} more after the cursor` : '';
 }
 
 /** The key that makes a step of a processor: 8 and 9 are 10 and 11, with shift the further ten. */

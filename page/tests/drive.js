@@ -303,7 +303,7 @@ async function hand() {
     && $('then').textContent === '' && list.length === 4`);
   await click('#turnOn');
   await click('#roundOn');
-  await becomes('turns come after them', `turn() === 15 && $('then').textContent === 'then 11 by turns'`);
+  await becomes('turns come after them', `turn() === 15 && $('then').textContent === 'then 11 turns'`);
   await press('Digit2');
   await becomes('a step after turns is of this run', `turn() === 16
     && $('order').value === '0:3,1,0,1,2,3,4,5,6,7,10,11,0,2'`);
@@ -434,6 +434,28 @@ async function work() {
   await becomes('it can be stopped', `$('busy').hidden && $('text').textContent === 'stopped'`);
 }
 
+/** Every width and kind of screen, and paper. */
+async function screens() {
+  for (const [width, height] of [[1280, 720], [1090, 800], [1024, 768], [820, 1180], [844, 390], [360, 780]]) {
+    await show({ example: 'token_ring', turn: 150, view: 'Steps' }, width, height);
+    await becomes(`the steps are shown at ${width}`, `$('text').textContent.includes('PP00')`);
+    expect(`nothing is wider than ${width}`, await value(`document.documentElement.scrollWidth <= innerWidth
+      && $('views').querySelector('label:last-child').getBoundingClientRect().right <= innerWidth`));
+    await picture(`width-${width}`);
+  }
+  await show({ example: 'lost_word', view: 'State' });
+  const { data } = await send('Page.printToPDF', { printBackground: true });
+  const paper = Buffer.from(data, 'base64');
+  if (pictures) fs.writeFileSync(path.join(pictures, 'paper.pdf'), paper);
+  expect('it is printed on one page', paper.toString('latin1').match(/\/Type\s*\/Page\b/g).length === 1);
+  await send('Emulation.setEmulatedMedia', { features: [{ name: 'forced-colors', value: 'active' }] });
+  await choose('Listing');
+  await becomes('with forced colours the chosen view can be told', `getComputedStyle(
+    document.querySelector('#views label:has(:checked)')).borderBottomWidth === '3px'
+    && getComputedStyle(document.querySelector('#views label')).borderBottomWidth === '0px'`);
+  await picture('forced');
+}
+
 async function names() {
   await show();
   const { nodes } = await send('Accessibility.getFullAXTree');
@@ -468,7 +490,7 @@ async function frames() {
 
 async function main() {
   await connect();
-  const all = { first, views, faults, moving, lists, hand, endings, decks, edits, work, names, frames };
+  const all = { first, views, faults, moving, lists, hand, endings, decks, edits, work, screens, names, frames };
   for (const [name, part] of Object.entries(all)) if (!only || only.split(',').includes(name)) await part();
   await show({ example: 'token_ring', turn: 150, view: 'Steps' }, 1400, 900, 'dark');
   await picture('dark');
