@@ -42,8 +42,7 @@ function moveCursor() {
 }
 
 /** Keeps the legend and the names of the lanes in sight. */
-function keepNames() {
-  const x = $('drawing').scrollLeft;
+function keepNames(x = $('drawing').scrollLeft) {
   for (const name of drawn?.names ?? []) name.setAttribute('x', `${x - 72}`);
   drawn?.legend.setAttribute('transform', `translate(${x + 8},8)`);
 }

@@ -2,4 +2,3 @@
 declare const MODULE: string, WORKER: string;
 declare const EXAMPLES: Record<string, { deck: string, processors: number, turns: number, title: string }>;
 declare const GROUPS: { title: string, names: string[] }[];
-declare const HELP: { title: string, rows: string[][] }[];

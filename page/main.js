@@ -34,7 +34,7 @@ async function show() {
   const sign = setTimeout(() => { if (!isOld() && shownView !== name) paintParts('work', () => ['at work…']); }, SIGN_AFTER);
   if (answer) await paint(name, await answer, isOld);
   else if (name === 'Compare') await compare(isOld);
-  else paintParts(name, helpParts);
+  else paintParts(name, () => [$('help').content.cloneNode(true)]);
   clearTimeout(sign);
   shownView = name;
 }
@@ -114,14 +114,6 @@ function runToLine(/** @type {MouseEvent} */ e) {
   if (found && row >= 0) runTo(`PP${found[0].slice(0, 2)} P=${found[0].slice(3)}`);
 }
 
-// ---- help
-
-function helpParts() {
-  return HELP.map(({ title, rows }) => make('section', {}, make('h2', { textContent: title }),
-    make('table', {}, ...rows.map((row, n) => make('tr', {},
-      ...row.map(it => make(n ? 'td' : 'th', { textContent: it })))))));
-}
-
 // ---- what a reader does
 /** The deck, the machine or the length of the run has changed. */
 function renew() {
@@ -184,7 +176,7 @@ function press(/** @type {any} */ e) {
 
 function preparePrint() {
   $('paper').textContent = $('deck').value;
-  $('drawing').scrollLeft = 0;
+  keepNames(0);
 }
 
 async function begin() {
@@ -229,7 +221,7 @@ async function begin() {
   for (const id of ['deck', 'trace']) {
     $(id).onscroll = () => { $(`${id}-numbers`).scrollTop = $(id).scrollTop; };
   }
-  $('drawing').onscroll = keepNames;
+  $('drawing').onscroll = window.onafterprint = () => keepNames();
   $('drawing').onpointerdown = $('drawing').onpointermove = drag;
   Object.assign(window, { onkeydown: press, onhashchange: () => recall(false), onbeforeprint: preparePrint });
   window.ondragover = window.ondrop = e => {
