@@ -121,7 +121,7 @@ function renew() {
   forget();
   drawn = null;
   endings = [];
-  for (const it of [front, back]) if (it.worksFor() > 0) it.stop();
+  for (const it of [front, back]) if (it.worksFor() > PATIENCE) it.stop();
   const pp = $('pp'), names = numbers().map(it => it.toString(8)), old = pp.dataset.wanted ?? pp.value;
   pp.replaceChildren(...names.map(it => make('option', { textContent: it })));
   pp.value = names.includes(old) ? old : '0';

@@ -1,7 +1,6 @@
 // ---- the views of a run, and their texts
 
 const MOST_ROWS = 2000, ROWS_BEFORE = 500, STEPS_SHOWN = 600;
-const LAST_PLACE = '7777';
 /** A view: the words of its command, its worker if it is of the whole run, and the turn of a line.
  * @typedef {{ words: () => string[], by?: typeof back, turnOf?: RegExp, input?: () => Uint8Array }} View */
 
