@@ -23,6 +23,7 @@ async function show() {
   showHand(state);
   showFaults(state, lint);
   lightLines();
+  decode();
   for (const box of document.querySelectorAll('[data-of]')) {
     /** @type {HTMLElement} */ (box).hidden = /** @type {HTMLElement} */ (box).dataset.of !== name;
   }
@@ -105,6 +106,19 @@ function lightLines() {
     rows[n].classList.toggle('lit', !!words);
     if (words && rows[n].localName !== 'b') rows[n].title = words;
   }
+}
+
+/** Says which instructions the line with the caret has, as listed. */
+async function decode() {
+  const { output } = await ask(['list', ...machineWords()]), editor = $('deck'), found = [];
+  const line = editor.value.slice(0, editor.selectionStart).split('\n').length - 1;
+  let section = '';
+  for (const it of $('deck-numbers').children.length > MOST_LIT ? [] : output.split('\n')) {
+    section = /^PP (\d+)/.exec(it)?.[1].padStart(2, '0') ?? section;
+    const [, place, said] = /^(\d{4}) .*\* (.*)/.exec(it) ?? [];
+    if (place && linesOfPlaces().get(`${section} ${place}`) === line) found.push(said);
+  }
+  $('decoded').textContent = found.length ? `line ${line + 1}: ${found.join('; ')}` : '';
 }
 
 /** A click on the number of a line goes to where its first word comes to run. */
@@ -191,7 +205,7 @@ async function begin() {
   }
   readStored();
   recall(true);
-  const clicks = { play, save: saveFile, take: takeEvents, open: () => $('file').click(), copy: copyOrder,
+  const clicks = { play, skip: () => $('text').focus(), save: saveFile, take: takeEvents, open: () => $('file').click(), copy: copyOrder,
     load: () => go(0), back: () => go(turn() - 1), turnOn: () => go(turn() + 1),
     roundOn: () => go(turn() + processors()), run: () => runTo($('target').value.trim()),
     stop: () => { for (const it of [front, back]) if (it.worksFor() > 0) it.stop(); } };
@@ -229,6 +243,7 @@ async function begin() {
     if (e.dataTransfer) openFile(e.dataTransfer.files[0]);
   };
   window.onpagehide = remember;
+  document.onselectionchange = () => { if (document.activeElement === $('deck')) decode(); };
 }
 
 begin().catch(e => { $('text').textContent = `This page needs a browser of late 2025: ${e}`; });

@@ -175,11 +175,8 @@ function sides() {
 }
 
 function sideWords(/** @type {'left' | 'right'} */ id) {
-  const { turns, order } = sides()[$(id).value] ?? sides()['this moment'], kept = list;
-  list = order;
-  const words = overRun('state', turns);
-  list = kept;
-  return words;
+  const { turns, order } = sides()[$(id).value] ?? sides()['this moment'];
+  return wordsOver(order, 'state', turns);
 }
 
 async function compare(/** @type {() => boolean} */ isOld) {

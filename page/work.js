@@ -99,7 +99,7 @@ function forget() {
 // ---- machines and orders
 const processors = () => Number($('processors').value);
 /** The numbers of the machine's processors. */
-const numbers = (of = processors()) => [...Array(of).keys()].map(n => (n < 10 ? n : n + 6));
+const numbers = () => [...Array(processors()).keys()].map(n => (n < 10 ? n : n + 6));
 /** The processor that makes the step after this many. */
 const stepper = (/** @type {number} */ t) => list[t] ?? numbers()[(t - list.length) % processors()];
 const octal = (/** @type {number} */ n, digits = 2) => n.toString(8).padStart(digits, '0');
@@ -128,8 +128,13 @@ function orderOf(/** @type {string} */ text) {
 
 const machineWords = () => (processors() === 20 ? ['--processors', '20'] : []);
 
-/** The words of a command over the run of so many turns. */
-function overRun(/** @type {string} */ name, /** @type {number} */ turns, /** @type {string[]} */ ...more) {
-  const order = orderText(list, turns);
+/** The words of a command over so many turns of the run with this list. */
+function wordsOver(/** @type {number[]} */ steps, /** @type {string} */ name, /** @type {number} */ turns,
+  /** @type {string[]} */ ...more) {
+  const order = orderText(steps, turns);
   return [name, '--turns', `${turns}`, ...more, ...(order ? ['--order', order] : []), ...machineWords()];
 }
+
+/** Those over the run shown. */
+const overRun = (/** @type {string} */ name, /** @type {number} */ turns, /** @type {string[]} */ ...more) =>
+  wordsOver(list, name, turns, ...more);

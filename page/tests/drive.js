@@ -395,6 +395,9 @@ async function edits() {
   await value(`$('deck').focus(); $('deck').setSelectionRange(0, 0)`);
   await type('* mine\n');
   await becomes('an edited example is a deck of one\'s own', `${chosen}.startsWith('a deck of your own')`);
+  await value(`$('deck').setSelectionRange(60, 60); $('deck').selectionStart = $('deck').value.indexOf('0100')`);
+  await becomes('the line with the caret is decoded', `$('decoded').textContent
+    === 'line 4: ACN 05; LDN 07; OAN 05; UJN 0103'`);
   const mine = await value(`$('example').value`);
   await pick('example', 'lost_word');
   await becomes('an example opened over it', `$('deck').value === EXAMPLES.lost_word.deck`);
