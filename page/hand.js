@@ -4,7 +4,7 @@
 /** @type {Map<string, { place: string, line: string }>} */
 const standing = new Map();
 /** How the run by turns ends, once it is known, and of which deck.
- * @type {{ deck: Uint8Array, of: number, line: string } | null} */
+ * @type {{ deck: Uint8Array, line: string } | null} */
 let ending = null;
 let timer = 0;
 
@@ -130,16 +130,19 @@ const keyOf = (/** @type {number} */ number) => (number < 10 ? `${number}` : `Sh
 
 // ---- how the run ends
 
-/** Finds how the run by turns ends, and says whether the run shown is cut before that. */
+/** Finds how the run by turns ends. */
+async function findEnding() {
+  const asked = deck, { status, output } = await ask(VIEWS.Ends.words(), back);
+  if (deck !== asked || status < 0) return;
+  const isNew = ending?.deck !== deck;
+  ending = { deck, line: status === 0 ? output.split('\n', 1)[0] : '' };
+  if (isNew && view() === 'Steps') showSoon();
+}
+
+/** Says whether the run shown is cut before its end. */
 async function noteEnd() {
-  const of = processors(), asked = deck, words = VIEWS.Ends.words();
-  if (ending?.deck !== deck || ending.of !== of) {
-    const { status, output } = await ask(words, back);
-    if (deck !== asked) return;
-    if (status === -1) return;
-    ending = { deck, of, line: status === 0 ? output.split('\n', 1)[0] : '' };
-    if (view() === 'Steps') showSoon();
-  }
+  await findEnding();
+  if (ending?.deck !== deck) return;
   const [, how, from, , every] = /^(.*?) (?:FROM|AT) (\d+)( EVERY (\d+))?/.exec(ending.line) ?? [];
   const to = Number(from) + Number(every ?? 0), isCut = last() < to && how !== 'GOING ON';
   const isOver = [...standing.values()].every(({ line }) => !line.includes(' RUNNING ') || line.includes(' HELD '));

@@ -150,11 +150,11 @@ function takeLast() {
   const wanted = Number($('last').value), isNumber = $('last').value !== '' && $('last').validity.valid;
   $('last').ariaInvalid = `${!isNumber}`;
   if (!isNumber) return say('Turns are a whole number from 0 to 999999 (decimal).');
-  const wasAtEnd = turn() === last(), rest = restTurn();
+  const wasAtEnd = turn() === last();
   setLast(wanted);
-  if (wasAtEnd) $('turn').value = rest >= 0 ? Math.min(rest, wanted) : wanted;
   say('');
-  showSoon();
+  go(wasAtEnd ? wanted : turn());
+  if (wasAtEnd) findEnding().then(() => { if (turn() === last() && restTurn() >= 0) go(Math.min(restTurn(), last())); });
 }
 
 async function takeEvents() {

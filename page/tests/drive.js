@@ -239,8 +239,7 @@ async function moving() {
     `$('ran').textContent === 'PP00 P=0103: after turn 20, the first of the run.' && turn() === 21`);
   await click('#deck-numbers span:nth-child(11)');
   await becomes('so does the number of its line', `turn() === 32 && $('target').value === 'PP01 P=0103'`);
-  expect('lines that run are lit', await value(
-    `$('deck-numbers').children[10].classList.contains('lit')`));
+  await becomes('lines that run are lit', `$('deck-numbers').children[10].classList.contains('lit')`);
   await pause(500);
   const kept = await value(`location.hash`);
   expect('the address keeps example, run, turn and view',
