@@ -9,7 +9,7 @@ const OWN = 'own ', STORED = 'ppsim deck ', FIRST_NAME = 'my';
 
 /** @type {Own[]} */
 let own = [];
-let chosen = '', isLoading = false, isStored = true, saving = 0;
+let chosen = '', isLoading = false, saving = 0;
 const turn = () => $('turn').valueAsNumber, last = () => Number($('turn').max);
 /** The deck of one's own that is in the editor, if it is no example. */
 const mine = () => own.find(it => OWN + it.id === chosen);
@@ -22,9 +22,7 @@ function readStored() {
     const keys = Object.keys(localStorage).filter(it => it.startsWith(STORED)).sort();
     own = keys.map(it => JSON.parse(localStorage.getItem(it) ?? ''));
     for (const { id } of own.splice(0, own.length - MOST_OWN)) localStorage.removeItem(STORED + id);
-  } catch {
-    isStored = false;
-  }
+  } catch {} // a browser may forbid its storage: then decks last as long as the page
 }
 
 /** Writes a deck of one's own to the storage; if it is full, the oldest give way. */
