@@ -6,7 +6,8 @@ let drawn = null;
 
 /** The command that draws the part of the run in which the turn is. */
 function drawingWords() {
-  const from = Math.floor(Math.max(0, turn() - 1) / MOST_DRAWN) * MOST_DRAWN;
+  const half = MOST_DRAWN / 2, near = Math.floor((turn() - half / 2) / half) * half;
+  const from = Math.max(0, Math.min(near, last() - MOST_DRAWN));
   return overRun('draw', last(), '--from', `${from}`, '--to', `${Math.min(last(), from + MOST_DRAWN)}`);
 }
 

@@ -1,7 +1,7 @@
 // ---- moving through a run, and making its steps by hand
 
-/** How each processor shown stands at the turn, by its two digits. */
-/** @type {Map<string, { place: string, line: string }>} */
+/** How each processor shown stands at the turn, by its two digits.
+ * @type {Map<string, { place: string, line: string }>} */
 const standing = new Map();
 /** How the run by turns ends, once it is known, and of which deck.
  * @type {{ deck: Uint8Array, line: string } | null} */

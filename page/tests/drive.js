@@ -498,7 +498,8 @@ async function main() {
   await picture('dark');
   await show({ example: 'lost_word', turn: 40, view: 'State' }, 420, 900);
   await picture('narrow');
-  await show({ example: 'poll_loop', turn: 252, view: 'State' }, 1200, 700);
+  await show({ example: 'poll_loop', turn: 252, view: 'State' }, 1200, 760);
+  await becomes('the ending is known', `!$('cut').hidden`);
   await picture('page');
   for (const it of complaints) expect(`the console says: ${it}`, false);
   console.log(`page: ${right} as they should be, ${wrong} not`);
