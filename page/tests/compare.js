@@ -11,10 +11,10 @@ const top = path.join(__dirname, '../..'), data = path.join(top, 'crates/pages/d
 const [file, program = path.join(top, 'crates/ppsim/out/ppsim')] = process.argv.slice(2);
 const RANDOM = 1000;
 
-// ---- the library, by the part of the page's script that calls it
+// ---- the library, by the part of the page's worker that calls it
 
-const script = fs.readFileSync(path.join(__dirname, '../page.js'), 'utf8');
-const calling = script.slice(0, script.indexOf('// ---- the deck as it stands'));
+const script = fs.readFileSync(path.join(__dirname, '../worker.js'), 'utf8');
+const calling = script.slice(0, script.indexOf('// ---- a command line'));
 const library = new WebAssembly.Module(fs.readFileSync(file));
 const call = new Function('it', `'use strict';${calling}library = it; return call;`)(library);
 

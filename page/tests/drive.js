@@ -1,4 +1,4 @@
-// node --experimental-websocket drive.js PAGE [FOLDER_FOR_PICTURES]
+// node --experimental-websocket drive.js PAGE [FOLDER_FOR_PICTURES [PARTS]]
 //
 // Drives the page in headless Chromium as a reader would, and looks for errors in its console. The
 // status is 1 if anything is not as it should be.
@@ -6,7 +6,7 @@
 const fs = require('fs'), os = require('os'), path = require('path');
 const { spawn } = require('child_process');
 
-const [page, pictures] = process.argv.slice(2);
+const [page, pictures, only] = process.argv.slice(2);
 const url = `file://${path.resolve(page)}`;
 const profile = fs.mkdtempSync(path.join(os.tmpdir(), 'page-'));
 const browser = spawn('chromium', ['--headless=new', '--no-sandbox', '--disable-gpu',
@@ -65,9 +65,9 @@ function expect(what, isSo) {
   }
 }
 
-/** Waits until this is so, for two seconds at most. */
+/** Waits until this is so, for five seconds at most. */
 async function becomes(what, expression) {
-  for (let n = 0; n < 100; n++) {
+  for (let n = 0; n < 250; n++) {
     if (await value(`!!(${expression})`)) return expect(what, true);
     await pause(20);
   }
@@ -81,7 +81,7 @@ async function show(words = {}, width = 1400, height = 900, scheme = 'light') {
   await send('Emulation.setEmulatedMedia', { features });
   await send('Page.navigate', { url: 'about:blank' });
   await send('Page.navigate', { url: `${url}#${new URLSearchParams(words)}` });
-  for (let n = 0; n < 300; n++) {
+  for (let n = 0; n < 1000; n++) {
     const shown = `typeof $ === 'function' && !!$('text')?.textContent`;
     if (await value(shown).catch(() => false)) return;
     await pause(10);
@@ -95,15 +95,39 @@ async function picture(name) {
   fs.writeFileSync(path.join(pictures, `${name}.png`), Buffer.from(data, 'base64'));
 }
 
-async function press(name, shift = 0) {
-  const text = name === 'Space' ? ' ' : undefined;
-  const key = { key: text ?? name, code: name, modifiers: shift * 8, text };
-  await send('Input.dispatchKeyEvent', { type: 'keyDown', ...key });
+async function press(name, shift = 0, modifiers = shift * 8) {
+  const text = name === 'Space' ? ' ' : name === 'Enter' ? '\r' : /^Digit\d/.test(name) ? name.slice(-1) : undefined;
+  const key = { key: name === 'Space' ? ' ' : name.replace(/^(Digit|Key)/, ''), code: name, modifiers, text };
+  if (/^(Key.|Digit\d)$/.test(name)) key.windowsVirtualKeyCode = name.charCodeAt(name.length - 1);
+  if (name === 'Enter') key.windowsVirtualKeyCode = 13;
+  await send('Input.dispatchKeyEvent', { type: modifiers === 2 ? 'rawKeyDown' : 'keyDown', ...key,
+    ...(modifiers === 2 && { commands: name === 'KeyZ' ? ['undo'] : [], text: undefined }) });
   await send('Input.dispatchKeyEvent', { type: 'keyUp', ...key });
 }
 
+async function click(selector) {
+  const { x, y, width, height } = await value(
+    `document.querySelector(${JSON.stringify(selector)}).getBoundingClientRect().toJSON()`);
+  const at = { x: x + Math.min(width / 2, 20), y: y + height / 2, button: 'left', clickCount: 1 };
+  await send('Input.dispatchMouseEvent', { type: 'mousePressed', buttons: 1, ...at });
+  await send('Input.dispatchMouseEvent', { type: 'mouseReleased', buttons: 0, ...at });
+}
+
+async function reload() {
+  await pause(500);
+  await send('Page.reload');
+  await pause(100);
+  for (let n = 0; n < 1000; n++) {
+    if (await value(`typeof $ === 'function' && !!$('text')?.textContent`).catch(() => false)) return;
+    await pause(10);
+  }
+}
+
+const type = text => send('Input.insertText', { text });
 const write = (id, text) => value(`$('${id}').value = ${JSON.stringify(text)};
   $('${id}').dispatchEvent(new Event('input', { bubbles: true }))`);
+const pick = (id, it) => value(`$('${id}').value = ${JSON.stringify(it)};
+  $('${id}').dispatchEvent(new Event('change', { bubbles: true }))`);
 const choose = name => value(`document.querySelector('input[value=${name}]').click()`);
 
 // ---- what a reader does
@@ -134,16 +158,16 @@ async function views() {
   const starts = {
     State: 'PP00', Steps: '000000 PP00 0100 7405', Events: '000000 PP00 CH05 ACN',
     Sessions: 'CH05 SESSION 1', Races: 'SAME IN EVERY ORDER', Ends: 'AT REST FROM',
-    Memory: '0100  7405', Listing: 'CENTRAL 10000',
+    Endings: 'ENDINGS 1', Compare: 'The same.', Help: 'A deck loads words', Memory: '0100  7405', Listing: 'CENTRAL 10000',
     Dump: 'not between programs: CH05 active', Check: 'lawful: 3 events',
   };
   for (const [name, start] of Object.entries(starts)) {
     await choose(name);
-    await becomes(`${name} is shown`, `$('text').textContent.startsWith('${start}')`);
+    await becomes(`${name} is shown`, `$('text').textContent.trimStart().startsWith('${start}')`);
   }
   expect('the command is the view\'s', await value(`$('words').textContent === 'ppsim check'`));
   await choose('Memory');
-  await value(`$('pp').value = '1'; $('pp').dispatchEvent(new Event('change', { bubbles: true }))`);
+  await pick('pp', '1');
   await becomes('the memory is that of the processor chosen',
     `$('words').textContent === 'ppsim memory --turns 40 --pp 1'
       && $('text').textContent.startsWith('0200  7005')`);
@@ -154,6 +178,10 @@ async function views() {
       && $('trace').classList.contains('faulty')
       && $('trace-numbers').querySelector('b').textContent === '2\\n'`);
   await picture('check');
+  expect('only the machine\'s processors are offered', await value(`$('pp').options.length === 10`));
+  await pause(500);
+  await reload();
+  await becomes('the processor chosen is in the address', `$('pp').value === '1'`);
   await show({ example: 'central_block', view: 'Central' });
   await becomes('central memory is shown', `$('text').textContent.startsWith('000005  0001000200')
     && $('words').textContent === 'ppsim central --turns 50'`);
@@ -206,14 +234,139 @@ async function moving() {
   await choose('Listing');
   await becomes('the listing leads to turns', `$('text').querySelector('button')`);
   await value(`[...$('text').querySelectorAll('button')]
-    .find(it => it.textContent.startsWith('0101')).click()`);
-  await becomes('an instruction leads to the turn in which it ran',
-    `/^PP00 0101 ran in turn \\d+: 1 of 1$/.test($('ran').textContent)`);
+    .find(it => it.textContent.startsWith('0103')).click()`);
+  await becomes('an instruction leads to the turn at which its processor stands there',
+    `$('ran').textContent === 'PP00 P=0103: after turn 20, the first of the run.' && turn() === 21`);
+  await click('#deck-numbers span:nth-child(11)');
+  await becomes('so does the number of its line', `turn() === 32 && $('target').value === 'PP01 P=0103'`);
+  await becomes('lines that run are lit', `$('deck-numbers').children[10].classList.contains('lit')`);
   await pause(500);
   const kept = await value(`location.hash`);
   expect('the address keeps example, run, turn and view',
     /#example=token_ring&processors=10&turns=300&turn=\d+&view=Listing$/.test(kept));
   await picture('listing');
+  await click('#views label:nth-of-type(1)');
+  await becomes('a click chooses a view', `view() === 'State'`);
+  await press('ArrowRight');
+  await becomes('after it the keys still move the turn', `turn() === 33 && view() === 'State'`);
+}
+
+async function lists() {
+  await show({ example: 'token_ring', turn: 300, view: 'Events' });
+  await becomes('all events are there', `$('text').querySelectorAll('button').length > 30`);
+  const count = await value(`$('text').children.length`);
+  await value(`$('text').querySelectorAll('button')[12].focus()`);
+  const at = await value(`Number(document.activeElement.textContent.slice(0, 6))`);
+  await press('Enter');
+  await becomes('an event leads to after its turn', `turn() === ${at + 1} && $('text').querySelector('.later')`);
+  expect('the list is whole, the focus where it was, and the line marked',
+    await value(`$('text').children.length === ${count} && document.activeElement.matches('#text button.now')`));
+  await picture('events');
+  await show({ example: 'handoff', view: 'Steps', turns: 999999, turn: 999999 });
+  await becomes('where nothing runs it is said when the last step was',
+    `$('text').textContent.includes('at rest from turn 32')`);
+  await show({ example: 'handoff' });
+  await pause(500);
+  await value(`$('last').value = '999999'`);
+  await value(`$('last').onchange()`);
+  await becomes('the cursor goes to where the machine came to rest', `last() === 999999 && turn() === 32`);
+  await value(`$('last').value = '1e9'; $('last').onchange()`);
+  await becomes('a length that is none is refused in words', `last() === 999999
+    && $('ran').textContent.startsWith('Turns are a whole number') && $('last').ariaInvalid === 'true'`);
+  await show({ example: 'bubble_sort', turns: 300, turn: 300 });
+  await becomes('a run that is cut is said to be', `$('cut').textContent.startsWith('cut: still running')`);
+  await click('#cut');
+  await becomes('and goes on to its end', `turn() === 1601 && last() === 1601`);
+  const dead = { example: 'dead_start', turn: 1600, view: 'State' };
+  await show(dead);
+  await becomes('no mark where nothing has changed', `$('text').textContent.includes('PP 11')
+    && !$('text').querySelector('mark')`);
+}
+
+/** Steps by hand, back, and a link to just this moment. */
+async function hand() {
+  await show({ example: 'two_takers', turn: 0 });
+  await becomes('there is a button for each processor', `$('steps').children.length === 3`);
+  for (const key of ['Digit0', 'Digit0', 'Digit0', 'Digit2']) await press(key);
+  await becomes('keys make steps', `turn() === 4 && $('order').value === '0:3,2'`);
+  await click('#steps button:nth-child(1)');
+  await becomes('so do buttons', `turn() === 5 && $('order').value === '0:3,2,0'
+    && $('words').textContent === 'ppsim state --turns 5 --order 0:3,2,0'`);
+  for (let n = 0; n < 3; n++) await click('#back');
+  await becomes('back undoes steps', `turn() === 2 && $('order').value === '0:2'
+    && $('then').textContent === '3 more after the cursor'`);
+  await press('ArrowRight');
+  await becomes('they are made again', `turn() === 3 && $('order').value === '0:3'`);
+  await press('Digit1');
+  await becomes('a new step takes their place', `turn() === 4 && $('order').value === '0:3,1'
+    && $('then').textContent === '' && list.length === 4`);
+  await click('#turnOn');
+  await click('#roundOn');
+  await becomes('turns come after them', `turn() === 15 && $('then').textContent === 'then 11 turns'`);
+  await press('Digit2');
+  await becomes('a step after turns is of this run', `turn() === 16
+    && $('order').value === '0:3,1,0,1,2,3,4,5,6,7,10,11,0,2'`);
+  await picture('hand');
+  await pause(500);
+  const [hash, text] = await value(`[location.hash, $('text').textContent]`);
+  await show(Object.fromEntries(new URLSearchParams(hash.slice(1))));
+  await becomes('a link shows this moment', `turn() === 16 && list.length === 16
+    && $('text').textContent === ${JSON.stringify(text)}`);
+  await value(`$('order').focus(); $('order').select()`);
+  await type('0:4,2:3');
+  await press('Enter');
+  await value(`$('order').blur()`);
+  await becomes('an order can be typed', `turn() === 7 && orderText(list) === '0:4,2:3'`);
+  await value(`$('order').value = '0:4,12'; $('order').onchange()`);
+  await becomes('what is none is refused', `orderText(list) === '0:4,2:3'
+    && $('ran').textContent.startsWith('An order is a list')`);
+  await show({ example: 'two_takers', turn: 0 });
+  await pause(300);
+  await value(`$('target').value = 'CH05 TAK'; $('run').click()`);
+  await becomes('a run to an event', `turn() === 22`);
+  await value(`$('run').click()`);
+  await becomes('and to the next one', `turn() > 22`);
+  const times = await value(`(async () => {
+    load('handoff', { ...EXAMPLES.bubble_sort, order: '', turns: 0 });
+    list = Array.from({ length: 10000 }, (_, n) => n % 3 ? 0 : 1);
+    go(10000);
+    const shown = async () => {
+      while (frame || front.worksFor() || painted.of !== turn()) await new Promise(done => setTimeout(done, 1));
+    };
+    await new Promise(done => setTimeout(done, 1500));
+    const times = [];
+    for (let n = 0; n < 20; n++) {
+      const began = performance.now();
+      stepBy(n % 2);
+      while (!$('words').textContent.includes('--turns ' + turn() + ' ') || front.worksFor() > 0) {
+        await new Promise(done => setTimeout(done, 1));
+      }
+      times.push(performance.now() - began);
+    }
+    return times.sort((a, b) => a - b);
+  })()`);
+  console.log(`a step by hand after 10,000: median ${times[10].toFixed(1)} ms, slowest ${times[19].toFixed(1)} ms`);
+  expect('a step by hand is shown within 50 ms', times[10] < 50);
+}
+
+async function endings() {
+  await show({ example: 'two_takers', view: 'Races' });
+  await becomes('races are found', `$('text').textContent.includes('MAY DIFFER')`);
+  await value(`[...$('text').querySelectorAll('button')].find(it => it.textContent === 'MAY DIFFER').click()`);
+  await becomes('they lead to the endings', `view() === 'Endings'
+    && $('text').textContent.startsWith('ENDINGS 2') && $('text').querySelectorAll('.ending').length === 2`);
+  await picture('endings');
+  await value(`$('text').querySelectorAll('.ending button')[2].click()`);
+  await becomes('an ending is loaded', `$('order').value === '0:4,2:2,0:2,1:2' && turn() === 10
+    && [...standing.values()].every(it => it.line.includes('STOPPED'))`);
+  await pause(500);
+  await value(`$('text').querySelectorAll('.ending .aside')[1].click()`);
+  await becomes('and compared with the turn order', `view() === 'Compare'
+    && $('left').value === 'the turn order, at its end' && $('right').value === 'ending 2'
+    && $('text').querySelectorAll('.two mark').length > 1`);
+  await picture('compare');
+  await pick('right', 'ending 1');
+  await becomes('that of the turn order is the same', `$('text').textContent.startsWith('The same')`);
 }
 
 async function decks() {
@@ -221,20 +374,88 @@ async function decks() {
   await show({ deck, processors: 20, turns: 60, turn: 45, view: 'Steps' });
   await becomes('a deck comes by the address', `$('text').textContent.includes('PP20 0100 1405')
     && $('at').textContent === '45'
-    && $('words').textContent === 'ppsim steps --turns 45 --from 0 --processors 20'`);
+    && $('words').textContent === 'ppsim steps --turns 60 --from 0 --processors 20'`);
   await value(`{
     const dataTransfer = new DataTransfer();
-    dataTransfer.items.add(new File(['PP 3\\n0200 0300\\nSTART 0200\\n'], 'own.deck'));
+    dataTransfer.items.add(new File(['PP 3\\n0200 0300\\nSTART 0200\\n'], 'pump.deck'));
     window.dispatchEvent(new DragEvent('drop', { dataTransfer, cancelable: true }));
   }`);
-  await becomes('and by a drop',
-    `$('deck').value.startsWith('PP 3') && $('text').textContent.includes('PP03 0200 0300')`);
+  await becomes('and by a drop, with its name', `$('deck').value.startsWith('PP 3')
+    && $('text').textContent.includes('PP03 0200 0300') && mine().name === 'pump'`);
   await pause(500);
   const kept = await value(`location.hash`);
   expect('the address has it', kept.startsWith('#deck=PP+3%0A0200'));
+}
+
+/** That an edit survives whatever a reader does. */
+async function edits() {
+  await show({ example: 'handoff' });
+  const first = await value(`$('deck').value`), chosen = `$('example').selectedOptions[0].textContent`;
+  await value(`$('deck').focus(); $('deck').setSelectionRange(0, 0)`);
+  await type('* mine\n');
+  await becomes('an edited example is a deck of one\'s own', `${chosen}.startsWith('a deck of your own')`);
+  await value(`$('deck').setSelectionRange(60, 60); $('deck').selectionStart = $('deck').value.indexOf('0100')`);
+  await becomes('the line with the caret is decoded', `$('decoded').textContent
+    === 'line 4: ACN 05; LDN 07; OAN 05; UJN 0103'`);
+  const mine = await value(`$('example').value`);
+  await pick('example', 'lost_word');
+  await becomes('an example opened over it', `$('deck').value === EXAMPLES.lost_word.deck`);
+  await pick('example', mine);
+  await becomes('leaves it among one\'s own', `$('deck').value === ${JSON.stringify(`* mine\n${first}`)}`);
+  await pick('example', 'lost_word');
+  await value(`$('deck').focus()`);
+  await press('KeyZ', 0, 2);
+  await becomes('undo brings it back too', `$('deck').value.startsWith('* mine')
+    && $('example').value === ${JSON.stringify(mine)}`);
+  await becomes('the address follows', `location.hash.startsWith('#deck=')`);
+  await reload();
+  await becomes('and has it after a reload', `$('deck').value.startsWith('* mine')`);
+  const long = `${'* long\n'.repeat(8000)}PP 0\n0100 0300\nSTART 0100\n`;
+  await write('deck', long);
+  await becomes('what is too long for the address is said to be', `$('kept').textContent.startsWith('Too long')`);
+  await reload();
+  await becomes('and is kept', `$('deck').value.length === ${long.length}`);
+  await show({ kept: 'nothing' });
+  await becomes('what another browser keeps is said to be elsewhere',
+    `$('ran').textContent.startsWith('The deck of this address')`);
+  await pause(500);
+  expect('and the address is that of the deck shown', await value(`location.hash.startsWith('#example=')`));
   await write('deck', '* '.repeat(600000));
   await becomes('a deck of more than a megabyte is refused',
     `$('fault').textContent === '1:1 longer than 1048576 bytes'`);
+}
+
+/** Work that takes long can be stopped, and the page is not held up. */
+async function work() {
+  await show({ example: 'poll_loop', view: 'Endings', states: 20000 });
+  await value(`$('states').value = 20001; showSoon()`);
+  await becomes('long work is said to go on', `!$('busy').hidden`);
+  await press('ArrowLeft');
+  await becomes('the page goes on beside it', `turn() === 399 && standing.get('00')?.line.includes('STOPPED')`);
+  await click('#stop');
+  await becomes('it can be stopped', `$('busy').hidden && $('text').textContent === 'stopped'`);
+}
+
+/** Every width and kind of screen, and paper. */
+async function screens() {
+  for (const [width, height] of [[1280, 720], [1090, 800], [1024, 768], [820, 1180], [844, 390], [360, 780]]) {
+    await show({ example: 'token_ring', turn: 150, view: 'Steps' }, width, height);
+    await becomes(`the steps are shown at ${width}`, `$('text').textContent.includes('PP00')`);
+    expect(`nothing is wider than ${width}`, await value(`document.documentElement.scrollWidth <= document.documentElement.clientWidth
+      && $('views').querySelector('label:last-child').getBoundingClientRect().right <= innerWidth`));
+    await picture(`width-${width}`);
+  }
+  await show({ example: 'lost_word', view: 'State' });
+  const { data } = await send('Page.printToPDF', { printBackground: true });
+  const paper = Buffer.from(data, 'base64');
+  if (pictures) fs.writeFileSync(path.join(pictures, 'paper.pdf'), paper);
+  expect('it is printed on one page', paper.toString('latin1').match(/\/Type\s*\/Page\b/g).length === 1);
+  await send('Emulation.setEmulatedMedia', { features: [{ name: 'forced-colors', value: 'active' }] });
+  await choose('Listing');
+  await becomes('with forced colours the chosen view can be told', `getComputedStyle(
+    document.querySelector('#views label:has(:checked)')).borderBottomWidth === '3px'
+    && getComputedStyle(document.querySelector('#views label')).borderBottomWidth === '0px'`);
+  await picture('forced');
 }
 
 async function names() {
@@ -249,7 +470,7 @@ async function names() {
 /** The times of frames while the cursor is dragged over a run of 2,000 turns. */
 async function frames() {
   await show({ example: 'bubble_sort', view: 'State' });
-  await value(`load('', { ...deckShown(), turns: 2000 }, 0)`);
+  await value(`load('bubble_sort', { ...EXAMPLES.bubble_sort, turns: 2000, turn: 0 })`);
   await pause(500);
   const times = await value(`new Promise(done => {
     const all = [];
@@ -271,12 +492,14 @@ async function frames() {
 
 async function main() {
   await connect();
-  for (const part of [first, views, faults, moving, decks, names, frames]) await part();
+  const all = { first, views, faults, moving, lists, hand, endings, decks, edits, work, screens, names, frames };
+  for (const [name, part] of Object.entries(all)) if (!only || only.split(',').includes(name)) await part();
   await show({ example: 'token_ring', turn: 150, view: 'Steps' }, 1400, 900, 'dark');
   await picture('dark');
   await show({ example: 'lost_word', turn: 40, view: 'State' }, 420, 900);
   await picture('narrow');
-  await show({ example: 'poll_loop', turn: 252, view: 'State' }, 1200, 700);
+  await show({ example: 'poll_loop', turn: 252, view: 'State' }, 1200, 760);
+  await becomes('the ending is known', `!$('cut').hidden`);
   await picture('page');
   for (const it of complaints) expect(`the console says: ${it}`, false);
   console.log(`page: ${right} as they should be, ${wrong} not`);

@@ -1,0 +1,56 @@
+// ---- the drawing
+
+const MOST_DRAWN = 2000;
+/** @type {{ answer: Answer, from: number, to: number, width: number, names: Element[], legend: Element } | null} */
+let drawn = null;
+
+/** The command that draws the part of the run in which the turn is. */
+function drawingWords() {
+  const half = MOST_DRAWN / 2, near = Math.floor((turn() - half / 2) / half) * half;
+  const from = Math.max(0, Math.min(near, last() - MOST_DRAWN));
+  return overRun('draw', last(), '--from', `${from}`, '--to', `${Math.min(last(), from + MOST_DRAWN)}`);
+}
+
+/** Shows a drawing. Over a faulty deck the last one stays. */
+function draw(/** @type {string[]} */ words, /** @type {Answer} */ answer) {
+  const { status, output } = answer, root = $('picture').shadowRoot;
+  if (status >= 0) $('drawing').classList.toggle('old', status !== 0);
+  if (status !== 0 || drawn?.answer === answer) return moveCursor();
+  // The one text that is read as markup: it is proved well-formed, and has no text of a deck in it.
+  const [element, style] = /** @type {RegExpExecArray} */ (/<style>(.*?)<\/style>/s.exec(output));
+  const parsed = new DOMParser().parseFromString(output.replace(element, ''), 'image/svg+xml');
+  const picture = document.adoptNode(parsed.documentElement);
+  root.adoptedStyleSheets = [new CSSStyleSheet()];
+  root.adoptedStyleSheets[0].replaceSync(`${style.replaceAll(':root', ':host')}
+    svg{display:block} g>:last-child{paint-order:stroke;stroke:var(--ground);stroke-width:5px}
+    @media print{svg{width:100%;height:auto}}`);
+  root.replaceChildren(picture);
+  const names = [...picture.querySelectorAll("text[x='-72']")];
+  const legend = /** @type {Element} */ (picture.querySelector('g'));
+  for (const name of names) name.parentNode?.append(name); // over the bands
+  const at = words.indexOf('--from'), from = Number(words[at + 1]), to = Number(words[at + 3]);
+  drawn = { answer, from, to, width: to - from <= 100 ? 10 : 4, names, legend };
+  keepNames();
+  moveCursor();
+}
+
+function moveCursor() {
+  if (!drawn) return;
+  const box = $('drawing'), x = 80 + (turn() - drawn.from) * drawn.width;
+  $('cursor').style.transform = `translateX(${x}px)`;
+  const isSeen = x > box.scrollLeft + 80 && x < box.scrollLeft + box.clientWidth - 40;
+  if (!isSeen) box.scrollLeft = x - box.clientWidth / 2;
+}
+
+/** Keeps the legend and the names of the lanes in sight. */
+function keepNames(x = $('drawing').scrollLeft) {
+  for (const name of drawn?.names ?? []) name.setAttribute('x', `${x - 72}`);
+  drawn?.legend.setAttribute('transform', `translate(${x + 8},8)`);
+}
+
+function drag(/** @type {PointerEvent} */ e) {
+  if (!e.buttons || !drawn) return;
+  $('drawing').setPointerCapture(e.pointerId);
+  const x = e.clientX - $('picture').getBoundingClientRect().left;
+  go(Math.min(drawn.to, drawn.from + Math.max(0, Math.round((x - 80) / drawn.width))));
+}
