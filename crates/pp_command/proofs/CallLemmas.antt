@@ -54,8 +54,8 @@ unfolding values_of_words
 refused_word options words i d given lt none so =
     let here : map (λ word. word.now) (drop i words) ≡ (slice_index_or words i d).now ∷ map (λ word. word.now) (drop (i + 1) words) = rw (drop-cons words i d lt, add-one i) refl in
     let gone : given_from options (Some given) (map (λ word. word.now) (drop i words)) ≡ None =
-        ap (given_from options (Some given)) here ∙ ap (λ next. given_from options next (map (λ word. word.now) (drop (i + 1) words))) none
-        ∙ nothing_from options (map (λ word. word.now) (drop (i + 1) words)) in
+    ap (given_from options (Some given)) here ∙ ap (λ next. given_from options next (map (λ word. word.now) (drop (i + 1) words))) none
+    ∙ nothing_from options (map (λ word. word.now) (drop (i + 1) words)) in
     ap (option_and_then (whole options)) (sym so ∙ gone)
 
 -- what the words of a call come to, by what its parts do

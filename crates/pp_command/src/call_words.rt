@@ -28,8 +28,8 @@ impl<'a, A: Allocator> Model for CallWords<'a, A> {
     ghost Value = { Given };
 
     ghost view = { λ words. record {
-        values = map (λ pair. (pair.0.now, pair.1.now)) words.values.items;
-        waiting = option_map (λ id. id.now) words.waiting;
+      values = map (λ pair. (pair.0.now, pair.1.now)) words.values.items;
+      waiting = option_map (λ id. id.now) words.waiting;
     } };
 }
 

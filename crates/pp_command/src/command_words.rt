@@ -12,8 +12,8 @@ use crate::option_values::{
 };
 use crate::text_of::text_of;
 use crate::{Asked, LineFault, Values, Work};
-use clap::error::ErrorKind;
 use clap::Error;
+use clap::error::ErrorKind;
 use pp_numbers::CHANNELS;
 use std::alloc::{AllocError, Allocator, Global};
 
@@ -34,10 +34,7 @@ fn work_of<V: Values>(name: &str, values: &V) -> Option<Work>
     match name {
         "threads" => {
             let profile = profile_of(values)?;
-            let limits = limits_of(
-                number_of(values, "steps")?,
-                number_of(values, "patience")?,
-            )?;
+            let limits = limits_of(number_of(values, "steps")?, number_of(values, "patience")?)?;
             Some(Work::Threads { profile, limits })
         }
         "lint" => Some(Work::Lint {

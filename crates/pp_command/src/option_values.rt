@@ -6,8 +6,7 @@ ghost use Rattle.pp_command.specs.CommandLine.{Finds, ReadsAddress, ReadsBounds,
 
 use crate::number_range::{FROM, PATIENCE, STATES, STEPS, TIMES, TURNS};
 use crate::processor_list::listed_processors;
-use crate::{listed_channels, listed_order};
-use crate::Values;
+use crate::{Values, listed_channels, listed_order};
 use pp_condition::{Condition, Until, condition_in};
 use pp_numbers::{Bounds, CHANNELS, Limits, MOST_TURNS, PROCESSORS, PpNo, Profile, Window};
 use std::alloc::{AllocError, Allocator};

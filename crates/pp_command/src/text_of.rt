@@ -3,11 +3,11 @@
 ghost use Rattle.std.specs.Prelude.{◌≢◌, codes};
 ghost use Rattle.pp_command.specs.CommandLine.{AsksForText, Finds, ReadsTurns};
 
+use crate::Values;
 use crate::option_values::{
     bounds_of, channels_of, condition_of, fits_a_picture, is_flagged, processor_of, processors_of,
     states_of, turn_of, turns_of, window_of,
 };
-use crate::Values;
 use pp_condition::Condition;
 use pp_numbers::{Bounds, CHANNELS, PROCESSORS, PpNo, Profile, Window};
 

@@ -3,9 +3,9 @@
 ghost use Rattle.std.specs.Prelude.{◌≡◌, ◌≤◌, drop, length};
 ghost use Rattle.ppsim_library.specs.Answered.{IsFailed, IsWritten, Shows, status_of};
 
-use std::fmt::Display;
 use pp_sim::TextFault;
 use std::alloc::Allocator;
+use std::fmt::Display;
 
 /// The outcome of a call.
 #[repr(C)]

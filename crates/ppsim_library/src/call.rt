@@ -6,10 +6,10 @@ ghost use Rattle.ppsim_library.specs.Answered.{Answers, IsAnswered, NeedsNoThrea
 
 use crate::answer::{Answer, answer_of, refused, without_memory};
 use crate::refusal::Refusal;
-use std::str;
 use pp_command::{Asked, CallFault, read_call};
 use pp_sim::{TextFault, Work, check_text, deck_text, lint_text, test_text};
 use std::alloc::{AllocError, Allocator};
+use std::str;
 
 /// Answers a call: does what its words ask for, or says why they are refused.
 pub(crate) fn answer_call<A: Allocator + Copy>(

@@ -10,9 +10,9 @@ loop-word-preserved g c =
     let first = first_word c.loop-word.rest.now c.in-Some.word.now c.in-Some.others.now parts.0 parts.1 in (
       search rules,
       ap (λ words. map (λ word. word.now) words ++ words_of c.in-Some.others.now) c.in_ok-push.ensures.items
-      ∙ one_more c.loop-word.words.items c.in-Some.word (words_of c.in-Some.others.now)
-      ∙ ap (λ words. map (λ word. word.now) c.loop-word.words.items ++ words) (sym first)
-      ∙ c.loop-word.invariant.1,
+          ∙ one_more c.loop-word.words.items c.in-Some.word (words_of c.in-Some.others.now)
+          ∙ ap (λ words. map (λ word. word.now) c.loop-word.words.items ++ words) (sym first)
+          ∙ c.loop-word.invariant.1,
     )
 
 pub returns : goal.returns
