@@ -1,4 +1,4 @@
-/* Numbers, memory and room at their ends: what is answered, and that nothing else is written. */
+/* Words, memory and room at their ends: what is answered, and that nothing else is written. */
 #include <stdio.h>
 #include <stdlib.h>
 #include <string.h>
@@ -6,11 +6,9 @@
 
 enum { MEMORY = 1 << 22, ROOM = 4096, GUARD = 64, KEPT = 0xa5 };
 
-static const char text_of_deck[] = "PP 0\n0100 7405 1407 7205 0300\nSTART 0100\n"
-                                   "PP 1\n0200 7005 0300\nSTART 0200\n";
-static const uint8_t *const deck = (const uint8_t *)text_of_deck;
-static const size_t deck_size = sizeof text_of_deck - 1;
-static const uint8_t none[1]; /* an empty order, at a length of 0 */
+#define DECK "PP 0\n0100 7405 1407 7205 0300\nSTART 0100\nPP 1\n0200 7005 0300\nSTART 0200\n"
+#define TEXT(literal) literal, sizeof literal - 1 /* with the bytes 0 within it */
+
 static unsigned char *bytes, *text;
 static ppsim_memory lent;
 static int wrong;
@@ -27,40 +25,52 @@ static int is_kept(const unsigned char *from, size_t size) {
     return 1;
 }
 
-static ppsim_memory *memory_of(size_t size) {
+/* A call in this much memory and room. Memory is given back, and nothing past either is written. */
+static ppsim_answer run_in(size_t size, size_t room, const char *words, size_t words_length,
+                           const char *input, size_t input_length) {
     memset(bytes, KEPT, MEMORY + GUARD);
     memset(text, KEPT, ROOM + GUARD);
     lent = (ppsim_memory){bytes, size};
-    return &lent;
+    ppsim_answer it = ppsim_run(&lent, (const uint8_t *)words, words_length,
+                                (const uint8_t *)input, input_length, text, room);
+    size_t used = it.status == PPSIM_TOO_LONG ? 0 : it.output + it.error;
+    expect(lent.place == bytes && lent.size == size, "memory given back of", size);
+    expect(is_kept(bytes + size, MEMORY + GUARD - size), "kept past the memory of", size);
+    expect(used <= room && is_kept(text + used, ROOM + GUARD - used), "kept past the text of", used);
+    expect(!it.output || !it.error, "one text at status", it.status);
+    return it;
 }
 
-static void expect_back(size_t size) {
-    expect(lent.place == bytes && lent.size == size, "given back of", size);
+static ppsim_answer run(const char *words, size_t length) {
+    return run_in(MEMORY, ROOM, words, length, TEXT(DECK));
+}
+
+static int says(ppsim_answer it, const char *line) {
+    return it.output == 0 && it.error == strlen(line) && !memcmp(text, line, it.error);
 }
 
 static void rooms(void) {
-    ppsim_answer whole =
-        ppsim_barrel(memory_of(MEMORY), 10, 40, none, 0, deck, deck_size, text, ROOM);
-    expect(whole.status == PPSIM_WRITTEN && whole.length > 0, "ample room", whole.status);
-    for (size_t room = 0; room <= whole.length; room++) {
-        ppsim_answer it =
-            ppsim_barrel(memory_of(MEMORY), 10, 40, none, 0, deck, deck_size, text, room);
-        size_t used = room == whole.length ? room : 0;
-        expect(it.status == (used ? PPSIM_WRITTEN : PPSIM_TOO_LONG), "a room of", room);
-        expect(it.length == whole.length, "the length in a room of", room);
-        expect_back(MEMORY);
-        expect(is_kept(text + used, ROOM + GUARD - used), "kept past", room);
+    ppsim_answer whole = run(TEXT("barrel\0--turns\0" "40"));
+    expect(whole.status == PPSIM_DONE && whole.output > 0, "ample room", whole.status);
+    for (size_t room = 0; room <= whole.output; room++) {
+        ppsim_answer it = run_in(MEMORY, room, TEXT("barrel\0--turns\0" "40"), TEXT(DECK));
+        expect(it.status == (room < whole.output ? PPSIM_TOO_LONG : PPSIM_DONE), "a room of", room);
+        expect(it.output == whole.output && it.error == 0, "the length in a room of", room);
+    }
+    static const char line[] = "ppsim: deck fault 4 at line 2\n";
+    for (size_t room = 0; room < sizeof line + 1; room++) {
+        ppsim_answer it = run_in(MEMORY, room, TEXT("list"), TEXT("PP 0\n0100 9\n"));
+        size_t shown = room < sizeof line - 1 ? room : sizeof line - 1;
+        expect(it.status == PPSIM_BAD_INPUT && it.output == 0, "a fault, and a room of", room);
+        expect(it.error == shown && !memcmp(text, line, shown), "its words in a room of", room);
     }
 }
 
 static void memories(void) {
     static const size_t sizes[] = {0, 16, 32, 48, 1024, 65536};
     for (size_t i = 0; i < sizeof sizes / sizeof *sizes; i++) {
-        ppsim_answer it =
-            ppsim_state(memory_of(sizes[i]), 10, 40, none, 0, deck, deck_size, text, ROOM);
-        expect(it.status == PPSIM_NO_MEMORY, "memory of", sizes[i]);
-        expect_back(sizes[i]);
-        expect(is_kept(bytes + sizes[i], MEMORY + GUARD - sizes[i]), "kept past", sizes[i]);
+        ppsim_answer it = run_in(sizes[i], ROOM, TEXT("state\0--turns\0" "40"), TEXT(DECK));
+        expect(it.status == PPSIM_NO_MEMORY && it.output == 0, "memory of", sizes[i]);
     }
     ppsim_memory odd = ppsim_memory_in(bytes + 5, 100);
     expect((uintptr_t)odd.place % 16 == 0 && odd.size % 16 == 0, "ppsim_memory_in", odd.size);
@@ -68,76 +78,69 @@ static void memories(void) {
     expect(ppsim_memory_in(bytes + 5, 3).size == 0, "ppsim_memory_in of", 3);
 }
 
-static void numbers(void) {
-    static const uint32_t runs[][2] = {{0, 0}, {11, 1}, {UINT32_MAX, 1}, {10, 1000000},
-                                       {20, UINT32_MAX}};
-    static const uint32_t windows[][2] = {{2, 1}, {0, 2001}, {999000, 1000000}, {UINT32_MAX, 0}};
-    for (size_t i = 0; i < sizeof runs / sizeof *runs; i++) {
-        ppsim_answer it = ppsim_races(memory_of(MEMORY), runs[i][0], runs[i][1], none, 0, deck,
-                                      deck_size, text, ROOM);
-        expect(it.status == PPSIM_BAD_NUMBER && is_kept(text, ROOM), "a run's numbers", i);
-        expect_back(MEMORY);
+static void refused(void) {
+    static const struct {
+        const char *words;
+        size_t length;
+    } all[] = {
+        {TEXT("")}, {TEXT("\0")}, {TEXT("barrels")}, {TEXT("barrel\0")}, {TEXT("barrel")},
+        {TEXT("list\0deck")}, {TEXT("list\0-\0-")}, {TEXT("help")}, {TEXT("list\0--help")},
+        {TEXT("--version")}, {TEXT("list\0--turns\0" "1")}, {TEXT("barrel\0--turns")},
+        {TEXT("barrel\0--turns\0" "1\0--turns\0" "1")}, {TEXT("barrel\0--turns\0" "1\0")},
+        {TEXT("barrel\0--turns\0" "1000000")}, {TEXT("barrel\0--turns\0" "-1")},
+        {TEXT("barrel\0--turns\0" "1\0--processors\0" "11")}, {TEXT("orders\0--states\0" "0")},
+        {TEXT("draw\0--turns\0" "2001")}, {TEXT("steps\0--turns\0" "1\0--pp\0" "12")},
+        {TEXT("barrel\0--turns\0" "1\0--until\0CH05 GET")}, {TEXT("check\0--opened\0" "1,99")},
+        {TEXT("threads\0--steps\0" "1\0--patience\0" "1")}, {TEXT("list\0\xff")}};
+    for (size_t i = 0; i < sizeof all / sizeof *all; i++) {
+        ppsim_answer it = run(all[i].words, all[i].length);
+        expect(it.status == PPSIM_BAD_USAGE && it.output == 0 && it.error > 0, "refused words", i);
+        expect(!memcmp(text, "ppsim: ", 7) && text[it.error - 1] == '\n', "a line for words", i);
     }
-    static const uint32_t searches[][2] = {{10, 0}, {11, 1}, {10, 10000000}, {20, UINT32_MAX}};
-    for (size_t i = 0; i < sizeof searches / sizeof *searches; i++) {
-        ppsim_answer it = ppsim_orders(memory_of(MEMORY), searches[i][0], searches[i][1], deck,
-                                       deck_size, text, ROOM);
-        expect(it.status == PPSIM_BAD_NUMBER && is_kept(text, ROOM), "a search's numbers", i);
-        expect_back(MEMORY);
-    }
-    for (size_t i = 0; i < sizeof windows / sizeof *windows; i++) {
-        ppsim_answer it = ppsim_draw(memory_of(MEMORY), 10, windows[i][0], windows[i][1], none, 0,
-                                     deck, deck_size, text, ROOM);
-        expect(it.status == PPSIM_BAD_NUMBER && is_kept(text, ROOM), "a drawing's turns", i);
-    }
-    ppsim_answer it =
-        ppsim_steps(memory_of(MEMORY), 10, 40, 10, 0, none, 0, deck, deck_size, text, ROOM);
-    expect(it.status == PPSIM_BAD_NUMBER, "processor", 10);
-    it = ppsim_check(memory_of(MEMORY), (const uint8_t *)"1,99", 4, deck, 0, text, ROOM);
-    expect(it.status == PPSIM_BAD_NUMBER, "channel", 99);
+    expect(says(run(TEXT("list\0--turns")), "ppsim: unexpected: --turns\n"), "a line about words", 0);
+    expect(says(run(TEXT("state\0--turns\0x")), "ppsim: number out of range\n"), "a number", 0);
+    expect(run(TEXT("list\0-")).status == PPSIM_DONE, "the input by name", 0);
 }
 
 static ppsim_answer run_in_order(size_t size, const char *order) {
-    return ppsim_barrel(memory_of(size), 10, 8, (const uint8_t *)order, strlen(order), deck,
-                        deck_size, text, ROOM);
+    char words[64] = "barrel\0--turns\0" "8\0--order=";
+    size_t front = sizeof "barrel\0--turns\0" "8\0--order=" - 1, length = strlen(order);
+    memcpy(words + front, order, length);
+    return run_in(size, ROOM, words, front + length, TEXT(DECK));
 }
 
 static void orders(void) {
     static const char shown[] = "000000 PP00 CH05 ACN\n000002 PP00 CH05 PUT 0007\n"
                                 "000003 PP01 CH05 TAK 0007\nPP00 P=0103 A=000007 STOPPED\n"
                                 "PP01 P=0201 A=000007 STOPPED\nCH05 ACTIVE EMPTY\n";
-    static const char *const refused[] = {"12", "0,", ",", " ", "0:", ":3", "0:0", "0:3:3", "000",
-                                          "0:1000000", "0:999999,0"};
+    static const char *const none[] = {"", "12", "0,", ",", " ", "0:", ":3", "0:0", "0:3:3", "000",
+                                       "0:1000000", "0:999999,0"};
     ppsim_answer it = run_in_order(MEMORY, "0:3,1:2,0");
-    expect(it.status == PPSIM_WRITTEN && it.length == sizeof shown - 1, "length", it.length);
+    expect(it.status == PPSIM_DONE && it.output == sizeof shown - 1, "length", it.output);
     expect(!memcmp(text, shown, sizeof shown - 1), "a text in order", it.status);
-    for (size_t i = 0; i < sizeof refused / sizeof *refused; i++) {
-        it = run_in_order(MEMORY, refused[i]);
-        expect(it.status == PPSIM_BAD_NUMBER && is_kept(text, ROOM), "refused order", i);
-        expect_back(MEMORY);
-    }
-    it = run_in_order(MEMORY, "0:999999");
-    expect(it.status == PPSIM_WRITTEN, "an order of", 999999);
-    expect_back(MEMORY);
-    it = run_in_order(MEMORY / 4, "");
-    expect(it.status == PPSIM_WRITTEN, "memory of", MEMORY / 4);
+    for (size_t i = 0; i < sizeof none / sizeof *none; i++)
+        expect(run_in_order(MEMORY, none[i]).status == PPSIM_BAD_USAGE, "refused order", i);
+    expect(run_in_order(MEMORY, "0:999999").status == PPSIM_DONE, "an order of", 999999);
+    expect(run_in_order(MEMORY / 4, "0").status == PPSIM_DONE, "memory of", MEMORY / 4);
     it = run_in_order(MEMORY / 4, "0:999999");
     expect(it.status == PPSIM_NO_MEMORY, "a small memory, and an order of", 999999);
-    expect_back(MEMORY / 4);
 }
 
-static void long_decks(void) {
-    static uint8_t spaces[1500000];
+static void inputs(void) {
+    static char spaces[1500000];
     memset(spaces, ' ', sizeof spaces);
-    ppsim_answer it = ppsim_list(memory_of(MEMORY), 10, spaces, 1048576, text, ROOM);
-    expect(it.status == PPSIM_WRITTEN, "a deck of", 1048576);
-    expect_back(MEMORY);
-    it = ppsim_list(memory_of(MEMORY), 10, spaces, 1048577, text, ROOM);
-    expect(it.status == PPSIM_REFUSED && it.line == 0, "a deck of", 1048577);
-    expect_back(MEMORY);
-    it = ppsim_list(memory_of(MEMORY), 10, spaces, sizeof spaces, text, 7);
-    expect(it.status == PPSIM_REFUSED && !memcmp(text, "deck fa", 7), "words in a room of", 7);
-    expect(is_kept(text + 7, ROOM), "kept past", 7);
+    ppsim_answer it = run_in(MEMORY, ROOM, TEXT("list"), spaces, 1048576);
+    expect(it.status == PPSIM_DONE, "a deck of", 1048576);
+    it = run_in(MEMORY, ROOM, TEXT("list"), spaces, 1048577);
+    expect(it.status == PPSIM_BAD_INPUT && it.output == 0, "a deck of", 1048577);
+    it = run_in(MEMORY, ROOM, TEXT("lint"), TEXT("PP 0\n0100 9\n"));
+    expect(it.status == PPSIM_BAD_INPUT && it.output > 0, "what lint finds", it.status);
+    it = run_in(MEMORY, ROOM, TEXT("test\0--turns\0" "9"), TEXT("PP 0\n*= PP00 STOPPED\n"));
+    expect(it.status == PPSIM_BAD_INPUT && it.output > 0, "what fails", it.status);
+    it = run_in(MEMORY, ROOM, TEXT("check"), TEXT("0 PP00 CH05 DCN\n"));
+    expect(it.status == PPSIM_BAD_INPUT && it.error > 0, "a trace", it.status);
+    for (size_t length = 0; length <= sizeof DECK - 1; length++)
+        run_in(MEMORY, ROOM, TEXT("lint"), DECK, length);
 }
 
 int main(void) {
@@ -146,9 +149,9 @@ int main(void) {
     if (!bytes || !text) return 2;
     rooms();
     memories();
-    numbers();
+    refused();
     orders();
-    long_decks();
+    inputs();
     printf("ends: %s\n", wrong ? "not as they should be" : "as they should be");
     return wrong ? 1 : 0;
 }

@@ -1,8 +1,8 @@
-/* usage: speed PROGRAM DECK: how many calls of `barrel` there are a second, and how many runs of
-   the program. The status is 1 if the library is not at least 50 times as fast. */
+/* usage: speed PROGRAM DECK: how long a call of `barrel` takes, and a run of the program. The status
+   is 1 if the library is not at least 50 times as fast. */
 #define _POSIX_C_SOURCE 200809L
-#include <spawn.h>
 #include <fcntl.h>
+#include <spawn.h>
 #include <stdio.h>
 #include <stdlib.h>
 #include <sys/wait.h>
@@ -11,23 +11,24 @@
 
 extern char **environ;
 static _Alignas(16) unsigned char memory[1 << 22];
-static uint8_t deck[1 << 16], text[1 << 16], order[1];
+static uint8_t deck[1 << 16], text[1 << 16];
+static const char words[] = "barrel\0--turns\0" "40";
 
 static double now(void) {
     struct timespec t;
     clock_gettime(CLOCK_MONOTONIC, &t);
-    return (double)t.tv_sec + 1e-9 * (double)t.tv_nsec;
+    return 1e6 * (double)t.tv_sec + 1e-3 * (double)t.tv_nsec;
 }
 
 static int run_program(const char *program, const char *name) {
-    char *words[] = {(char *)program, "barrel", "--turns", "40", NULL};
+    char *command[] = {(char *)program, "barrel", "--turns", "40", NULL};
     posix_spawn_file_actions_t actions;
     pid_t child;
     int status = -1;
     posix_spawn_file_actions_init(&actions);
     posix_spawn_file_actions_addopen(&actions, 0, name, O_RDONLY, 0);
     posix_spawn_file_actions_addopen(&actions, 1, "/dev/null", O_WRONLY, 0);
-    if (!posix_spawn(&child, program, &actions, NULL, words, environ)) waitpid(child, &status, 0);
+    if (!posix_spawn(&child, program, &actions, NULL, command, environ)) waitpid(child, &status, 0);
     posix_spawn_file_actions_destroy(&actions);
     return status;
 }
@@ -40,15 +41,15 @@ int main(int argc, char **argv) {
     double start = now(), end = start;
     long calls = 0, runs = 0;
     ppsim_memory whole = {memory, sizeof memory};
-    for (; end - start < 1; calls++, end = now()) {
-        if (ppsim_barrel(&whole, 10, 40, order, 0, deck, length, text, sizeof text).status)
+    for (; end - start < 1e6; calls++, end = now())
+        if (ppsim_run(&whole, (const uint8_t *)words, sizeof words - 1, deck, length, text, sizeof text)
+                .status)
             return 2;
-    }
     double per_call = (end - start) / (double)calls;
-    for (start = end; end - start < 1; runs++, end = now())
+    for (start = end; end - start < 1e6; runs++, end = now())
         if (run_program(argv[1], argv[2])) return 2;
     double per_run = (end - start) / (double)runs;
-    printf("speed: %.0f calls a second, %.0f runs of the program: %.0f times as many\n",
-           1 / per_call, 1 / per_run, per_run / per_call);
+    printf("speed: a call takes %.1f us, a run of the program %.0f us: %.0f times as long\n", per_call,
+           per_run, per_run / per_call);
     return per_run / per_call < 50 ? 1 : 0;
 }
