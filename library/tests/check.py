@@ -1,4 +1,6 @@
-"""usage: check.py FOLDER PROGRAM: compares the module in the folder with the program."""
+"""usage: check.py FOLDER PROGRAM: compares `run` of the module in the folder with the program: status
+and both texts, but of the line about refused words only that there is one, as the program's own is
+often clap's."""
 
 import pathlib
 import subprocess
@@ -9,81 +11,67 @@ sys.path.insert(0, str(folder))
 import ppsim  # noqa: E402
 
 EXAMPLES = pathlib.Path(__file__).resolve().parents[2] / "crates/pages/data/examples"
-ORDER = "1:40,0:3,11,2:2,1"
-CALLS = {
-    "barrel --turns 300": lambda deck, **more: ppsim.barrel(deck, turns=300, **more),
-    "list": lambda deck, **more: ppsim.listing(deck, **more),
-    "lint": lambda deck, **more: ppsim.lint(deck, **more),
-    "dump --turns 300": lambda deck, **more: ppsim.dump(deck, turns=300, **more),
-    "state --turns 123": lambda deck, **more: ppsim.state(deck, turns=123, **more),
-    "ends --turns 300": lambda deck, **more: ppsim.ends(deck, turns=300, **more),
-    "memory --turns 300 --pp 1 --first 76 --last 210":
-        lambda deck, **more: ppsim.memory(deck, turns=300, pp=1, first=0o76, last=0o210, **more),
-    "central --turns 300": lambda deck, **more: ppsim.central(deck, turns=300, **more),
-    "sessions --turns 300": lambda deck, **more: ppsim.sessions(deck, turns=300, **more),
-    "races --turns 300": lambda deck, **more: ppsim.races(deck, turns=300, **more),
-    "orders --states 300": lambda deck, **more: ppsim.orders(deck, states=300, **more),
-    "steps --turns 5000": lambda deck, **more: ppsim.steps(deck, turns=5000, **more),
-    "steps --turns 90 --pp 1 --from 30":
-        lambda deck, **more: ppsim.steps(deck, turns=90, pp=1, start=30, **more),
-    "draw --turns 90 --from 30": lambda deck, **more: ppsim.draw(deck, turns=90, start=30, **more),
-}
+ORDER = "--order 1:40,0:3,11,2:2,1"
+PLAIN = ["list", "lint", "ends --turns 300", "orders --states 300", "test --turns 300"]
+RUNS = ["barrel --turns 300", "dump --turns 300", "state --turns 123", "test --turns 123",
+        "memory --turns 300 --pp 1 --first 76 --last 210", "central --turns 300 --first 11",
+        "sessions --turns 300", "sessions --words --turns 300", "races --turns 300",
+        "steps --turns 5000", "steps --turns 90 --pp 1,3 --from 30 --to 80", "steps --turns 300 --ch 5",
+        "draw --turns 90 --from 30"]
+UNTIL = ["PP00 P=0105", "PP01 (0300)", "PP01 STOPPED", "PP02 FAULT", "PP01 HELD", "CM 20", "CH05",
+         "CH05 PUT 7", "CH01 DCN", "LOST", "QUIET"]
+REFUSED = ["", "barrels", "barrel", "list --turns 1", "barrel --turns", "barrel --turns 1 --turns 1",
+           "barrel --turns 1000000", "barrel --turns -1", "barrel --turns x", "barrel -t 1",
+           "barrel --turns 1 --processors 11", "orders --states 0", "draw --turns 2001",
+           "steps --turns 1 --pp 12", "memory --turns 1 --pp 0 --first 5 --last 4",
+           "central --turns 1 --last 400000", "barrel --turns 1 --until CH5=3", "list - -",
+           "barrel --turns 1 --times 2", "barrel --turns 1 --order 12", "barrel --turns 1 --order 0,",
+           "barrel --turns 1 --order 0:1000000", "check --opened 1,99", "sessions --words=1 --turns 1"]
+OTHERS = ["threads --steps 1 --patience 1", "list handoff.deck", "help", "list --help", "--version"]
 differ = same = 0
 
 
-def answer_of(call):
-    try:
-        return 0, call()
-    except ppsim.Fault as fault:
-        return fault.status, f"ppsim: {fault}\n"
-
-
-def compare(words, given, call):
+def expect(is_so, words, *shown):
     global differ, same
-    run = subprocess.run([program, *words.split()], input=given, capture_output=True)
-    its = run.returncode, (run.stderr if run.returncode else run.stdout).decode()
-    if words.startswith("lint") and run.stdout:  # what is found is a text as any other
-        its = 0, run.stdout.decode()
-    if answer_of(call) == its:
+    if is_so:
         same += 1
     else:
         differ += 1
-        print(f"differs: {words}: {answer_of(call)}, {its}")
+        print("differs:", words, *shown)
 
 
-def raises(kind, call):
-    global differ, same
-    try:
-        call()
-    except kind:
-        same += 1
-    else:
-        differ += 1
-        print(f"no {kind.__name__}")
+def compare(words, given):
+    mine = ppsim.run(words, given)
+    it = subprocess.run([program, *words], input=given, capture_output=True)
+    its = ppsim.Result(it.returncode, it.stdout.decode(), it.stderr.decode())
+    if its.error.startswith("error: "):
+        its = its._replace(error=mine.error and mine.error)
+        expect(mine.error.startswith("ppsim: "), words, mine)
+    expect(mine == its, words, mine, its)
 
 
 for path in sorted(EXAMPLES.glob("*.deck")):
     deck = path.read_bytes()
-    for processors in (10, 20):
-        for words, call in CALLS.items():
-            line = f"{words} --processors {processors}"
-            compare(line, deck, lambda: call(deck, processors=processors))
-            if words.split()[0] not in ["list", "lint", "ends", "orders"]:
-                compare(f"{line} --order {ORDER}", deck,
-                        lambda: call(deck, processors=processors, order=ORDER))
+    for more in ([], ["--processors", "20"]):
+        for line in PLAIN + RUNS:
+            compare([*line.split(), *more], deck)
+        for line in RUNS:
+            compare([*line.split(), *ORDER.split(), *more], deck)
+        for condition in UNTIL:
+            compare(["state", "--turns", "300", f"--until={condition}", "--times=2", *more], deck)
+            compare(["steps", "--turns", "300", "--where", condition, *more, "-"], deck)
 for path in sorted(EXAMPLES.glob("*.text")):
-    trace = path.read_bytes()
-    compare("check", trace, lambda: ppsim.check(trace))
-    compare("check --opened 1,13", trace, lambda: ppsim.check(trace, opened=[1, 0o13]))
-raises(ppsim.NumberFault, lambda: ppsim.state("", turns=-1))
-raises(ValueError, lambda: ppsim.state("", turns=2**32 + 5))
-raises(ppsim.NumberFault, lambda: ppsim.orders("", states=0))
-raises(ppsim.NumberFault, lambda: ppsim.steps("", turns=1, pp=255))
-raises(ppsim.NumberFault, lambda: ppsim.memory("", turns=1, pp=0o12))
-raises(ppsim.NumberFault, lambda: ppsim.state("", turns=1, order="12"))
-raises(ppsim.NumberFault, lambda: ppsim.state("", turns=1, order="0,"))
-raises(ppsim.NumberFault, lambda: ppsim.state("", turns=1, order="0:1000000"))
-raises(ppsim.NumberFault, lambda: ppsim.central("", turns=1, last=0o400000))
-raises(ppsim.Fault, lambda: ppsim.listing("\u00e9"))
+    for line in ["check", "check --opened 1,13"]:
+        compare(line.split(), path.read_bytes())
+some = (EXAMPLES / "handoff.deck").read_bytes()
+for line in REFUSED:
+    compare(line.split(), some)
+compare(["state", "--turns", "1", "--order", ""], some)
+compare(["list", "\udcff"], some)
+compare(["list"], "PP 0\n0100 \u00e9".encode())
+compare(["list"], b" " * 1048577)
+for line in OTHERS:  # the program's own: it has threads, files and help
+    it = ppsim.run(line.split(), some)
+    expect(it.status == 2 and not it.output and it.error.startswith("ppsim: "), line, it)
 print(f"module and program: {same} the same, {differ} differ")
 sys.exit(1 if differ else 0)
