@@ -190,9 +190,10 @@ Prints what is wrong in a deck, by line and column. Nothing is run.
 
 Reads the deck from FILE or standard input. Prints to standard output a line for each fault, as in
 '2:11 wrong digits: 1603,3450': its line and its column (decimal, from 1), what is wrong, and the
-field that is; or 'nothing found'. After a fault it goes on with the next line, so that all of them
-are printed. The exit status is 1 if something is found. What else goes wrong is one line on
-standard error.",
+field that is; and for each instruction that is another than the comment of its line says, as in
+'5:29 UJN 0205, but 0373 is UJN 0204', both; or 'nothing found'. After a fault it goes on with the
+next line, so that all of them are printed. The exit status is 1 if something is found. What else
+goes wrong is one line on standard error.",
         example: example!("lint", "comma.deck", "  PP 0
   0100 1405 1603,3450 0300
   START 0100"),
