@@ -1,94 +1,52 @@
 // node --experimental-wasm-memory64 compare.js LIBRARY.wasm [PROGRAM]
 //
 // Compares the library, called as the page calls it, with the program, byte for byte: on each case
-// of the pages, and on decks and traces with bytes changed at random. Then it calls with numbers
-// out of range, little memory and little room. The status is 1 if anything differs.
+// of the pages, on decks and traces with bytes changed at random, and on words changed at random.
+// Then it calls with little memory and little room. The status is 1 if anything differs.
 'use strict';
 const fs = require('fs'), path = require('path');
 const { spawnSync } = require('child_process');
 
 const top = path.join(__dirname, '../..'), data = path.join(top, 'crates/pages/data');
 const [file, program = path.join(top, 'crates/ppsim/out/ppsim')] = process.argv.slice(2);
-const RANDOM = 1000;
+const RANDOM = 1500;
 
 // ---- the library, by the part of the page's worker that calls it
 
 const script = fs.readFileSync(path.join(__dirname, '../worker.js'), 'utf8');
-const calling = script.slice(0, script.indexOf('// ---- a command line'));
+const calling = script.slice(0, script.indexOf('// ---- what the page asks'));
 const library = new WebAssembly.Module(fs.readFileSync(file));
-const call = new Function('it', `'use strict';${calling}library = it; return call;`)(library);
+const run = new Function('it', `'use strict';${calling}library = it; return run;`)(library);
 
 const { grow } = WebAssembly.Memory.prototype; // node 20 counts a memory's pages by a plain number
 WebAssembly.Memory.prototype.grow = function (pages) {
   try { return grow.call(this, pages); } catch { return grow.call(this, Number(pages)); }
 };
 
-// ---- what a command line asks of the library
-
-const OPTIONS = {
-  barrel: ['processors', 'turns'], dump: ['processors', 'turns'], state: ['processors', 'turns'],
-  sessions: ['processors', 'turns'], races: ['processors', 'turns'], list: ['processors'], lint: ['processors'],
-  ends: ['processors', 'turns'], orders: ['processors', 'states'],
-  memory: ['processors', 'turns', 'pp', 'first', 'last'],
-  central: ['processors', 'turns', 'first', 'last'],
-  steps: ['processors', 'turns', 'pp', 'from'], draw: ['processors', 'from', 'to', 'turns'],
-  check: ['opened'],
-};
-const NAMES = Object.keys(OPTIONS), LAST = { memory: '7777', central: '377777' };
-const hasOrder = name => name in OPTIONS && !['list', 'lint', 'ends', 'orders', 'check'].includes(name);
-
-/** The call for these words, or nothing where the library has none, as for what is no number. */
-function callFor([name, ...words], input) {
-  const known = OPTIONS[name], given = {};
-  if (!known || words.length % 2) return null;
-  for (let n = 0; n < words.length; n += 2) {
-    const option = words[n].replace(/^--/, '');
-    const isKnown = known.includes(option) || (option === 'order' && hasOrder(name));
-    if (!isKnown || option in given || words[n + 1] === '') return null;
-    given[option] = words[n + 1];
-  }
-  if (name === 'check') return () => call(name, [], input, given.opened ?? '');
-  given.processors ??= '10';
-  given.from ??= '0';
-  given.to ??= given.turns;
-  given.first ??= '0';
-  given.last ??= LAST[name] ?? '0';
-  if (given.pp !== undefined && !/^[0-7]{1,2}$/.test(given.pp)) return null;
-  given.pp = String(given.pp === undefined ? 255 : parseInt(given.pp, 8));
-  for (const it of ['first', 'last']) {
-    if (!/^[0-7]{1,9}$/.test(given[it])) return null;
-    given[it] = String(parseInt(given[it], 8));
-  }
-  const numbers = known.map(it => given[it]);
-  if (!numbers.every(it => /^\d{1,9}$/.test(it))) return null;
-  if (name === 'draw') { // a window has no turns but its own
-    const turns = Number(numbers.pop());
-    if (turns < Number(given.to) || turns > 999999) return null;
-  }
-  const exported = name in LAST ? `${name}_words` : name;
-  return () => call(exported, numbers.map(Number), input, given.order);
-}
-
 let same = 0, refused = 0, differ = 0, others = 0;
 
+/** Whether the words ask for what the library has not: help, the version, threads. */
+const isOther = words => !words.length || ['help', 'threads'].includes(words[0])
+  || words.some(it => /^(-h|-V|--help|--version)/.test(it));
+
+/** Compares status and both texts; of words that are refused the status, as clap has its own texts
+    for them. */
 function compare(words, input) {
-  const mine = callFor(words, input);
-  if (!mine) return void others++;
-  const { status, line, text } = mine();
+  if (isOther(words)) return void others++;
+  const mine = run(words, input);
   const its = spawnSync(program, words, { input, maxBuffer: 1 << 30 });
   if (its.error && its.error.code !== 'EPIPE') throw its.error; // it need not read its input
-  const fault = its.stderr.toString().replace(/^ppsim: |\n$/g, '');
-  const itsLine = Number(/line (\d+)/.exec(fault)?.[1] ?? 0);
-  const isText = !its.status || (words[0] === 'lint' && its.stdout.length); // also what is found
-  const itsText = isText ? its.stdout.toString() : fault;
-  const isSame = status === (isText ? 0 : its.status)
-    && (status === 2 || (line === itsLine && text === itsText));
+  const output = its.stdout.toString(), error = its.stderr.toString();
+  // A file that is named is read by the program, or is not there; the library refuses it.
+  if (mine.error.includes('no file is read here')) return void others++;
+  const isSame = mine.status === its.status
+    && (mine.status === 2 || (mine.output === output && mine.error === error));
   if (isSame) {
     same++;
-    refused += status > 0;
+    refused += mine.status > 0;
   } else if (differ++ < 10) {
-    console.log('differs:', words.join(' '), { status, line, text: text.slice(0, 200) });
-    console.log('program:', its.status, itsLine, itsText.slice(0, 200));
+    console.log('differs:', words.join(' '), mine.status, mine.output.slice(0, 200), mine.error);
+    console.log('program:', its.status, output.slice(0, 200), error);
   }
 }
 
@@ -167,57 +125,81 @@ function order() {
   return items.join(',');
 }
 
+const OPTIONS = {
+  barrel: ['turns', 'order', 'until'], dump: ['turns', 'order', 'until'],
+  state: ['turns', 'order', 'until'], sessions: ['turns', 'words', 'order', 'until'],
+  races: ['turns', 'order'], ends: ['turns'], orders: ['states'], list: [], lint: [],
+  test: ['turns', 'order', 'until'],
+  memory: ['turns', 'pp', 'first', 'last', 'order'], central: ['turns', 'first', 'last', 'order'],
+  steps: ['turns', 'pps', 'ch', 'from', 'to', 'where', 'order', 'until'],
+  draw: ['turns', 'from', 'order'], check: ['opened'],
+};
+const NAMES = Object.keys(OPTIONS);
+const CONDITIONS = ['PP00 P=0103', 'PP01 (0302)', 'PP00 STOPPED', 'PP01 HELD', 'CM 20', 'CH05', 'CH05 DCN', 'LOST', 'QUIET', 'PP40 P=1', 'CH5', ''];
+const VALUES = {
+  turns: () => random(400), states: () => 1 + random(300), order, until: () => CONDITIONS[random(CONDITIONS.length)],
+  where: () => CONDITIONS[random(CONDITIONS.length)], pp: () => random(10).toString(8), pps: () => `${random(8)},1`,
+  ch: () => '5,1', from: () => random(100), to: () => 100 + random(300), first: () => random(200).toString(8),
+  last: () => (200 + random(4000)).toString(8), opened: () => '1,5,13',
+};
+
+/** The words of a command, now and then with a slip: a word twice, left out or changed. */
+function wordsOf(name) {
+  const words = [name];
+  for (const option of OPTIONS[name]) {
+    if (!['turns', 'states'].includes(option) && !(option === 'pp') && random(2)) continue;
+    if (option === 'words') { words.push('--words'); continue; }
+    const value = String(VALUES[option]()), named = option === 'pps' ? '--pp' : `--${option}`;
+    words.push(...(random(5) ? [named, value] : [`${named}=${value}`]));
+  }
+  if (name !== 'check' && !random(3)) words.push('--processors', random(9) ? '20' : '12');
+  if (!random(12)) words.push('-');
+  const place = random(words.length), slip = random(24);
+  if (slip === 0) words.splice(place, 1);
+  if (slip === 1) words.splice(place, 0, words[place]);
+  if (slip === 2) words[place] = ['--', '-t', '--=', '--words=1', '-5', '1000000', '--turn', 'x', '--times', '--turns='][random(10)];
+  return words;
+}
+
 function compareRandom() {
   const examples = path.join(data, 'examples'), names = fs.readdirSync(examples);
   const kept = end => names.filter(it => it.endsWith(end))
     .map(it => fs.readFileSync(path.join(examples, it))).filter(it => it.length > 0);
   const decks = kept('.deck'), traces = kept('.text');
   for (let n = 0; n < RANDOM; n++) {
-    const name = NAMES[random(NAMES.length)], turns = random(400), of = random(3) ? 10 : 20;
-    const all = name === 'check' ? traces : decks, known = OPTIONS[name];
-    const words = [name];
-    if (known.includes('turns')) words.push('--turns', turns);
-    if (known.includes('states')) words.push('--states', 1 + random(300));
-    if (known.includes('from')) words.push('--from', random(turns + 1));
-    const isChosen = known.includes('pp') && (name === 'memory' || random(2));
-    if (isChosen) words.push('--pp', random(10).toString(8));
-    if (known.includes('processors')) words.push('--processors', of);
-    if (hasOrder(name) && random(2)) words.push('--order', order());
-    compare(words.map(String), changed(all[random(all.length)]));
+    const words = wordsOf(NAMES[random(NAMES.length)]), all = words[0] === 'check' ? traces : decks;
+    compare(words, random(2) ? changed(all[random(all.length)]) : all[random(all.length)]);
   }
 }
 
-// ---- numbers, memory and room at their ends
+// ---- memory and room at their ends
 
 const KEPT = 0xa5;
 
-/** A call with this much memory and this much room, and with this order, if it takes one; and
-    whether the memory was given back, and nothing else written. */
-function squeezed(name, numbers, input, memory, room, order = '') {
+/** A call with this much memory and this much room; and whether the memory was given back, and
+    nothing else written. */
+function squeezed(words, input, memory, room) {
   const { exports } = new WebAssembly.Instance(library);
   exports.memory.grow(BigInt(1024));
   const bytes = new Uint8Array(exports.memory.buffer), view = new DataView(bytes.buffer);
-  const aligned = n => Math.ceil(n / 16) * 16;
+  const aligned = n => Math.ceil(n / 16) * 16, asked = Buffer.from(words.join('\0'));
   const answer = aligned(Number(exports.__heap_base.value)), place = answer + 32;
-  const list = place + 16, start = list + order.length, end = start + input.length;
-  const isBare = ['list', 'lint', 'orders'].includes(name), out = aligned(end) + 16;
-  const lists = isBare ? [] : [list, order.length].map(BigInt);
-  const work = aligned(out + room) + 16;
+  const list = place + 16, start = list + asked.length, end = start + input.length;
+  const out = aligned(end) + 16, work = aligned(out + room) + 16;
   bytes.fill(KEPT, answer);
-  bytes.set(Buffer.from(order), list);
+  bytes.set(asked, list);
   bytes.set(input, start);
   view.setBigUint64(place, BigInt(work), true);
   view.setBigUint64(place + 8, BigInt(memory), true);
-  exports[`ppsim_${name}`](BigInt(answer), BigInt(place), ...numbers, ...lists,
-    BigInt(start), BigInt(input.length), BigInt(out), BigInt(room));
+  exports.ppsim_run(...[answer, place, list, asked.length, start, input.length, out, room].map(BigInt));
   const isKept = (from, to) => bytes.subarray(from, to).every(it => it === KEPT);
   const isBack = view.getBigUint64(place, true) === BigInt(work)
     && view.getBigUint64(place + 8, true) === BigInt(memory);
   const isInside = isBack && Buffer.from(bytes.subarray(start, end)).equals(Buffer.from(input))
     && isKept(end, out) && isKept(out + room, work) && isKept(work + memory, bytes.length);
-  const length = Number(view.getBigUint64(answer + 16, true));
+  const [output, error] = [8, 16].map(it => Number(view.getBigUint64(answer + it, true)));
   const status = view.getUint32(answer, true);
-  return { status, length, isInside, isKept: isKept(out, out + room) };
+  return { status, output, error, isInside, isKept: isKept(out, out + room) };
 }
 
 function expect(what, isSo) {
@@ -231,46 +213,37 @@ function expect(what, isSo) {
 
 function squeeze() {
   const deck = fs.readFileSync(path.join(data, 'examples/handoff.deck')), ample = 1 << 22;
-  const whole = squeezed('barrel', [10, 40], deck, ample, 4096);
+  const barrel = ['barrel', '--turns', '40'];
+  const whole = squeezed(barrel, deck, ample, 4096);
   expect('ample room', whole.status === 0 && whole.isInside);
-  for (let room = 0; room < whole.length; room += 7) {
-    const { status, length, isInside, isKept } = squeezed('barrel', [10, 40], deck, ample, room);
-    expect(`a room of ${room}`, status === 5 && length === whole.length && isInside && isKept);
+  for (let room = 0; room < whole.output; room += 7) {
+    const { status, output, isInside, isKept } = squeezed(barrel, deck, ample, room);
+    expect(`a room of ${room}`, status === 5 && output === whole.output && isInside && isKept);
   }
-  const exact = squeezed('barrel', [10, 40], deck, ample, whole.length);
+  const exact = squeezed(barrel, deck, ample, whole.output);
   expect('a room of just the length', exact.status === 0 && exact.isInside);
+  const fault = squeezed(['barrel'], deck, ample, 4096);
+  expect('words that are refused', fault.status === 2 && fault.output === 0 && fault.error > 0);
+  for (let room = 0; room < fault.error; room++) {
+    const { status, error, isInside } = squeezed(['barrel'], deck, ample, room);
+    expect(`a room of ${room} for a refusal`, status === 2 && error <= room && isInside);
+  }
   for (const memory of [0, 16, 32, 64, 1024, 65536]) {
-    const { status, isInside } = squeezed('state', [10, 40], deck, memory, 4096);
+    const { status, isInside } = squeezed(['state', '--turns', '40'], deck, memory, 4096);
     expect(`memory of ${memory}`, status === 4 && isInside);
   }
   const long = '0:999999', little = 1 << 20;
-  for (const [order, memory, status] of [['', little, 0], [long, little, 4], [long, ample, 0]]) {
-    const it = squeezed('barrel', [10, 40], deck, memory, 4096, order);
-    expect(`the order ${order} in memory of ${memory}`, it.status === status && it.isInside);
+  for (const [order, memory, wanted] of [['0', little, 0], [long, little, 4], [long, ample, 0]]) {
+    const it = squeezed([...barrel, '--order', order], deck, memory, 4096);
+    expect(`the order ${order} in memory of ${memory}`, it.status === wanted && it.isInside);
   }
   for (const size of [1048576, 1048577, 1500000]) {
-    const { status, isInside } = squeezed('list', [10], Buffer.alloc(size, '* '), 1 << 24, 4096);
+    const { status, isInside } = squeezed(['list'], Buffer.alloc(size, '* '), 1 << 24, 4096);
     expect(`a deck of ${size}`, status === (size > 1048576 ? 1 : 0) && isInside);
   }
-  const most = 4294967295, wrong = {
-    barrel: [[0, 0], [11, 1], [most, 1], [10, 1000000], [20, most]],
-    list: [[0], [19]],
-    lint: [[0], [19]],
-    orders: [[0, 1], [11, 1], [10, 0], [10, 10000000], [20, most]],
-    steps: [[10, 1, 10, 0], [10, 1, 254, 0], [10, 1000000, 255, 0], [10, 5, 255, 1000000]],
-    draw: [[10, 2, 1], [10, 0, 2001], [10, 999000, 1000000], [10, most, 0], [5, 0, 1]],
-    memory_words: [[10, 1, 10, 0, 1], [10, 1, 255, 0, 1], [10, 1, 0, 5, 4], [10, 1, 0, 0, 0o10000]],
-    central_words: [[10, 1, 0, 0o400000], [10, 1, 3, 2], [10, 1000000, 0, 1]],
-  };
-  for (const [name, rows] of Object.entries(wrong)) {
-    for (const numbers of rows) {
-      const { status, isInside, isKept } = squeezed(name, numbers, deck, ample, 64);
-      expect(`${name} ${numbers}`, status === 2 && isInside && isKept);
-    }
-  }
-  for (const order of ['12', '0,', ',', ' ', '0:', ':3', '0:0', '000', '0:1000000', `${long},0`]) {
-    const { status, isInside, isKept } = squeezed('state', [10, 40], deck, ample, 64, order);
-    expect(`the order ${order}`, status === 2 && isInside && isKept);
+  for (const words of [['list', 'x.deck'], ['threads', '--steps', '5', '--patience', '5'], [''], ['list', '']]) {
+    const { status, output, isInside } = squeezed(words, deck, ample, 64);
+    expect(words.join(' '), status === 2 && output === 0 && isInside);
   }
 }
 

@@ -2,75 +2,12 @@
 
 use crate::command::ValueForm::{Flag, Number, Text};
 use crate::command::{CommandForm, CommandHelp, OptionForm};
+use crate::command_macros::{command, example, four_example, handoff_example, option};
 use crate::number_range::{DRAWN_FROM, FROM, PATIENCE, STATES, STEPS, TO};
 use crate::run_options::{
     FIRST_OPTION, ORDER_OPTION, PROCESSORS_OPTION, RUN_OPTIONS, TIMES_OPTION, TURNS_OPTION,
     UNTIL_OPTION,
 };
-
-/// An example of a command, over a file with these lines; and what stands before it.
-macro_rules! example {
-    ($words:literal, $file:literal, $lines:literal $(, after $front:literal)?) => {
-        concat!(
-            $($front,)?
-            "Example:\n  ppsim ", $words, " < ", $file,
-            "\nwhere ", $file, " has the lines\n", $lines
-        )
-    };
-}
-
-/// An example over a deck in which one processor hands a word to another.
-macro_rules! handoff_example {
-    ($words:literal $(, after $front:literal)?) => {
-        example!($words, "handoff.deck", "  PP 0
-  0100 7405 1407 7205 0300
-  START 0100
-  PP 1
-  0200 7005 0300
-  START 0200" $(, after $front)?)
-    };
-}
-
-/// An example over a deck of four instructions.
-macro_rules! four_example {
-    ($words:literal) => {
-        example!($words, "four.deck", "  PP 0
-  0100 1405 1603 3450 0300
-  START 0100")
-    };
-}
-
-/// An option, and whether its command needs it.
-macro_rules! option {
-    (required: $required:literal, $name:literal, $value:expr) => {
-        OptionForm {
-            name: $name,
-            required: $required,
-            value: $value,
-        }
-    };
-}
-
-/// A command with its help.
-macro_rules! command {
-    (
-        name: $name:literal,
-        about: $about:literal,
-        long_about: $long_about:literal,
-        example: $example:expr,
-        options: $options:expr,
-    ) => {
-        CommandHelp {
-            form: &CommandForm {
-                name: $name,
-                about: $about,
-                example: $example,
-                options: $options,
-            },
-            long_about: $long_about,
-        }
-    };
-}
 
 pub(crate) const ABOUT: &str =
     "Simulates the peripheral processors and data channels of a Control Data 6600";
@@ -190,9 +127,10 @@ Prints what is wrong in a deck, by line and column. Nothing is run.
 
 Reads the deck from FILE or standard input. Prints to standard output a line for each fault, as in
 '2:11 wrong digits: 1603,3450': its line and its column (decimal, from 1), what is wrong, and the
-field that is; or 'nothing found'. After a fault it goes on with the next line, so that all of them
-are printed. The exit status is 1 if something is found. What else goes wrong is one line on
-standard error.",
+field that is; and for each instruction that is another than the comment of its line says, as in
+'5:29 UJN 0205, but 0373 is UJN 0204', both; or 'nothing found'. After a fault it goes on with the
+next line, so that all of them are printed. The exit status is 1 if something is found. What else
+goes wrong is one line on standard error.",
         example: example!("lint", "comma.deck", "  PP 0
   0100 1405 1603,3450 0300
   START 0100"),

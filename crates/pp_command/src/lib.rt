@@ -5,6 +5,7 @@ mod call_fault;
 mod call_words;
 mod channel_list;
 mod command;
+mod command_macros;
 mod command_words;
 mod commands;
 mod line_fault;

@@ -10,8 +10,8 @@ pub enum Work {
     Deck { profile: Profile, text: TextOf },
     /// What is found in a deck, for a machine of this profile.
     Lint { profile: Profile },
-    /// The verdict on the run of this many turns (decimal) of a deck, by its own expectations, for a
-    /// machine of this profile.
+    /// The verdict on the run of this many turns (decimal) of a deck, by its own expectations, for
+    /// a machine of this profile.
     Test { profile: Profile, turns: u32 },
     /// The run of a deck with one thread per processor of this profile, within these limits.
     Threads { profile: Profile, limits: Limits },

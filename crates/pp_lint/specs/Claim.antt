@@ -10,8 +10,8 @@ use Rattle.pp_word.specs.Opcode.{operations, row_of}
 use Rattle.pp_deck.specs.DeckText.{Field, Fields}
 use Rattle.pp_lint.specs.Column.{begins_field}
 
--- what is said of an instruction: its mnemonic, which is this field of the comment, the first 0; and
--- its operand, empty if none is said
+-- what is said of an instruction: its mnemonic, which is this field of the comment, the first 0;
+-- and its operand, empty if none is said
 pub record Claim : Type 0 where
   pub field : ℕ
   pub mnemonic : List ℕ

@@ -16,9 +16,10 @@ use Rattle.pp_text.specs.Written.{AppendsFront}
 use Rattle.pp_command.specs.declared.{line_fault.LineFault.LineFault, work.Work.Work}
 use Rattle.pp_sim.specs.declared.text_fault.TextFault.{TextFault}
 
--- The answer of a work: a text of the deck that was read, in whose run these processors come first,
--- and which goes on until then, or what stands in its way; what is found in the deck; the verdict on
--- such a run; or the check of the trace that was read. Z is the allocator's type, of which a report is made.
+-- The answer of a work: a text of the deck that was read, in whose run these processors come
+-- first, and which goes on until then, or what stands in its way; what is found in the deck; the
+-- verdict on such a run; or the check of the trace that was read. Z is the allocator's type, of
+-- which a report is made.
 abbrev pub IsDone : Type 0 → Work → List ℕ → Option Until → Result (Unit {0}) TextFault
     → Option (List ℕ) → Option (List ℕ) → Option (List ℕ) → Option (List ℕ) → Type 0
 IsDone Z (Work.Deck profile text) first until =

@@ -29,7 +29,8 @@ ComesTo profile first until turns bytes lines =
     IsOfDeck profile (IsTestText first until turns) bytes lines
 
 -- THE ANSWER to a deck of these bytes, for a machine of this profile, and what was written: the
--- verdict on the lines of its run, which is that all held, or another; a first part of it; or nothing
+-- verdict on the lines of its run, which is that all held, or another; a first part of it; or
+-- nothing
 abbrev pub IsTest : Profile → List ℕ → Option Until → ℕ → Result (Unit {0}) TextFault → List ℕ
     → Option (List ℕ) → Option (List ℕ) → Type 0
 IsTest profile first until turns (Ok done) bytes old new = (lines : List ℕ)

@@ -16,8 +16,8 @@ use std::thread::Threads;
 
 /// It is done, or help was asked for.
 const DONE: u8 = 0;
-/// The deck was refused, or can't be dumped as it stands, or something is found in it, or its run is
-/// not as it expects; or a trace is not lawful.
+/// The deck was refused, or can't be dumped as it stands, or something is found in it, or its run
+/// is not as it expects; or a trace is not lawful.
 const BAD_INPUT: u8 = 1;
 /// The command line was refused.
 pub(crate) const BAD_USAGE: u8 = 2;

@@ -22,8 +22,8 @@ pub enum TextFault {
     /// The run left a machine that a dump can't show, since this goes on in it.
     #[error("not between programs: {0}")]
     NotBetweenPrograms(Busy),
-    /// The text was written, and says what was found in the deck, or that its run is not as the deck
-    /// expects.
+    /// The text was written, and says what was found in the deck, or that its run is not as the
+    /// deck expects.
     #[error("something is found")]
     Findings,
     /// A trace is not lawful.

@@ -36,7 +36,8 @@ last_words count failed = if count == 0 then codes "no expectations"
 
 -- THE VERDICT on the lines of a text: what of the deck's expectations failed, and how many
 unfoldable pub verdict : List ℕ → List ℕ → List ℕ
-verdict deck text = let expected = expectations deck in let failed = failures (lines_in text) expected in
+verdict deck text = let expected = expectations deck in
+    let failed = failures (lines_in text) expected in
     flat_map (failure_text (lines_in text)) failed
     ++ last_words (length expected) (length failed) ++ line_end
 

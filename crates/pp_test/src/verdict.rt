@@ -79,7 +79,8 @@ fn print_last_words<W: Write>(text: &mut TextWriter<W>, count: u64, failed: u64)
 /// Prints the expectations that fail, and counts them.
 fn print_failures<W: Write>(text: &mut TextWriter<W>, deck: &[u8], lines: &[u8]) -> Tally
     requires { length deck.now ≤ 2 ^ 62 }
-    ensures prints { Prints W.contents text.old text.new (flat_map (failure_text (lines_in lines.now))
+    ensures prints { Prints W.contents text.old text.new
+        (flat_map (failure_text (lines_in lines.now))
         (failures (lines_in lines.now) (expectations deck.now))) }
     ensures all { result.all ≡ length (expectations deck.now) }
     ensures failed { result.failed
@@ -100,7 +101,8 @@ fn print_failures<W: Write>(text: &mut TextWriter<W>, deck: &[u8], lines: &[u8])
 /// Judges the expectation in a line of this number, if it is one, and prints it if it fails.
 fn judge_line<W: Write>(text: &mut TextWriter<W>, number: u64, line: &[u8], lines: &[u8]) -> Tally
     requires { length line.now ≤ 2 ^ 62 }
-    ensures prints { Prints W.contents text.old text.new (flat_map (failure_text (lines_in lines.now))
+    ensures prints { Prints W.contents text.old text.new
+        (flat_map (failure_text (lines_in lines.now))
         (failures (lines_in lines.now) (expectation_in number line.now))) }
     ensures all { result.all ≡ length (expectation_in number line.now) }
     ensures failed { result.failed

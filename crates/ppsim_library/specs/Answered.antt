@@ -21,8 +21,8 @@ NeedsNoThreads (Work.Test profile turns) = Unit {0}
 NeedsNoThreads (Work.Threads profile limits) = ⊥
 NeedsNoThreads (Work.Check opened) = Unit {0}
 
--- the status of a fault: the program's own, but that bytes are read without a fault, and are written
--- without one but for want of memory
+-- the status of a fault: the program's own, but that bytes are read without a fault, and are
+-- written without one but for want of memory
 abbrev pub status_of : TextFault → ℕ
 status_of (TextFault.Deck f) = 1
 status_of (TextFault.NotBetweenPrograms going_on) = 1

@@ -1,0 +1,71 @@
+//! How a row of the table of commands is written.
+
+/// An example of a command, over a file with these lines; and what stands before it.
+macro_rules! example {
+    ($words:literal, $file:literal, $lines:literal $(, after $front:literal)?) => {
+        concat!(
+            $($front,)?
+            "Example:\n  ppsim ", $words, " < ", $file,
+            "\nwhere ", $file, " has the lines\n", $lines
+        )
+    };
+}
+
+/// An example over a deck in which one processor hands a word to another.
+macro_rules! handoff_example {
+    ($words:literal $(, after $front:literal)?) => {
+        example!($words, "handoff.deck", "  PP 0
+  0100 7405 1407 7205 0300
+  START 0100
+  PP 1
+  0200 7005 0300
+  START 0200" $(, after $front)?)
+    };
+}
+
+/// An example over a deck of four instructions.
+macro_rules! four_example {
+    ($words:literal) => {
+        example!($words, "four.deck", "  PP 0
+  0100 1405 1603 3450 0300
+  START 0100")
+    };
+}
+
+/// An option, and whether its command needs it.
+macro_rules! option {
+    (required: $required:literal, $name:literal, $value:expr) => {
+        OptionForm {
+            name: $name,
+            required: $required,
+            value: $value,
+        }
+    };
+}
+
+/// A command with its help.
+macro_rules! command {
+    (
+        name: $name:literal,
+        about: $about:literal,
+        long_about: $long_about:literal,
+        example: $example:expr,
+        options: $options:expr,
+    ) => {
+        CommandHelp {
+            form: &CommandForm {
+                name: $name,
+                about: $about,
+                example: $example,
+                options: $options,
+            },
+            long_about: $long_about,
+        }
+    };
+}
+
+pub(crate) use command;
+pub(crate) use example;
+pub(crate) use four_example;
+pub(crate) use handoff_example;
+pub(crate) use option;
