@@ -2,6 +2,7 @@
 
 import pathlib
 import re
+from collections.abc import Callable
 
 import pytest
 
@@ -68,7 +69,7 @@ def test_words_are_those_loaded_and_changed(name: str) -> None:
     expected = words_by(m, ppsim.run(["list", *size], DECKS[name]).output)
     expected |= words_by(m, m.view("state"))
     shown: dict[object, int] = {(n, place): word for n in m.pp for place, word in m.memory(n).items()}
-    shown |= m.central
+    shown |= {address: word for address, word in m.central.items()}
     assert shown == {it: word for it, word in expected.items() if word}
 
 
@@ -162,14 +163,18 @@ def test_refusals() -> None:
     assert (caught.value.status, caught.value.words) == (1, "deck fault 4 at line 2")
     m = machine("handoff", 999_999)
     assert m.pp[1].state == "STOPPED"
-    for wrong in [lambda: m.turns(1), lambda: m.step(1), lambda: m.step(0o12, 0), lambda: m.turns(-1),
-                  lambda: m.back(-1), lambda: m.back(1_000_000), lambda: ppsim.Machine("", order="8")]:
+    wrong: list[Callable[[], object]] = [
+        lambda: m.turns(1), lambda: m.step(1), lambda: m.step(0o12, 0), lambda: m.turns(-1),
+        lambda: m.back(-1), lambda: m.back(1_000_000), lambda: ppsim.Machine("", order="8")]
+    for call in wrong:
         with pytest.raises(ValueError):
-            wrong()
-    for refused in [lambda: ppsim.Machine("", 11), lambda: m.until("CH05 GET"), lambda: m.memory(0o12),
-                    lambda: m.endings(0), lambda: m.view("threads"), lambda: m.view("state", "deck")]:
+            call()
+    refused: list[Callable[[], object]] = [
+        lambda: ppsim.Machine("", 11), lambda: m.until("CH05 GET"), lambda: m.memory(0o12),
+        lambda: m.endings(0), lambda: m.view("threads"), lambda: m.view("state", "deck")]
+    for call in refused:
         with pytest.raises(ppsim.Fault) as caught:
-            refused()
+            call()
         assert caught.value.status == 2
     assert m.turn == 999_999 and m.view("state").startswith("PP00 P=0103")
 
