@@ -45,8 +45,8 @@ def compare(words, given):
     it = subprocess.run([program, *words], input=given, capture_output=True)
     its = ppsim.Result(it.returncode, it.stdout.decode(), it.stderr.decode())
     if its.error.startswith("error: "):
-        its = its._replace(error=mine.error and mine.error)
         expect(mine.error.startswith("ppsim: "), words, mine)
+        its = its._replace(error=mine.error)
     expect(mine == its, words, mine, its)
 
 
