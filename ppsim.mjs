@@ -3,6 +3,7 @@
 // The simulator where only Node is there, by the module in ppsim.html beside this file. It prints
 // what the program prints, and ends with its status; it reads standard input only, and has no threads.
 import { readFileSync } from 'node:fs';
+import { inflateSync } from 'node:zlib';
 
 const TAKEN = 'const MODULE = "', MOST = 1 << 30; // bytes for one call
 const aligned = n => Math.ceil(n / 16) * 16;
@@ -11,7 +12,8 @@ const aligned = n => Math.ceil(n / 16) * 16;
 function library() {
   const page = readFileSync(new URL('ppsim.html', import.meta.url), 'latin1');
   const start = page.indexOf(TAKEN) + TAKEN.length;
-  return new WebAssembly.Module(Buffer.from(page.slice(start, page.indexOf('"', start)), 'base64'));
+  const packed = Buffer.from(page.slice(start, page.indexOf('"', start)), 'base64');
+  return new WebAssembly.Module(inflateSync(packed));
 }
 
 /** A call over these bytes, with so much memory and room: the answer, and the texts in the room. */

@@ -50,6 +50,15 @@ async function copyOrder() {
     () => { $('order').select(); say('Copy the order marked now.'); });
 }
 
+/** The turn of the first of these steps that comes to where the condition says: one that is held in a
+ * place was there before. NaN if none does. */
+function comesAt(/** @type {string} */ condition, /** @type {string} */ steps) {
+  const [, place] = /^PP\d+ P=(\d+)$/.exec(condition) ?? [];
+  const isThere = (/** @type {string} */ line) => line.includes(' HELD ')
+    && parseInt(line.slice(12, 16), 8) === parseInt(place, 8);
+  return parseInt(steps.split('\n').find(line => !isThere(line)) ?? '', 10);
+}
+
 /** Goes to after the next step that meets a condition, or else to the first one of the run. */
 async function runTo(/** @type {string} */ condition) {
   const start = turn(), asked = deck;
@@ -59,7 +68,7 @@ async function runTo(/** @type {string} */ condition) {
     for (let more = 1000; ; more *= 10) {
       const to = Math.min(end, from + more), rest = restTurn();
       const answer = await ask(overRun('steps', to, '--from', `${from}`, '--where', condition), back);
-      const at = parseInt(answer.output, 10), isAtRest = rest >= 0 && rest < to;
+      const at = comesAt(condition, answer.output), isAtRest = rest >= 0 && rest < to;
       if (answer.status !== 0 || at >= 0 || to === end || isAtRest) return { answer, at };
     }
   };

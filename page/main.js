@@ -195,7 +195,9 @@ function preparePrint() {
 
 async function begin() {
   front.start();
-  library = await WebAssembly.compile(/** @type {any} */ (Uint8Array).fromBase64(MODULE));
+  const packed = new Blob([/** @type {any} */ (Uint8Array).fromBase64(MODULE)]).stream();
+  const bytes = new Response(packed.pipeThrough(new DecompressionStream('deflate'))).arrayBuffer();
+  library = await WebAssembly.compile(await bytes);
   front.give();
   back.start();
   $('picture').attachShadow({ mode: 'open' });
