@@ -9,7 +9,7 @@ const { spawnSync } = require('child_process');
 
 const top = path.join(__dirname, '../..'), data = path.join(top, 'crates/pages/data');
 const [file, program = path.join(top, 'crates/ppsim/out/ppsim')] = process.argv.slice(2);
-const RANDOM = 1500;
+const RANDOM = 3000;
 
 // ---- the library, by the part of the page's worker that calls it
 
