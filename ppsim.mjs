@@ -12,7 +12,7 @@ const aligned = n => Math.ceil(n / 16) * 16;
 function library() {
   const page = readFileSync(new URL('ppsim.html', import.meta.url), 'latin1');
   const start = page.indexOf(TAKEN) + TAKEN.length;
-  const packed = Buffer.from(page.slice(start, page.indexOf('"', start)), 'base64');
+  const packed = Buffer.from(page.slice(start, page.indexOf('"', start)), 'base64url');
   return new WebAssembly.Module(inflateSync(packed));
 }
 

@@ -195,7 +195,8 @@ function preparePrint() {
 
 async function begin() {
   front.start();
-  const packed = new Blob([/** @type {any} */ (Uint8Array).fromBase64(MODULE)]).stream();
+  const deflated = /** @type {any} */ (Uint8Array).fromBase64(MODULE, { alphabet: 'base64url' });
+  const packed = new Blob([deflated]).stream();
   const bytes = new Response(packed.pipeThrough(new DecompressionStream('deflate'))).arrayBuffer();
   library = await WebAssembly.compile(await bytes);
   front.give();
