@@ -89,7 +89,7 @@ pub record NamesFile (words : List (List ℕ)) : Type 0 where
   pub file : List ℕ
   pub asked : CallFor words work first until (Some file)
 
--- why words are refused: they are no call, or one for nothing within the ranges; or name a file
+-- why words are refused that name no file: they are no call, or one for nothing within the ranges
 abbrev pub CantBeTaken : List (List ℕ) → Type 0
 CantBeTaken words = (fault : CallFault) × IsCallRefused words fault × (fault ≢ CallFault.Memory)
 
