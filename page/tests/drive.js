@@ -150,7 +150,8 @@ async function first() {
   await becomes('the first example is shown after its 40 turns', `$('at').textContent === '40'
     && $('text').textContent.startsWith('PP00 P=0103 A=000007 STOPPED')`);
   console.log(`first picture after ${times.map(it => it.toFixed(0)).join(', ')} ms`);
-  expect('the first picture comes within half a second', Math.min(...times) < 500);
+  const median = [...times].sort((a, b) => a - b)[times.length >> 1];
+  expect('the first picture comes within half a second, by the median', median < 500);
   await picture('first');
 }
 
@@ -344,7 +345,7 @@ async function hand() {
     return times.sort((a, b) => a - b);
   })()`);
   console.log(`a step by hand after 10,000: from ${times[0].toFixed(1)} ms, median ${times[10].toFixed(1)} ms`);
-  expect('how things stand after a step by hand is shown within 50 ms', times[0] < 50);
+  expect('how things stand after a step by hand is shown within 50 ms, by the median', times[10] < 50);
 }
 
 async function endings() {
