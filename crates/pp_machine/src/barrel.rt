@@ -76,18 +76,18 @@ impl<A: Allocator> Machine<A> {
     {
         let round = self.round();
         let mut done = 0;
-        let mut held: u32 = 0;
+        let mut quiet_so_far: u32 = 0;
         let mut pause = SHORTEST_PAUSE;
         while done < rounds {
             // Half as many as were quiet since a window failed, within bounds.
-            let window = (held / 2)
+            let window = (quiet_so_far / 2)
                 .clamp(SHORTEST_WINDOW, LONGEST_WINDOW)
                 .min(rounds - done);
             let quiet = self.run_quiet_rounds(window);
             done += quiet;
-            held = held.saturating_add(quiet);
+            quiet_so_far = quiet_so_far.saturating_add(quiet);
             if quiet < window {
-                if held >= LONG_QUIET {
+                if quiet_so_far >= LONG_QUIET {
                     pause = SHORTEST_PAUSE;
                 }
                 let further = (rounds - done).min(pause);
@@ -95,7 +95,7 @@ impl<A: Allocator> Machine<A> {
                     return Err(u64::from(done) * u64::from(round) + before);
                 }
                 done += further;
-                held = 0;
+                quiet_so_far = 0;
                 pause = (2 * pause).min(LONGEST_PAUSE);
             }
         }
