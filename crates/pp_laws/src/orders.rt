@@ -13,8 +13,9 @@ ghost use Rattle.pp_laws.specs.OneRun.{EndsAtRest, IsOver, ShowsPartsOf};
 ghost use Rattle.pp_report.specs.Serial.{LeadsTo};
 ghost use Rattle.pp_numbers.specs.Limits.{RunLimits};
 ghost use Rattle.pp_runner.specs.Report.{IsReportOf};
+ghost use Rattle.pp_races.specs.RaceFree.{IsRaceFreeSoFar};
 ghost use Rattle.pp_races.specs.RacesText.{verdict_line};
-ghost use Rattle.pp_races.specs.declared.verdict.Verdict.TheVariants.{Same};
+ghost use Rattle.pp_races.specs.declared.verdict.Verdict.TheVariants.{NoRaceSoFar, Same};
 ghost use Rattle.pp_sim.specs.TextOf.{IsRacesText, run_of};
 
 use pp_deck::deck_law;
@@ -75,7 +76,9 @@ pub fn one_run_law<A: Allocator>()
 /// list of steps of the deck's machine shows each processor and each channel only as this run
 /// showed it at some moment; and one that ends quiet, or in which the turns of this run stand with
 /// any steps between, leaves the processors, central memory, and the histories of the channels,
-/// each event made by the same processor, as this run did. So this run leads to the only ending.
+/// each event made by the same processor, as this run did. So this run leads to the only ending. If
+/// it is `NO RACE SO FAR`, each step of this run waits or is race-free, and only the processor that
+/// writes a central word uses it.
 pub fn races_text_law()
     ensures quiet { (first : List ℕ) (turns : ℕ) (deck : LoadedDeck) (text before : List ℕ)
         → IsRacesText first turns deck text → text ≡ before ++ verdict_line Same
@@ -97,6 +100,9 @@ pub fn races_text_law()
     ensures ending { (first : List ℕ) (turns : ℕ) (deck : LoadedDeck) (text before : List ℕ)
         → IsRacesText first turns deck text → text ≡ before ++ verdict_line Same
         → AreAllEndings deck.machine (run_of first turns deck ∷ []) }
+    ensures so_far { (first : List ℕ) (turns : ℕ) (deck : LoadedDeck) (text before : List ℕ)
+        → IsRacesText first turns deck text → text ≡ before ++ verdict_line NoRaceSoFar
+        → IsRaceFreeSoFar (run_of first turns deck) deck.machine }
 {
     determinacy_law();
 }

@@ -1,5 +1,5 @@
 -- Findings that are all of processors that go on: none is of a step, and none of a central word.
-use Rattle.std.proofs.Common.{◌≡◌, ◌∙◌, ℕ, zero, suc, Bool, true, false, List, [], ◌∷◌, ◌++◌, Option, None, Some, length, refl, sym}
+use Rattle.std.proofs.Common.{◌≡◌, ◌∙◌, ℕ, zero, suc, Bool, true, false, List, [], ◌∷◌, ◌++◌, Option, None, Some, length, refl, sym, ap}
 use Rattle.std.specs.Prelude.{not, ◌==◌, if◌then◌else◌}
 use Rattle.std.specs.List.{list_all}
 use Rattle.std.proofs.lemmas.Bool.{and_from, and_parts}
@@ -15,10 +15,12 @@ use Rattle.pp_machine.specs.declared.need.Need.TheVariants.{Channel}
 use Rattle.pp_numbers.specs.PpNo.{each_processor, processor_count, processor_number}
 use Rattle.pp_races.specs.Findings.{end_of, findings_at_end, is_shared, sharing_of}
 use Rattle.pp_races.specs.OtherFlags.{waits_at}
-use Rattle.pp_races.specs.RacesText.{is_going_on}
+use Rattle.pp_races.specs.RacesText.{is_going_on, verdict_of}
 use Rattle.pp_races.specs.Watch.{Watch, asked, each_below, each_number, looked, race_after, race_before, unwatched, watched, watched_need, watched_step}
 use Rattle.pp_races.specs.declared.{asking_step.AskingStep.AskingStep, finding.Finding.Finding}
 use Rattle.pp_races.specs.declared.finding.Finding.TheVariants.{Shared}
+use Rattle.pp_races.specs.declared.verdict.Verdict.TheVariants.{NoRaceSoFar, Same}
+use Rattle.pp_races.proofs.VerdictLemmas.{so_far_going}
 
 record NoneGoesOn (findings : List Finding) : Type 0 where
   none : list_all (λ f. not (is_going_on f)) findings ≡ true
@@ -93,3 +95,10 @@ no_race ns m all =
     let both = and_parts (list_all is_going_on (w.findings ++ ends)) (list_all is_going_on shares) (sym (list_all-append is_going_on (w.findings ++ ends) shares) ∙ all) in
     let first = and_parts (list_all is_going_on w.findings) (list_all is_going_on ends) (sym (list_all-append is_going_on w.findings ends) ∙ both.0) in
     (nothing w.findings (none_watched ns m unwatched none_at_all) first.0, nothing shares (none_shared w (length (run ns m).central)) both.1)
+
+-- what is found of steps comes to nothing, or to something else than processors that go on
+pub never_so_far : (ns : List ℕ) (m : MachineState) → verdict_of (watched ns m unwatched).findings ≡ NoRaceSoFar → ⊥
+never_so_far ns m is =
+    let none = nothing (watched ns m unwatched).findings (none_watched ns m unwatched none_at_all) (so_far_going (watched ns m unwatched).findings is) in
+    let bad : Same ≡ NoRaceSoFar = ap verdict_of (sym none) ∙ is in
+    cc

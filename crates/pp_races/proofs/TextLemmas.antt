@@ -1,19 +1,22 @@
 -- Texts and findings that are printed one after another, all of them or a first part.
 use Rattle.std.proofs.Common.{◌≡◌, ◌≢◌, ℕ, List, [], ◌++◌, length, take, Option, Some, None, Result, Ok, Err, refl, sym, ap, ◌∙◌, subst, append-nil, append_assoc, length-append, arith}
-use Rattle.std.specs.Prelude.{flat_map}
+use Rattle.std.specs.Prelude.{flat_map, true}
+use Rattle.std.specs.List.{list_all}
 use Rattle.std.specs.Io.KnownBytes.{Appends, Keeps}
 use Rattle.std.proofs.lemmas.Grind.{flat_map-append}
+use Rattle.std.proofs.lemmas.Bool.{and_parts}
 use Rattle.std.proofs.lemmas.List.{take-append-le, take_all}
+use Rattle.std.proofs.lemmas.List.Folds.{list_all-append}
 use Rattle.pp_text.specs.TextWriter.{HasPrinted, Prints}
 use Rattle.pp_text.proofs.PrintingLemmas.{prints_on, prints_nothing}
 use Rattle.pp_text.specs.Written.{AppendsFront, IsReportWritten, IsWritten}
 use Rattle.pp_text.specs.declared.{report_fault.ReportFault.ReportFault, text_writer.TextWriter.TextWriter}
 use Rattle.pp_races.specs.Printing.{PrintsFindings, PrintsFirst}
-use Rattle.pp_races.specs.RacesText.{finding_line, findings_text, verdict_line, verdict_of}
+use Rattle.pp_races.specs.RacesText.{finding_line, findings_text, is_going_on, verdict_line, verdict_of}
 use Rattle.pp_races.specs.declared.{finding.Finding.Finding, verdict.Verdict.Verdict}
-use Rattle.pp_races.specs.declared.verdict.Verdict.TheVariants.{Same}
+use Rattle.pp_races.specs.declared.verdict.Verdict.TheVariants.{MayDiffer, Same}
 use Rattle.pp_races.proofs.SoundLemmas.{none_first}
-use Rattle.pp_races.proofs.VerdictLemmas.{same_none}
+use Rattle.pp_races.proofs.VerdictLemmas.{differ_some, same_none}
 use Rattle.pp_machine.specs.MachineState.{MachineState}
 use Rattle.pp_races.specs.Findings.{findings}
 use Rattle.pp_races.specs.Watch.{unwatched, watched}
@@ -50,6 +53,12 @@ module _ {W : Type 0} (contents : W → Option (List ℕ)) where
 
   pub some_printed : (a b : TextWriter W) (v : Verdict) (all : List Finding) → PrintsFirst contents a b Same v all → v ≢ Same → all ≢ []
   some_printed a b v all h other none = other (h.printed.verdict [] refl ∙ ap verdict_of (none_first h.first h.others (sym h.all ∙ none)))
+
+  -- where they come to more than processors that go on, so do all
+  pub some_race : (a b : TextWriter W) (v : Verdict) (all : List Finding) → PrintsFirst contents a b Same v all → v ≡ MayDiffer → list_all is_going_on all ≡ true → ⊥
+  some_race a b v all h is going =
+      let first = (and_parts (list_all is_going_on h.first) (list_all is_going_on h.others) (sym (list_all-append is_going_on h.first h.others) ∙ sym (ap (list_all is_going_on) h.all) ∙ going)).0 in
+      differ_some h.first (sym (h.printed.verdict [] refl) ∙ is) first
 
   -- ---- what the writer has
 

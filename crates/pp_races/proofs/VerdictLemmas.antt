@@ -21,20 +21,44 @@ pub same_none : (all : List Finding) → Same ≡ verdict_of all → all ≡ []
 same_none [] is = refl
 same_none (first ∷ others) is = absurd (some_found (list_all is_going_on (first ∷ others)) (sym is))
 
+-- where they come to NO RACE SO FAR, all are of processors that go on
+pub so_far_going : (all : List Finding) → verdict_of all ≡ NoRaceSoFar → list_all is_going_on all ≡ true
+so_far_going [] is = absurd cc
+so_far_going (first ∷ others) is = by_test (list_all is_going_on (first ∷ others)) is
+  where
+    by_test : (going_on : Bool) → of_some going_on ≡ NoRaceSoFar → going_on ≡ true
+    by_test true is = refl
+    by_test false is = absurd cc
+
+-- where they come to MAY DIFFER, some are not
+pub differ_some : (all : List Finding) → verdict_of all ≡ MayDiffer → list_all is_going_on all ≡ true → ⊥
+differ_some [] is going = cc
+differ_some (first ∷ others) is going = by_test (list_all is_going_on (first ∷ others)) is going
+  where
+    by_test : (going_on : Bool) → of_some going_on ≡ MayDiffer → going_on ≡ true → ⊥
+    by_test true is so = cc
+    by_test false is so = cc
+
 -- ---- the last line
 
-differs : (lines before : List ℕ) (b : Bool) → lines ++ verdict_line (if b then NoRaceSoFar else MayDiffer) ≡ before ++ verdict_line Same → ⊥
-differs lines before true is =
-    let bad : 65 ≡ 69 = sym (ap (λ t. get_or t 2 0) (reverse-append lines (verdict_line NoRaceSoFar)))
-    ∙ (ap (λ t. get_or (reverse t) 2 0) is ∙ ap (λ t. get_or t 2 0) (reverse-append before (verdict_line Same))) in
-    absurd (omega (arith, bad))
-differs lines before false is =
-    let bad : 70 ≡ 68 = sym (ap (λ t. get_or t 3 0) (reverse-append lines (verdict_line MayDiffer)))
-    ∙ (ap (λ t. get_or (reverse t) 3 0) is ∙ ap (λ t. get_or t 3 0) (reverse-append before (verdict_line Same))) in
-    absurd (omega (arith, bad))
+-- two texts that are one have one character at the same place from the end
+from_end : (k : ℕ) (u v : Verdict) (lines before : List ℕ) → lines ++ verdict_line u ≡ before ++ verdict_line v
+    → get_or (reverse (verdict_line u) ++ reverse lines) k 0 ≡ get_or (reverse (verdict_line v) ++ reverse before) k 0
+from_end k u v lines before is =
+    ap (λ t. get_or t k 0) (sym (reverse-append lines (verdict_line u)) ∙ ap reverse is ∙ reverse-append before (verdict_line v))
 
--- where the last line of the text is SAME IN EVERY ORDER, nothing is found
-pub text_same : (all : List Finding) (before : List ℕ) → findings_text all ≡ before ++ verdict_line Same → all ≡ []
+last_verdict : (u v : Verdict) (lines before : List ℕ) → lines ++ verdict_line u ≡ before ++ verdict_line v → u ≡ v
+last_verdict Same Same lines before is = refl
+last_verdict NoRaceSoFar NoRaceSoFar lines before is = refl
+last_verdict MayDiffer MayDiffer lines before is = refl
+last_verdict Same NoRaceSoFar lines before is = let bad : 69 ≡ 65 = from_end 2 Same NoRaceSoFar lines before is in absurd (omega (arith, bad))
+last_verdict NoRaceSoFar Same lines before is = let bad : 65 ≡ 69 = from_end 2 NoRaceSoFar Same lines before is in absurd (omega (arith, bad))
+last_verdict NoRaceSoFar MayDiffer lines before is = let bad : 65 ≡ 69 = from_end 2 NoRaceSoFar MayDiffer lines before is in absurd (omega (arith, bad))
+last_verdict MayDiffer NoRaceSoFar lines before is = let bad : 69 ≡ 65 = from_end 2 MayDiffer NoRaceSoFar lines before is in absurd (omega (arith, bad))
+last_verdict Same MayDiffer lines before is = let bad : 68 ≡ 70 = from_end 3 Same MayDiffer lines before is in absurd (omega (arith, bad))
+last_verdict MayDiffer Same lines before is = let bad : 70 ≡ 68 = from_end 3 MayDiffer Same lines before is in absurd (omega (arith, bad))
+
+-- the last line of a text is what its findings come to
+pub text_verdict : (all : List Finding) (v : Verdict) (before : List ℕ) → findings_text all ≡ before ++ verdict_line v → verdict_of all ≡ v
 unfolding findings_text
-text_same [] before is = refl
-text_same (finding ∷ others) before is = absurd (differs (flat_map finding_line (finding ∷ others)) before (list_all is_going_on (finding ∷ others)) is)
+text_verdict all v before is = last_verdict (verdict_of all) v (flat_map finding_line all) before is

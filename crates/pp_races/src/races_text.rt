@@ -43,8 +43,9 @@ pub fn write_races<A: Allocator + Copy, W: Write>(
         result (W.contents writer.old) (W.contents writer.new) }
     ensures same { result ≢ Err ReportFault.Memory → findings order.now machine.old ≡ []
         → IsDeterminate order.now machine.old }
-    ensures no_race { OnOk result (list_all is_going_on (findings order.now machine.old) ≡ true
-        → IsRaceFreeSoFar order.now machine.old) }
+    ensures no_race { result ≢ Err ReportFault.Memory
+        → list_all is_going_on (findings order.now machine.old) ≡ true
+        → IsRaceFreeSoFar order.now machine.old }
     ensures ran { OnOk result (machine.new ≡ run order.now machine.old) }
     ensures cut { OnErr result ((done : ℕ) × (done ≤ length order.now)
         × (machine.new ≡ run (take done order.now) machine.old)) }
@@ -82,8 +83,9 @@ fn write_watched<A: Allocator, W: Write>(
         result (W.contents writer.old) (W.contents writer.new) }
     ensures same { result ≢ Err ReportFault.Memory → findings order.now machine.old ≡ []
         → IsDeterminate order.now machine.old }
-    ensures no_race { OnOk result (list_all is_going_on (findings order.now machine.old) ≡ true
-        → IsRaceFreeSoFar order.now machine.old) }
+    ensures no_race { result ≢ Err ReportFault.Memory
+        → list_all is_going_on (findings order.now machine.old) ≡ true
+        → IsRaceFreeSoFar order.now machine.old }
     ensures ran { OnOk result (machine.new ≡ run order.now machine.old) }
     ensures cut { OnErr result ((done : ℕ) × (done ≤ length order.now)
         × (machine.new ≡ run (take done order.now) machine.old)) }

@@ -1,6 +1,6 @@
 //! A run that is watched, and whose findings are printed as they come.
 
-ghost use Rattle.std.specs.Prelude.{◌≡◌, ◌≤◌, ℕ, true, [], List, length, take, IfErr, IfOk, OnErr, OnOk};
+ghost use Rattle.std.specs.Prelude.{◌≡◌, ◌≢◌, ◌≤◌, ℕ, true, [], List, length, take, IfErr, IfOk, OnErr, OnOk};
 ghost use Rattle.std.specs.List.{list_all};
 ghost use Rattle.pp_machine.specs.Run.{run};
 ghost use Rattle.pp_run.specs.Determinacy.{IsDeterminate};
@@ -10,7 +10,7 @@ ghost use Rattle.pp_races.specs.RacesText.{is_going_on};
 ghost use Rattle.pp_races.specs.Printing.{PrintsFindings, PrintsFirst};
 ghost use Rattle.pp_races.specs.Watch.{unwatched};
 ghost use Rattle.pp_races.specs.WatchTables.{AreTables};
-ghost use Rattle.pp_races.specs.declared.verdict.Verdict.TheVariants.{Same};
+ghost use Rattle.pp_races.specs.declared.verdict.Verdict.TheVariants.{NoRaceSoFar, Same};
 
 use crate::Verdict;
 use crate::printing::{print_findings, print_shared};
@@ -44,6 +44,7 @@ pub(crate) fn print_run<A: Allocator, W: Write>(
         × (machine.new ≡ run (take done order.now) machine.old)) }
     ensures printed_first { IfErr result (λ verdict. PrintsFirst W.contents text.old text.new Same
         verdict (findings order.now machine.old)) }
+    ensures of_steps { IfErr result (λ verdict. verdict ≢ NoRaceSoFar) }
 {
     machine.is_sound();
     let mut verdict = Verdict::Same;

@@ -1,5 +1,6 @@
 -- The texts of a deck: which text is each that is asked for.
-use Rattle.std.specs.Prelude.{◌≡◌, ℕ, List, ◌≤◌, length, Ok, None, Some, Option, [], unwrap_or}
+use Rattle.std.specs.Prelude.{◌≡◌, ℕ, List, ◌≤◌, length, Ok, None, Some, Option, [], true, unwrap_or}
+use Rattle.std.specs.List.{list_all}
 use Rattle.pp_machine.specs.Headline.{HoldsOnEachChannel, IsMachine}
 use Rattle.pp_machine.specs.MachineState.{MachineState, processor_of}
 use Rattle.pp_machine.specs.Run.{run, run_order}
@@ -25,7 +26,8 @@ use Rattle.pp_steps.specs.StepsText.{steps_text}
 use Rattle.pp_steps.specs.StepsWhere.{HasLinesWhere}
 use Rattle.pp_steps.specs.declared.choice.Choice.{Choice}
 use Rattle.pp_races.specs.Findings.{findings}
-use Rattle.pp_races.specs.RacesText.{races_text}
+use Rattle.pp_races.specs.RaceFree.{IsRaceFreeSoFar}
+use Rattle.pp_races.specs.RacesText.{is_going_on, races_text}
 use Rattle.pp_sessions.specs.SessionsText.{sessions_after}
 use Rattle.pp_draw.specs.DrawingText.{drawing_of_run}
 use Rattle.pp_run.specs.Determinacy.{IsDeterminate}
@@ -99,14 +101,16 @@ pub record IsEndsText (turns : ℕ) (deck : LoadedDeck) (text : List ℕ) : Type
   pub looped : AreLoops loops ending deck.machine
   pub text_is : text ≡ ends_text_of (in_use deck) ending turns deck.machine loops
 
--- the text of a loaded deck that has run for N steps; its machine is a whole one, and if nothing is
--- found the run is determinate
+-- the text of a loaded deck that has run for N steps; its machine is a whole one; if nothing is found
+-- the run is determinate, and if nothing but processors that go on, no step of it races so far
 pub record IsRacesText (first : List ℕ) (turns : ℕ) (deck : LoadedDeck) (text : List ℕ) : Type 0
   where
     pub text_is : text ≡ races_text (run_of first turns deck) deck.machine
     pub machine : IsMachine deck.machine
     pub same : findings (run_of first turns deck) deck.machine ≡ []
         → IsDeterminate (run_of first turns deck) deck.machine
+    pub no_race : list_all is_going_on (findings (run_of first turns deck) deck.machine) ≡ true
+        → IsRaceFreeSoFar (run_of first turns deck) deck.machine
 
 -- the text of the steps chosen of a run, or of those that meet a condition
 abbrev pub IsStepsTextBy : Option Condition → Choice → List ℕ → MachineState → List ℕ → Type 0

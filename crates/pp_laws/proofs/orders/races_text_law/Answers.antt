@@ -1,5 +1,5 @@
 use Rattle.pp_sim.specs.TextOf.{run_of}
-use Rattle.pp_laws.proofs.RacesLemmas.{same_means}
+use Rattle.pp_laws.proofs.RacesLemmas.{same_means, so_far_means}
 use Rattle.pp_laws.proofs.orders.races_text_law.Goals as goal
 
 pub returns-clause-quiet : goal.returns-clause-quiet
@@ -26,3 +26,6 @@ pub returns-clause-ending : goal.returns-clause-ending
 returns-clause-ending c = λ first turns deck text before told same.
     c.determinacy_law.ensures.ending (run_of first turns deck) deck.machine told.machine.processors told.machine.channels
     (same_means first turns deck text before told same)
+
+pub returns-clause-so_far : goal.returns-clause-so_far
+returns-clause-so_far c = so_far_means

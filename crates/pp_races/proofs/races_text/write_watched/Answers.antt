@@ -5,7 +5,7 @@ use Rattle.pp_machine.specs.Run.{run}
 use Rattle.pp_text.specs.declared.report_fault.ReportFault.{ReportFault}
 use Rattle.pp_races.specs.RacesText.{races_text}
 use Rattle.pp_races.specs.declared.verdict.Verdict.TheVariants.{Same, NoRaceSoFar, MayDiffer}
-use Rattle.pp_races.proofs.TextLemmas.{all_printed, cut_written, nothing_printed, part_printed, some_printed}
+use Rattle.pp_races.proofs.TextLemmas.{all_printed, cut_written, nothing_printed, part_printed, some_printed, some_race}
 use Rattle.pp_races.proofs.races_text.write_watched.Goals as goal
 
 on_err : {X Y P : Type 0} (answer : Result X Y) → P → OnErr answer P
@@ -44,3 +44,9 @@ returns-in-NoRaceSoFar-clause-same g c = λ written none.
       | inl is ↦ (let bad : NoRaceSoFar ≡ Same = sym is ∙ same in cc)
       | inr is ↦ (let bad : MayDiffer ≡ Same = sym is ∙ same in cc)
     ]) none)
+
+pub returns-in-NoRaceSoFar-clause-no_race : goal.returns-in-NoRaceSoFar-clause-no_race
+returns-in-NoRaceSoFar-clause-no_race g c = λ written going. elim c.in-NoRaceSoFar.is [
+  | inl is ↦ absurd (c.in-Err.ensures.of_steps is)
+  | inr is ↦ absurd (some_race g.W.Write.contents _ _ c.in-Err.verdict _ c.in-Err.ensures.printed_first is going)
+]

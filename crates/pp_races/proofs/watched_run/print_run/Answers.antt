@@ -1,9 +1,10 @@
-use Rattle.std.proofs.Common.{◌≡◌, refl, ◌++◌, List, sym, ap, ◌∙◌, length, get_or, take, ◌<◌, arith}
+use Rattle.std.proofs.Common.{◌≡◌, refl, ◌++◌, List, [], sym, ap, ◌∙◌, length, get_or, take, ◌<◌, arith}
 use Rattle.pp_numbers.specs.PpNo.{processor_places}
 use Rattle.pp_machine.specs.MachineState.{MachineState}
 use Rattle.std.proofs.lemmas.List.{get_or_read}
 use Rattle.pp_run.proofs.Moments.{run_central}
 use Rattle.pp_races.specs.Watch.{Watch, unwatched, watched}
+use Rattle.pp_races.proofs.GoingOnLemmas.{never_so_far}
 use Rattle.pp_races.proofs.GrowLemmas.{forgotten}
 use Rattle.pp_races.proofs.TextLemmas.{findings_none, findings_on, findings_then, first_printed}
 use Rattle.pp_races.proofs.RunLemmas.{run_begins, run_finds, run_goes_on, run_is_free, run_tells}
@@ -70,3 +71,12 @@ pub returns-clause-no_race : goal.returns-clause-no_race
 returns-clause-no_race g c =
     run_is_free c.args.order.now c.loop-n.n-index c.args.machine.now c.loop-n.machine c.loop-n.tables c.is_sound.ensures.processors c.is_sound.ensures.channels
     (omega (arith, c.loop-n-test.false, c.loop-n.auto.n-index-end, ap length c.processors-n-items.ensures.are)) c.loop-n.invariant.run
+
+pub returns-in_default-clause-of_steps : goal.returns-in_default-clause-of_steps
+returns-in_default-clause-of_steps g c = λ is. never_so_far (take c.loop-n.n-index c.args.order.now) c.args.machine.now (sym (c.loop-n.invariant.printed.verdict [] refl) ∙ is)
+
+pub returns-in_default-step-clause-of_steps : goal.returns-in_default-step-clause-of_steps
+returns-in_default-step-clause-of_steps g c = λ is. never_so_far (take c.loop-n.n-index c.args.order.now) c.args.machine.now (sym (c.loop-n.invariant.printed.verdict [] refl) ∙ is)
+
+pub returns-in_default-find_unsettled-clause-of_steps : goal.returns-in_default-find_unsettled-clause-of_steps
+returns-in_default-find_unsettled-clause-of_steps g c = λ is. never_so_far (take c.loop-n.n-index c.args.order.now) c.args.machine.now (sym (c.loop-n.invariant.printed.verdict [] refl) ∙ is)

@@ -1,9 +1,11 @@
-use Rattle.std.proofs.Common.{◌≡◌, List, [], ℕ, ap, ◌∙◌, subst}
+use Rattle.std.proofs.Common.{◌≡◌, List, [], ℕ, ap, ◌∙◌, subst, true}
+use Rattle.std.specs.List.{list_all}
 use Rattle.pp_sim.proofs.AnswerLemmas.{answers_reported}
 use Rattle.pp_sim.proofs.texts.write_raced.Goals as goal
 use Rattle.pp_machine.specs.Run.{run_order}
 use Rattle.pp_races.specs.Findings.{findings}
-use Rattle.pp_races.specs.RacesText.{races_text}
+use Rattle.pp_races.specs.RaceFree.{IsRaceFreeSoFar}
+use Rattle.pp_races.specs.RacesText.{is_going_on, races_text}
 use Rattle.pp_run.specs.Determinacy.{IsDeterminate}
 use Rattle.pp_sim.specs.TextOf.{IsRacesText}
 
@@ -15,6 +17,6 @@ returns g c = λ profile bytes meant same.
     (λ some. record {
       deck = _;
       meant = meant;
-      is = record { text_is = ap (λ ns. races_text ns m) order; machine = c.is_sound.ensures; same = subst (λ (ns : List ℕ). findings ns m ≡ [] → IsDeterminate ns m) order (c.write_races.ensures.same some) };
+      is = record { text_is = ap (λ ns. races_text ns m) order; machine = c.is_sound.ensures; same = subst (λ (ns : List ℕ). findings ns m ≡ [] → IsDeterminate ns m) order (c.write_races.ensures.same some); no_race = subst (λ (ns : List ℕ). list_all is_going_on (findings ns m) ≡ true → IsRaceFreeSoFar ns m) order (c.write_races.ensures.no_race some) };
     })
     c.write_races.ensures.written)
