@@ -1,7 +1,7 @@
 use Rattle.std.proofs.Common.{refl}
 use Rattle.pp_text.proofs.PrintingLemmas.{◌▹◌, prints_on}
 use Rattle.pp_text.proofs.TextLemmas.{event_line_in_pieces}
-use Rattle.pp_text.proofs.printed_line.print_event.Goals as goal
+use Rattle.pp_text.proofs.printed_line.EventLinesLinesTrace.print.Goals as goal
 
 pub returns-clause-text : goal.returns-clause-text
 returns-clause-text g c =
