@@ -9,12 +9,12 @@ ghost use Rattle.pp_text.specs.PrintedText.{printed, used_channel_line};
 ghost use Rattle.pp_text.specs.TextLaw.{FitsItsText, HistoryFits};
 ghost use Rattle.pp_text.specs.Written.{IsWritten};
 
-use crate::printed_line::{EventLines, ProcessorLines};
+use crate::printed_line::EventLines;
 use crate::{
     Lines, TextWriter, WriteFault, print_channel_line, print_each, print_each_channel,
     print_each_named,
 };
-use pp_channel::ChannelNo;
+use pp_channel::{CHANNELS, Channel, ChannelNo};
 use pp_machine::{Machine, PROCESSORS};
 use std::alloc::Allocator;
 use std::io::Write;
@@ -34,7 +34,7 @@ pub fn write_text<A: Allocator + Copy, W: Write>(
 {
     let mut text = TextWriter::new(writer);
     print_each(&mut text, machine.events(), &EventLines);
-    print_each_named(&mut text, named, &ProcessorLines(machine));
+    print_each_named(&mut text, named, machine);
     print_channels(&mut text, machine);
     text.finish()
 }
@@ -46,19 +46,27 @@ pub fn print_channels<A: Allocator, W: Write>(text: &mut TextWriter<W>, machine:
     ensures fits { (c : ℕ) → IsTrue (names_channel c)
         → HistoryFits (history_on c machine.now.histories) }
 {
-    print_each_channel(text, &ChannelLines(machine));
+    print_each_channel(text, machine);
 }
 
 /// The lines of channels that have a history.
-#[derive(Drop)]
-struct ChannelLines<'a, A: Allocator>(&'a Machine<A>);
+impl<A: Allocator, W: Write> Lines<ChannelNo, W> for Machine<A> {
+    ghost text_of = { λ machine. used_channel_line machine.histories };
 
-impl<'a, A: Allocator, W: Write> Lines<ChannelNo, W> for ChannelLines<'a, A> {
-    ghost text_of = { λ lines. used_channel_line lines.0.now.histories };
-
-    ghost Fits = { λ lines c. HistoryFits (history_on c lines.0.now.histories) };
+    ghost Fits = { λ machine c. HistoryFits (history_on c machine.histories) };
 
     fn print(&self, text: &mut TextWriter<W>, c: &ChannelNo) {
-        print_channel_line(text, *c, self.0.channel(*c));
+        print_channel_line(text, *c, self.channel(*c));
+    }
+}
+
+/// The same, of channels in the order of their numbers.
+impl<A: Allocator, W: Write> Lines<ChannelNo, W> for [Channel<A>; CHANNELS] {
+    ghost text_of = { used_channel_line };
+
+    ghost Fits = { λ channels c. HistoryFits (history_on c channels) };
+
+    fn print(&self, text: &mut TextWriter<W>, c: &ChannelNo) {
+        print_channel_line(text, *c, &self[c.index()]);
     }
 }

@@ -78,17 +78,14 @@ fn line_with_word(name: [u8; 3], word: Word12) -> [u8; 9]
 }
 
 /// The lines of processors: `PP00 P=0103 A=000007 STOPPED` and a line feed.
-#[derive(Drop)]
-pub(crate) struct ProcessorLines<'a, A: Allocator>(pub(crate) &'a Machine<A>);
+impl<A: Allocator, W: Write> Lines<PpNo, W> for Machine<A> {
+    ghost text_of = { λ machine n.
+        let pp = processor_of n machine in processor_line n pp (state_text pp.state) };
 
-impl<'a, A: Allocator, W: Write> Lines<PpNo, W> for ProcessorLines<'a, A> {
-    ghost text_of = { λ lines n.
-        let pp = processor_of n lines.0.now in processor_line n pp (state_text pp.state) };
-
-    ghost Fits = { λ lines n. ProcessorFits (processor_of n lines.0.now) };
+    ghost Fits = { λ machine n. ProcessorFits (processor_of n machine) };
 
     fn print(&self, text: &mut TextWriter<W>, n: &PpNo) {
-        let pp = self.0.pp(*n);
+        let pp = self.pp(*n);
         text.print(&processor_heading(*n, pp));
         print_state_text(text, pp.state());
         text.print(b"\n");

@@ -1,7 +1,7 @@
 use Rattle.std.proofs.Common.{append_assoc}
 use Rattle.pp_text.specs.PrintedText.{processor_line}
 use Rattle.pp_text.proofs.PrintingLemmas.{◌▹◌, prints_on}
-use Rattle.pp_text.proofs.printed_line.ProcessorLinesLinesPpNo.print.Goals as goal
+use Rattle.pp_text.proofs.printed_line.MachineLinesPpNo.print.Goals as goal
 
 pub returns-clause-text : goal.returns-clause-text
 unfolding processor_line
