@@ -1,9 +1,10 @@
 //! The drawing of a run: its rows of lanes, channels before processors, in a frame.
 
-ghost use Rattle.std.specs.Prelude.{◌≡◌, ◌+◌, ◌++◌, ◌<◌, ◌≤◌, ℕ, List};
+ghost use Rattle.std.specs.Prelude.{◌≡◌, ◌+◌, ◌++◌, ◌≤◌, ℕ, List};
 ghost use Rattle.std.specs.List.{cons_option};
-ghost use Rattle.pp_numbers.specs.ChannelNo.{channel_count, channel_number};
+ghost use Rattle.pp_numbers.specs.ChannelNo.{channel_count};
 ghost use Rattle.pp_numbers.specs.PpNo.{processor_count, processor_number};
+ghost use Rattle.pp_text.specs.PrintedText.{each_below};
 ghost use Rattle.pp_text.specs.TextWriter.{Prints};
 ghost use Rattle.pp_text.specs.Written.{IsWritten};
 ghost use Rattle.pp_draw.specs.Condition.{phase_for};
@@ -20,8 +21,7 @@ use pp_channel::{CHANNELS, ChannelNo, Event};
 use pp_machine::{Machine, PROCESSORS, PpNo};
 use pp_numbers::Window;
 use pp_text::{
-    Lines, TextWriter, WriteFault, channel_name, print_channel_text, print_each_below,
-    print_state_text, processor_name,
+    TextWriter, WriteFault, channel_name, print_channel_text, print_state_text, processor_name,
 };
 use std::alloc::Allocator;
 use std::io::Write;
@@ -46,63 +46,28 @@ pub fn write_drawing<A: Allocator, B: Allocator, W: Write>(
     print_style(&mut text);
     print_legend(&mut text);
     print_ticks(&mut text, window, rows);
-    print_each_below(
-        &mut text,
-        CHANNELS as u32,
-        &ChannelLanes { window, machine },
-    );
-    let lanes = ProcessorLanes {
-        window,
-        shown,
-        machine,
-        steps,
-    };
-    print_each_below(&mut text, PROCESSORS as u32, &lanes);
+    for place in 0..CHANNELS {
+        print_channel_lane(&mut text, window, machine, ChannelNo::at(place));
+    }
+    print_processor_lanes(&mut text, window, shown, machine, steps);
     print_foot(&mut text, rows);
     text.finish()
 }
 
-/// The lanes of channels, by place.
-#[derive(Drop)]
-struct ChannelLanes<'a, A: Allocator> {
+/// Prints the lanes of the processors shown.
+fn print_processor_lanes<A: Allocator, B: Allocator, W: Write>(
+    text: &mut TextWriter<W>,
     window: Window,
-    machine: &'a Machine<A>,
-}
-
-impl<'a, A: Allocator, W: Write> Lines<u32, W> for ChannelLanes<'a, A> {
-    ghost text_of = { λ lanes place.
-        channel_lane lanes.window lanes.machine.now (channel_number place) };
-
-    ghost Has = { λ lanes place. place < channel_count };
-
-    fn print(&self, text: &mut TextWriter<W>, place: &u32) {
-        print_channel_lane(
-            text,
-            self.window,
-            self.machine,
-            ChannelNo::at(*place as usize),
-        );
-    }
-}
-
-/// The lanes of processors, by place.
-#[derive(Drop)]
-struct ProcessorLanes<'a, A: Allocator, B: Allocator> {
-    window: Window,
-    shown: &'a [bool; PROCESSORS],
-    machine: &'a Machine<A>,
-    steps: &'a SeenSteps<B>,
-}
-
-impl<'a, A: Allocator, B: Allocator, W: Write> Lines<u32, W> for ProcessorLanes<'a, A, B> {
-    ghost text_of = { λ lanes place. processor_lane lanes.window lanes.shown.now lanes.machine.now
-        lanes.steps.now.earlier lanes.steps.now.shown.items (processor_number place) };
-
-    ghost Has = { λ lanes place. place < processor_count };
-
-    fn print(&self, text: &mut TextWriter<W>, place: &u32) {
-        let n = PpNo::at(*place as usize);
-        print_processor_lane(text, self.window, self.shown, self.machine, self.steps, n);
+    shown: &[bool; PROCESSORS],
+    machine: &Machine<A>,
+    steps: &SeenSteps<B>,
+)
+    ensures { Prints W.contents text.old text.new (each_below processor_count
+        (λ place. processor_lane window shown.now machine.now steps.now.earlier
+        steps.now.shown.items (processor_number place))) }
+{
+    for place in 0..PROCESSORS {
+        print_processor_lane(text, window, shown, machine, steps, PpNo::at(place));
     }
 }
 
