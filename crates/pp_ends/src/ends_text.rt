@@ -1,21 +1,20 @@
 //! The text of how a run ends.
 
 ghost use Rattle.std.specs.Prelude.{◌≡◌, ◌++◌, codes};
-ghost use Rattle.std.specs.List.{flat_map};
 ghost use Rattle.pp_machine.specs.MachineState.{processor_of};
-ghost use Rattle.pp_numbers.specs.PpNo.{all_processors};
 ghost use Rattle.pp_word.specs.Numeral.{octal};
-ghost use Rattle.pp_text.specs.PrintedText.{line_end, processor_line};
+ghost use Rattle.pp_text.specs.PrintedText.{processor_line};
 ghost use Rattle.pp_text.specs.Standing.{standing};
 ghost use Rattle.pp_text.specs.TextWriter.{Prints};
 ghost use Rattle.pp_text.specs.Written.{IsWritten};
-ghost use Rattle.pp_ends.specs.EndsText.{ending_text, ends_text, loop_text, looping_line};
+ghost use Rattle.pp_ends.specs.Loops.{loop_of};
+ghost use Rattle.pp_ends.specs.EndsText.{ending_text, ends_text, loop_text};
 
 use crate::{Ending, Loop};
 use pp_machine::{Machine, PROCESSORS, PpNo};
 use pp_text::{
-    TextWriter, WriteFault, octal4, print_channels, print_decimal, print_short_decimal,
-    print_standing, processor_heading,
+    Lines, TextWriter, WriteFault, octal4, print_channels, print_decimal, print_each_named,
+    print_short_decimal, print_standing, processor_heading,
 };
 use std::alloc::Allocator;
 use std::io::Write;
@@ -41,7 +40,7 @@ pub fn write_ends<A: Allocator, W: Write>(
     let mut text = TextWriter::new(writer);
     print_ending(&mut text, ending, turns);
     text.print(b"\n");
-    print_processors(&mut text, shown, machine, loops);
+    print_each_named(&mut text, shown, &LoopingLines { machine, loops });
     print_channels(&mut text, machine);
     text.finish()
 }
@@ -72,51 +71,31 @@ fn print_ending<W: Write>(text: &mut TextWriter<W>, ending: Ending, turns: u32)
     }
 }
 
-/// Prints the lines of all processors shown, in order of number.
-fn print_processors<A: Allocator, W: Write>(
-    text: &mut TextWriter<W>,
-    shown: &[bool; PROCESSORS],
-    machine: &Machine<A>,
-    loops: &[Option<Loop>; PROCESSORS],
-)
-    ensures { Prints W.contents text.old text.new
-        (flat_map (looping_line shown.now machine.now loops.now) all_processors) }
-{
-    for place in 0..PROCESSORS {
-        print_shown_processor(text, shown, machine, loops, PpNo::at(place));
+/// The lines of processors: `PP01 P=0101 A=000001 RUNNING IJM 0100,02 LOOPS 0100 TO 0101` and a
+/// line feed.
+#[derive(Drop)]
+struct LoopingLines<'a, A: Allocator> {
+    machine: &'a Machine<A>,
+    loops: &'a [Option<Loop>; PROCESSORS],
+}
+
+impl<'a, A: Allocator, W: Write> Lines<PpNo, W> for LoopingLines<'a, A> {
+    ghost text_of = { λ lines n. processor_line n (processor_of n lines.machine.now)
+        (standing n lines.machine.now 0 ++ loop_text (loop_of lines.loops.now n)) };
+
+    fn print(&self, text: &mut TextWriter<W>, n: &PpNo) {
+        text.print(&processor_heading(*n, self.machine.pp(*n)));
+        print_standing(text, self.machine, *n, 0);
+        print_loop(text, loop_of(self.loops, *n));
+        text.print(b"\n");
     }
 }
 
-fn print_shown_processor<A: Allocator, W: Write>(
-    text: &mut TextWriter<W>,
-    shown: &[bool; PROCESSORS],
-    machine: &Machine<A>,
-    loops: &[Option<Loop>; PROCESSORS],
-    n: PpNo,
-)
-    ensures { Prints W.contents text.old text.new
-        (looping_line shown.now machine.now loops.now n) }
+/// The loop of a processor, if it has one.
+fn loop_of(loops: &[Option<Loop>; PROCESSORS], n: PpNo) -> &Option<Loop>
+    ensures { result.now ≡ loop_of loops.now n }
 {
-    if shown[n.index()] {
-        print_processor(text, machine, n, &loops[n.index()]);
-    }
-}
-
-/// Prints `PP01 P=0101 A=000001 RUNNING IJM 0100,02 LOOPS 0100 TO 0101` and a line feed.
-fn print_processor<A: Allocator, W: Write>(
-    text: &mut TextWriter<W>,
-    machine: &Machine<A>,
-    n: PpNo,
-    found: &Option<Loop>,
-)
-    ensures { Prints W.contents text.old text.new
-        (processor_line n (processor_of n machine.now)
-        (standing n machine.now 0 ++ loop_text found.now)) }
-{
-    text.print(&processor_heading(n, machine.pp(n)));
-    print_standing(text, machine, n, 0);
-    print_loop(text, found);
-    text.print(b"\n");
+    &loops[n.index()]
 }
 
 /// Prints ` LOOPS 0100 TO 0101`, if there is a loop.

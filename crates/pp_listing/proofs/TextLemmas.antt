@@ -1,11 +1,9 @@
 -- Steps of what prints a listing.
-use Rattle.std.proofs.Common.{◌≡◌, ◌≢◌, ℕ, ◌+◌, ◌%◌, ◌<◌, ◌≤◌, true, false, List, [], ◌∷◌, ◌++◌, length, drop, get_or, eqb, Some, None, ◌^◌, codes, refl, sym, ap, ◌∙◌, append_assoc, arith}
-use Rattle.std.specs.Prelude.{slice_get}
+use Rattle.std.proofs.Common.{◌≡◌, ◌≢◌, ℕ, ◌+◌, ◌%◌, ◌<◌, ◌≤◌, true, false, List, [], ◌∷◌, ◌++◌, length, drop, get_or, eqb, ◌^◌, codes, refl, sym, ap, ◌∙◌, append_assoc, arith}
 use Rattle.std.specs.List.{flat_map, range_with_len}
 use Rattle.std.proofs.lemmas.Bool.{eq-eqb, ne_eqb, cond-true, cond-false, cases_lt}
 use Rattle.std.proofs.lemmas.List.{append-nil, drop_all, drop_more, length-drop}
 use Rattle.std.proofs.lemmas.List.Concat.{flat_map-append}
-use Rattle.std.proofs.lemmas.Option.{get_or_from_slice_get}
 use Rattle.pp_word.specs.Address.{place_count, next_place}
 use Rattle.pp_numbers.specs.PpNo.{all_processors}
 use Rattle.pp_machine.specs.declared.pp_state.PpState.{PpState}
@@ -14,7 +12,6 @@ use Rattle.pp_deck.specs.DeckLine.{central_size, central_words, section}
 use Rattle.pp_deck.specs.DeckMeaning.{LoadedDeck}
 use Rattle.pp_text.specs.InstructionText.{instruction_text, is_long}
 use Rattle.pp_word.specs.Numeral.{octal, short_octal}
-use Rattle.pp_text.proofs.TextLemmas.{no_central_word}
 use Rattle.pp_listing.specs.ListedLine.{ListedLine, bare, one_word, two_words, deck_line, text_line}
 use Rattle.pp_listing.specs.Listing.{central_word_line, dead_start_line, instruction_lines, listed, listing, named_section, start_line}
 
@@ -108,20 +105,8 @@ two_step whole text more memory place at after word m got long lt is_at is_after
 
 -- ---- the line of a central word
 
-pub central_word_zero : (central : List ℕ) (a : ℕ) → get_or central a 0 ≡ 0 → [] ≡ flat_map text_line (central_word_line central a)
-central_word_zero central a e = let is : eqb (get_or central a 0) 0 ≡ true = eq-eqb (get_or central a 0) 0 e in rw is refl
-
 pub central_word_some : (central : List ℕ) (a w : ℕ) → get_or central a 0 ≡ w → w ≢ 0 → deck_line (central_words a (w ∷ [])) ≡ flat_map text_line (central_word_line central a)
 central_word_some central a w is ne = grind (arith, ne_eqb, append-nil)
-
-address_is : (a t : ℕ) → a < 2 ^ 18 → t ≡ a % 2 ^ 18 → t ≡ a
-address_is a t lt e = omega (arith, lt, e)
-
-pub central_read : (central : List ℕ) (a t w : ℕ) → a < 2 ^ 18 → t ≡ a % 2 ^ 18 → Some w ≡ slice_get central t → get_or central a 0 ≡ w
-central_read central a t w lt is e = ap (λ (i : ℕ). get_or central i 0) (sym (address_is a t lt is)) ∙ get_or_from_slice_get central t w 0 (sym e)
-
-pub central_past : (central : List ℕ) (a t : ℕ) → a < 2 ^ 18 → t ≡ a % 2 ^ 18 → None ≡ slice_get central t → get_or central a 0 ≡ 0
-central_past central a t lt is e = ap (λ (i : ℕ). get_or central i 0) (sym (address_is a t lt is)) ∙ no_central_word central t e
 
 -- ---- the whole listing
 

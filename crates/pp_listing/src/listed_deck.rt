@@ -1,8 +1,8 @@
-ghost use Rattle.std.specs.Prelude.{◌<◌};
+ghost use Rattle.std.specs.Prelude.{◌<◌, ◌^◌};
 ghost use Rattle.pp_text.specs.TextWriter.{Prints};
 ghost use Rattle.pp_text.specs.Written.{IsWritten};
 ghost use Rattle.pp_listing.specs.ListedLine.{text_of};
-ghost use Rattle.pp_listing.specs.Listing.{ReadsBackAs, central_word_lines, dead_start_line, listing};
+ghost use Rattle.pp_listing.specs.Listing.{ReadsBackAs, central_word_line, central_word_lines, dead_start_line, listing};
 
 use crate::deck_lines::print_size;
 use crate::print_central_line;
@@ -10,7 +10,7 @@ use crate::sections::print_sections;
 use pp_channel::{CHANNELS, ChannelNo};
 use pp_deck::Deck;
 use pp_machine::{Central, Machine};
-use pp_text::{TextWriter, WriteFault};
+use pp_text::{Lines, TextWriter, WriteFault, central_word, print_each_below};
 use pp_word::Word18;
 use std::alloc::Allocator;
 use std::io::Write;
@@ -44,10 +44,22 @@ pub fn write_listing<A: Allocator, W: Write>(
 pub(crate) fn print_central<A: Allocator, W: Write>(text: &mut TextWriter<W>, central: &Central<A>)
     ensures { Prints W.contents text.old text.new (text_of (central_word_lines central.now)) }
 {
-    for address in 0..central.size() {
-        match central.read(Word18::truncated(address)) {
-            Some(word) if word.get() != 0 => print_central_line(text, address, word.get()),
-            _ => {}
+    print_each_below(text, central.size(), &CentralWords(central));
+}
+
+/// The lines of central words that are not 0.
+#[derive(Drop)]
+struct CentralWords<'a, A: Allocator>(&'a Central<A>);
+
+impl<'a, A: Allocator, W: Write> Lines<u32, W> for CentralWords<'a, A> {
+    ghost text_of = { λ words a. text_of (central_word_line words.0.now a) };
+
+    ghost Has = { λ words a. a < 2 ^ 18 };
+
+    fn print(&self, text: &mut TextWriter<W>, address: &u32) {
+        let word = central_word(self.0, Word18::truncated(*address));
+        if word != 0 {
+            print_central_line(text, *address, word);
         }
     }
 }

@@ -1,11 +1,12 @@
+ghost use Rattle.pp_machine.specs.MachineState.{processor_of};
 ghost use Rattle.pp_text.specs.TextWriter.{Prints};
 ghost use Rattle.pp_listing.specs.ListedLine.{text_of};
-ghost use Rattle.pp_listing.specs.Listing.{sections, start_line};
+ghost use Rattle.pp_listing.specs.Listing.{section_lines, sections, start_line};
 
 use crate::instruction_lines::print_instructions;
 use crate::print_section_line;
 use pp_machine::{Machine, PROCESSORS, Pp, PpNo, PpState};
-use pp_text::{TextWriter, octal4, octal6};
+use pp_text::{Lines, TextWriter, octal4, octal6, print_each_named};
 use std::alloc::Allocator;
 use std::io::Write;
 
@@ -17,14 +18,21 @@ pub(crate) fn print_sections<A: Allocator, W: Write>(
 )
     ensures { Prints W.contents text.old text.new (text_of (sections named.now machine.now)) }
 {
-    for place in 0..PROCESSORS {
-        let n = PpNo::at(place);
-        if named[n.index()] {
-            let pp = machine.pp(n);
-            print_section_line(text, n);
-            print_instructions(text, pp);
-            print_start(text, pp);
-        }
+    print_each_named(text, named, &Sections(machine));
+}
+
+/// The sections of processors, with a line for each instruction and a start.
+#[derive(Drop)]
+struct Sections<'a, A: Allocator>(&'a Machine<A>);
+
+impl<'a, A: Allocator, W: Write> Lines<PpNo, W> for Sections<'a, A> {
+    ghost text_of = { λ sections n. text_of (section_lines n (processor_of n sections.0.now)) };
+
+    fn print(&self, text: &mut TextWriter<W>, n: &PpNo) {
+        let pp = self.0.pp(*n);
+        print_section_line(text, *n);
+        print_instructions(text, pp);
+        print_start(text, pp);
     }
 }
 

@@ -4,14 +4,12 @@ ghost use Rattle.std.specs.Prelude.{◌≡◌, ◌≢◌, ◌≤◌, ℕ, All, L
 ghost use Rattle.std.specs.List.{enumerate_from, flat_map};
 ghost use Rattle.pp_numbers.specs.ChannelNo.{all_channels, channel_count, names_channel};
 ghost use Rattle.pp_channel.specs.History.{history_on};
-ghost use Rattle.pp_numbers.specs.PpNo.{all_processors, processor_count, processor_index, is_named};
+ghost use Rattle.pp_numbers.specs.PpNo.{processor_count, processor_index};
 ghost use Rattle.pp_runner.specs.declared.worker.Worker.{Worker};
 ghost use Rattle.pp_report.specs.Authors.{AreAuthors, AreAuthorsOn};
 ghost use Rattle.pp_text.specs.TextWriter.{Prints};
-ghost use Rattle.pp_text.specs.PrintedText.{used_channel_line};
-ghost use Rattle.pp_report.specs.PrintedReport.{channel_events, named_worker_line, numbered_event_line, printed_report};
+ghost use Rattle.pp_report.specs.PrintedReport.{channel_events, numbered_event_line, printed_report, worker_line};
 ghost use Rattle.pp_report.specs.ReportLaw.{FitsItsEnd, FitsItsLine, FitsItsReport, shown_end, printed_events};
-ghost use Rattle.pp_text.specs.TextLaw.{HistoryFits};
 ghost use Rattle.pp_text.specs.Written.{IsReportWritten, IsWritten};
 
 use crate::authors::{ChannelAuthors, authors};
@@ -19,7 +17,7 @@ use crate::report_line::{print_numbered_event, print_worker_line};
 use pp_channel::{CHANNELS, Channel, ChannelNo};
 use pp_machine::{PROCESSORS, PpNo};
 use pp_runner::{Report, Worker};
-use pp_text::{ReportFault, TextWriter, WriteFault, print_channel_line};
+use pp_text::{Lines, ReportFault, TextWriter, WriteFault, print_each_channel, print_each_named};
 use std::alloc::Allocator;
 use std::io::Write;
 
@@ -62,8 +60,8 @@ fn print_report<A: Allocator + Copy, W: Write>(
 {
     let mut text = TextWriter::new(writer);
     print_events(&mut text, &report.channels, authors);
-    print_workers(&mut text, report.ends.as_slice(), named);
-    print_channels(&mut text, &report.channels);
+    print_each_named(&mut text, named, &WorkerLines(report.ends.as_slice()));
+    print_each_channel(&mut text, &report.channels);
     text.finish()
 }
 
@@ -106,38 +104,20 @@ fn print_history<A: Allocator, W: Write>(
     }
 }
 
-/// Prints the line of each processor that is named and has a worker.
-fn print_workers<A: Allocator, W: Write>(
-    text: &mut TextWriter<W>,
-    workers: &[Worker<A>],
-    named: &[bool; PROCESSORS],
-)
-    ensures text { Prints W.contents text.old text.new
-        (flat_map (named_worker_line named.now workers.now) all_processors) }
-    ensures fits { (n : ℕ) → IsTrue (is_named named.now n)
-        → IfSome (option_map shown_end (slice_get workers.now (processor_index n))) FitsItsEnd }
-{
-    for place in 0..PROCESSORS {
-        let n = PpNo::at(place);
-        if named[n.index()] {
-            if let Some(worker) = workers.get(n.index()) {
-                print_worker_line(text, n, worker);
-            }
-        }
-    }
-}
+/// The lines of processors that have a worker.
+#[derive(Drop)]
+struct WorkerLines<'a, A: Allocator>(&'a [Worker<A>]);
 
-fn print_channels<A: Allocator, W: Write>(
-    text: &mut TextWriter<W>,
-    channels: &[Channel<A>; CHANNELS],
-)
-    ensures text { Prints W.contents text.old text.new
-        (flat_map (used_channel_line channels.now) all_channels) }
-    ensures fits { (c : ℕ) → IsTrue (names_channel c) → HistoryFits (history_on c channels.now) }
-{
-    for place in 0..CHANNELS {
-        let c = ChannelNo::at(place);
-        print_channel_line(text, c, channel_of(channels, c));
+impl<'a, A: Allocator, W: Write> Lines<PpNo, W> for WorkerLines<'a, A> {
+    ghost text_of = { λ lines n. worker_line n (slice_get lines.0.now (processor_index n)) };
+
+    ghost Fits = { λ lines n.
+        IfSome (option_map shown_end (slice_get lines.0.now (processor_index n))) FitsItsEnd };
+
+    fn print(&self, text: &mut TextWriter<W>, n: &PpNo) {
+        if let Some(worker) = self.0.get(n.index()) {
+            print_worker_line(text, *n, worker);
+        }
     }
 }
 

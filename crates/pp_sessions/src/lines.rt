@@ -1,14 +1,17 @@
 //! The lines of stretches and of processors.
 
+ghost use Rattle.std.specs.Prelude.{slice_index_or};
+ghost use Rattle.pp_numbers.specs.PpNo.{processor_index};
+ghost use Rattle.pp_run.specs.StepCounts.{no_steps};
 ghost use Rattle.pp_text.specs.TextWriter.{Prints};
 ghost use Rattle.pp_sessions.specs.SessionsText.{counts_line, idle_line, moment_text, session_line};
 
 use crate::tally::{Moment, Tally};
 use pp_channel::ChannelNo;
-use pp_machine::PpNo;
+use pp_machine::{PROCESSORS, PpNo};
 use pp_run::StepCounts;
 use pp_text::{
-    TextWriter, channel_name, octal4, print_decimal, print_short_decimal, processor_name,
+    Lines, TextWriter, channel_name, octal4, print_decimal, print_short_decimal, processor_name,
 };
 use std::io::Write;
 
@@ -62,18 +65,25 @@ pub(crate) fn print_idle<W: Write>(text: &mut TextWriter<W>, c: ChannelNo, idle:
     text.print(b"\n");
 }
 
-/// Prints `PP00 MOVED 24 HELD 376 REST 0` and a line feed.
-pub(crate) fn print_counts<W: Write>(text: &mut TextWriter<W>, n: PpNo, counts: &StepCounts)
-    ensures { Prints W.contents text.old text.new (counts_line n counts.now) }
-{
-    text.print(&processor_name(n));
-    text.print(b" MOVED ");
-    print_short_decimal(text, u64::from(counts.moved));
-    text.print(b" HELD ");
-    print_short_decimal(text, u64::from(counts.held));
-    text.print(b" REST ");
-    print_short_decimal(text, u64::from(counts.at_rest));
-    text.print(b"\n");
+/// The lines of these counts: `PP00 MOVED 24 HELD 376 REST 0` and a line feed.
+#[derive(Drop)]
+pub(crate) struct CountsLines<'a>(pub(crate) &'a [StepCounts; PROCESSORS]);
+
+impl<'a, W: Write> Lines<PpNo, W> for CountsLines<'a> {
+    ghost text_of = { λ lines n.
+        counts_line n (slice_index_or lines.0.now (processor_index n) no_steps) };
+
+    fn print(&self, text: &mut TextWriter<W>, n: &PpNo) {
+        let counts = &self.0[n.index()];
+        text.print(&processor_name(*n));
+        text.print(b" MOVED ");
+        print_short_decimal(text, u64::from(counts.moved));
+        text.print(b" HELD ");
+        print_short_decimal(text, u64::from(counts.held));
+        text.print(b" REST ");
+        print_short_decimal(text, u64::from(counts.at_rest));
+        text.print(b"\n");
+    }
 }
 
 /// Prints `000060`, or `DEAD START`.

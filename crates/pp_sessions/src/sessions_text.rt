@@ -1,16 +1,14 @@
 //! The text of the sessions of a run.
-ghost use Rattle.std.specs.List.{flat_map};
-ghost use Rattle.pp_numbers.specs.PpNo.{all_processors};
 ghost use Rattle.pp_text.specs.TextWriter.{Prints};
 ghost use Rattle.pp_text.specs.Written.{IsWritten};
-ghost use Rattle.pp_sessions.specs.SessionsText.{channel_lines, sessions_text, shown_counts_line};
+ghost use Rattle.pp_sessions.specs.SessionsText.{channel_lines, sessions_text};
 
-use crate::lines::print_counts;
+use crate::lines::CountsLines;
 use crate::open_stretch::{OpenStretch, print_stretch, take_in_entry};
-use pp_channel::{CHANNELS, ChannelNo};
-use pp_machine::{Machine, PROCESSORS, PpNo};
+use pp_channel::ChannelNo;
+use pp_machine::{Machine, PROCESSORS};
 use pp_run::StepCounts;
-use pp_text::{TextWriter, WriteFault};
+use pp_text::{Lines, TextWriter, WriteFault, print_each_channel, print_each_named};
 use std::alloc::Allocator;
 use std::io::Write;
 
@@ -19,6 +17,7 @@ use std::io::Write;
 /// the order of the barrel; and flushes the writer. `with_words` asks, after the line of each
 /// session, for the words put, and after that of an idle stretch for its function codes. The text
 /// goes out in pieces, and takes no memory. If the writer fails, the rest of the text is lost.
+#[tactic(auto, unfolding(crate::specs::SessionsText::sessions_text))]
 pub fn write_sessions<A: Allocator, W: Write>(
     writer: &mut W,
     machine: &Machine<A>,
@@ -30,11 +29,28 @@ pub fn write_sessions<A: Allocator, W: Write>(
         (W.contents writer.old) (W.contents writer.new) }
 {
     let mut text = TextWriter::new(writer);
-    for place in 0..CHANNELS {
-        print_channel(&mut text, with_words, machine, ChannelNo::at(place));
-    }
-    print_processors(&mut text, shown, counts);
+    let stretches = StretchLines {
+        machine,
+        with_words,
+    };
+    print_each_channel(&mut text, &stretches);
+    print_each_named(&mut text, shown, &CountsLines(counts));
     text.finish()
+}
+
+/// The lines of the stretches of channels.
+#[derive(Drop)]
+struct StretchLines<'a, A: Allocator> {
+    machine: &'a Machine<A>,
+    with_words: bool,
+}
+
+impl<'a, A: Allocator, W: Write> Lines<ChannelNo, W> for StretchLines<'a, A> {
+    ghost text_of = { λ lines. channel_lines lines.with_words lines.machine.now };
+
+    fn print(&self, text: &mut TextWriter<W>, c: &ChannelNo) {
+        print_channel(text, self.with_words, self.machine, *c);
+    }
 }
 
 /// Prints a line for each stretch of a channel.
@@ -58,20 +74,5 @@ fn print_channel<A: Allocator, W: Write>(
     if let Some(last) = &current.tally {
         let entries = &entries[current.start..];
         print_stretch(text, c, with_words, current.number, last, entries);
-    }
-}
-
-fn print_processors<W: Write>(
-    text: &mut TextWriter<W>,
-    shown: &[bool; PROCESSORS],
-    counts: &[StepCounts; PROCESSORS],
-)
-    ensures { Prints W.contents text.old text.new
-        (flat_map (shown_counts_line shown.now counts.now) all_processors) }
-{
-    for place in 0..PROCESSORS {
-        if shown[place] {
-            print_counts(text, PpNo::at(place), &counts[place]);
-        }
     }
 }

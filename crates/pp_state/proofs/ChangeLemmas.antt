@@ -68,9 +68,6 @@ line_begins before after place e none = grind (arith, append-nil, line_where, eq
 
 -- ---- central words
 
-pub no_central_line : (before after : List ℕ) (a : ℕ) → get_or after a 0 ≡ get_or before a 0 → [] ≡ flat_map deck_line (central_line before after a)
-no_central_line before after a e = let is : eqb (get_or before a 0) (get_or after a 0) ≡ true = eq-eqb (get_or before a 0) (get_or after a 0) (sym e) in rw is refl
-
 pub central_line_printed : (before after : List ℕ) (a word old : ℕ) → word ≡ get_or after a 0 → old ≡ get_or before a 0 → word ≢ old → deck_line (central_words a (word ∷ [])) ≡ flat_map deck_line (central_line before after a)
 central_line_printed before after a word old is was differ = grind (arith, ne_eqb, append-nil)
 

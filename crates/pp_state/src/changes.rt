@@ -7,11 +7,11 @@ ghost use Rattle.pp_deck.specs.DeckLine.{section};
 ghost use Rattle.pp_text.specs.TextWriter.{Prints};
 ghost use Rattle.pp_listing.specs.ListedLine.{after_blank, deck_line};
 ghost use Rattle.pp_text.specs.Differences.{differs};
-ghost use Rattle.pp_state.specs.Changes.{changed_central, changed_lines, has_changes, line_from, neighbours, position_on_line};
+ghost use Rattle.pp_state.specs.Changes.{central_line, changed_central, changed_lines, has_changes, line_from, neighbours, position_on_line};
 
 use pp_listing::{print_central_line, print_section_line};
 use pp_machine::{Central, Pp, PpNo};
-use pp_text::{TextWriter, central_word, octal4};
+use pp_text::{Lines, TextWriter, central_word, octal4, print_each_below};
 use pp_word::{Word12, Word18};
 use std::alloc::Allocator;
 use std::io::Write;
@@ -110,11 +110,27 @@ pub(crate) fn print_changed_central<A: Allocator, W: Write>(
     ensures { Prints W.contents text.old text.new
         (flat_map deck_line (changed_central before.now after.now)) }
 {
-    for address in 0..after.size() {
-        let place = Word18::truncated(address);
-        let word = central_word(after, place);
-        if word != central_word(before, place) {
-            print_central_line(text, address, word);
+    print_each_below(text, after.size(), &ChangedWords { before, after });
+}
+
+/// The lines of central words that differ.
+#[derive(Drop)]
+struct ChangedWords<'a, A: Allocator> {
+    before: &'a Central<A>,
+    after: &'a Central<A>,
+}
+
+impl<'a, A: Allocator, W: Write> Lines<u32, W> for ChangedWords<'a, A> {
+    ghost text_of = { λ words a.
+        flat_map deck_line (central_line words.before.now words.after.now a) };
+
+    ghost Has = { λ words a. a < 2 ^ 18 };
+
+    fn print(&self, text: &mut TextWriter<W>, address: &u32) {
+        let place = Word18::truncated(*address);
+        let word = central_word(self.after, place);
+        if word != central_word(self.before, place) {
+            print_central_line(text, *address, word);
         }
     }
 }

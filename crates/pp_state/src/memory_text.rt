@@ -1,16 +1,17 @@
 //! The text of a processor's memory.
 
-ghost use Rattle.std.specs.Prelude.{◌≡◌, ◌+◌, ◌<◌, ◌≤◌, ◌++◌, codes};
+ghost use Rattle.std.specs.Prelude.{◌≡◌, ◌+◌, ◌*◌, ◌<◌, ◌≤◌, ◌++◌, codes};
 ghost use Rattle.pp_word.specs.Address.{place_count};
+ghost use Rattle.pp_word.specs.Numeral.{octal};
 ghost use Rattle.pp_machine.specs.Processor.{word_at};
 ghost use Rattle.pp_text.specs.TextWriter.{Prints};
 ghost use Rattle.pp_text.specs.Written.{IsWritten};
-ghost use Rattle.pp_state.specs.MemoryText.{displayed_words, has_words, memory_text, octal_words};
+ghost use Rattle.pp_state.specs.MemoryText.{displayed_words, has_words, memory_text, octal_words, shown_line};
 
 use crate::display_code::displayed2;
 use pp_machine::Pp;
 use pp_numbers::Bounds;
-use pp_text::{TextWriter, WriteFault, print_octal};
+use pp_text::{Lines, TextWriter, WriteFault, print_each_below, print_octal};
 use pp_word::Word12;
 use std::io::Write;
 
@@ -24,22 +25,38 @@ const WORDS_ON_A_LINE: u32 = 8;
 /// `0020  0004 0000 0017 0000 0000 0000 0000 0000   D   O`; and flushes the writer. The lines are
 /// those in which a place lies within the bounds and a word is not 0. The text goes out in pieces,
 /// and takes no memory. Where the writer fails, the rest of the text is lost.
+#[tactic(auto, unfolding(crate::specs::MemoryText::memory_text))]
 pub fn write_memory<W: Write>(writer: &mut W, pp: &Pp, bounds: Bounds) -> Result<(), WriteFault>
     ensures { IsWritten (memory_text bounds pp.now) result
         (W.contents writer.old) (W.contents writer.new) }
 {
     let mut text = TextWriter::new(writer);
-    for number in 0..LINES {
-        let place = number * WORDS_ON_A_LINE;
-        if bounds.meets(place, place + 7) && has_words(pp, place) {
-            print_octal(&mut text, 4, u64::from(place));
+    print_each_below(&mut text, LINES, &MemoryLines { pp, bounds });
+    text.finish()
+}
+
+/// The lines of a processor's memory, by number.
+#[derive(Drop)]
+struct MemoryLines<'a> {
+    pp: &'a Pp,
+    bounds: Bounds,
+}
+
+impl<'a, W: Write> Lines<u32, W> for MemoryLines<'a> {
+    ghost text_of = { λ lines number. shown_line lines.bounds lines.pp.now (number * 8) };
+
+    ghost Has = { λ lines number. number * 8 < place_count };
+
+    fn print(&self, text: &mut TextWriter<W>, number: &u32) {
+        let place = *number * WORDS_ON_A_LINE;
+        if self.bounds.meets(place, place + 7) && has_words(self.pp, place) {
+            print_octal(text, 4, u64::from(place));
             text.print(b" ");
-            print_octal_words(&mut text, pp, place);
-            text.print(displayed_field(pp, place).trim_ascii_end());
+            print_octal_words(text, self.pp, place);
+            text.print(displayed_field(self.pp, place).trim_ascii_end());
             text.print(b"\n");
         }
     }
-    text.finish()
 }
 
 /// Whether one of eight words from a place on is not 0.
@@ -59,13 +76,29 @@ fn word_at(pp: &Pp, place: u32) -> u64
 }
 
 /// Prints eight words in octal digits, with a space before each.
+#[tactic(auto, unfolding(crate::specs::MemoryText::octal_words))]
 fn print_octal_words<W: Write>(text: &mut TextWriter<W>, pp: &Pp, place: u32)
     requires { place + 8 ≤ place_count }
     ensures { Prints W.contents text.old text.new (octal_words pp.now place) }
 {
-    for k in 0..WORDS_ON_A_LINE {
+    print_each_below(text, WORDS_ON_A_LINE, &OctalWords { pp, place });
+}
+
+/// Eight words from a place on in octal digits, by number, with a space before each.
+#[derive(Drop)]
+struct OctalWords<'a> {
+    pp: &'a Pp,
+    place: u32,
+}
+
+impl<'a, W: Write> Lines<u32, W> for OctalWords<'a> {
+    ghost text_of = { λ words k. codes " " ++ octal 4 (word_at words.pp.now (words.place + k)) };
+
+    ghost Has = { λ words k. words.place + k < place_count };
+
+    fn print(&self, text: &mut TextWriter<W>, k: &u32) {
         text.print(b" ");
-        print_octal(text, 4, word_at(pp, place + k));
+        print_octal(text, 4, word_at(self.pp, self.place + *k));
     }
 }
 

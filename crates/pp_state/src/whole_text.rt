@@ -1,19 +1,26 @@
 //! The whole text of how things stand.
 
+ghost use Rattle.std.specs.Prelude.{slice_index_or};
 ghost use Rattle.std.specs.List.{flat_map};
-ghost use Rattle.pp_machine.specs.MachineState.{MachineState};
-ghost use Rattle.pp_numbers.specs.PpNo.{all_processors};
+ghost use Rattle.pp_machine.specs.MachineState.{MachineState, processor_of};
+ghost use Rattle.pp_numbers.specs.PpNo.{processor_index};
+ghost use Rattle.pp_text.specs.PrintedText.{processor_line};
+ghost use Rattle.pp_text.specs.Standing.{standing};
 ghost use Rattle.pp_text.specs.TextWriter.{Prints};
 ghost use Rattle.pp_text.specs.Written.{IsWritten};
 ghost use Rattle.pp_listing.specs.ListedLine.{deck_line};
 ghost use Rattle.pp_run.specs.BareMachine.{StandsFor};
+ghost use Rattle.pp_run.specs.StepCounts.{no_steps};
 ghost use Rattle.pp_state.specs.Changes.{changed_sections};
-ghost use Rattle.pp_state.specs.StateText.{changes_text, standing_line, state_text};
+ghost use Rattle.pp_state.specs.StateText.{changes_text, state_text};
 
 use crate::changes::{has_changes, print_changed_central, print_section};
 use pp_machine::{Machine, PROCESSORS, PpNo};
 use pp_run::{BareMachine, StepCounts};
-use pp_text::{TextWriter, WriteFault, print_channels, print_standing, processor_heading};
+use pp_text::{
+    Lines, TextWriter, WriteFault, print_channels, print_each_named, print_standing,
+    processor_heading,
+};
 use std::alloc::Allocator;
 use std::io::Write;
 
@@ -37,7 +44,7 @@ pub fn write_state<A: Allocator, W: Write>(
         (W.contents writer.old) (W.contents writer.new) }
 {
     let mut text = TextWriter::new(writer);
-    print_processors(&mut text, shown, after, counts);
+    print_each_named(&mut text, shown, &StandingLines { after, counts });
     print_changes(&mut text, before, after);
     text.finish()
 }
@@ -58,23 +65,22 @@ pub fn print_changes<A: Allocator, W: Write>(
     print_channels(text, after);
 }
 
-/// Prints the lines of all processors shown, in order of number.
-fn print_processors<A: Allocator, W: Write>(
-    text: &mut TextWriter<W>,
-    shown: &[bool; PROCESSORS],
-    after: &Machine<A>,
-    counts: &[StepCounts; PROCESSORS],
-)
-    ensures { Prints W.contents text.old text.new
-        (flat_map (standing_line shown.now after.now counts.now) all_processors) }
-{
-    for place in 0..PROCESSORS {
-        if shown[place] {
-            let n = PpNo::at(place);
-            text.print(&processor_heading(n, after.pp(n)));
-            print_standing(text, after, n, counts[place].last_held);
-            text.print(b"\n");
-        }
+/// The lines of processors: `PP00 P=0113 A=000006 RUNNING IAN 01 HELD CH01 ACTIVE EMPTY x376` and a
+/// line feed.
+#[derive(Drop)]
+struct StandingLines<'a, A: Allocator> {
+    after: &'a Machine<A>,
+    counts: &'a [StepCounts; PROCESSORS],
+}
+
+impl<'a, A: Allocator, W: Write> Lines<PpNo, W> for StandingLines<'a, A> {
+    ghost text_of = { λ lines n. processor_line n (processor_of n lines.after.now) (standing n
+        lines.after.now (slice_index_or lines.counts.now (processor_index n) no_steps).last_held) };
+
+    fn print(&self, text: &mut TextWriter<W>, n: &PpNo) {
+        text.print(&processor_heading(*n, self.after.pp(*n)));
+        print_standing(text, self.after, *n, self.counts[n.index()].last_held);
+        text.print(b"\n");
     }
 }
 

@@ -1,5 +1,5 @@
 -- Texts that are printed one after another.
-use Rattle.std.proofs.Common.{◌≡◌, ℕ, zero, suc, ◌+◌, Bool, true, false, List, [], ◌++◌, Option, refl, sym, ap, ◌∙◌, add-one, append_assoc, arith, subst}
+use Rattle.std.proofs.Common.{◌≡◌, ℕ, zero, suc, ◌+◌, Bool, true, false, List, [], ◌∷◌, ◌++◌, Option, refl, sym, ap, ◌∙◌, add-one, append_assoc, arith, subst}
 use Rattle.std.specs.Prelude.{IsTrue, if◌then◌else◌}
 use Rattle.std.specs.List.{flat_map, range_with_len}
 use Rattle.std.proofs.lemmas.List.{append-nil}
@@ -85,11 +85,28 @@ pub walk_more : {X : Type 0} (line : ℕ → List X) (number : ℕ → ℕ) (k :
     ≡ flat_map line (tabulate (k + 1) number)
 walk_more {X} line number k = grind (arith, tabulate_more, flat_map-append, append-nil)
 
+-- the lines of lines of each
+pub flat_of_flat : {X : Type 0} (line : X → List ℕ) (f : ℕ → List X) (ks : List ℕ)
+    → flat_map (λ k. flat_map line (f k)) ks ≡ flat_map line (flat_map f ks)
+flat_of_flat line f [] = refl
+flat_of_flat line f (k ∷ ks) =
+    ap (λ (rest : List ℕ). flat_map line (f k) ++ rest) (flat_of_flat line f ks)
+    ∙ sym (flat_map-append line (f k) (flat_map f ks))
+
 -- what there is of numbers from 0 on, one after another
 pub each_is_flat : (k : ℕ) (f : ℕ → List ℕ) → each_below k f ≡ flat_map f (range_with_len 0 k)
 unfolding each_below
 each_is_flat zero f = refl
 each_is_flat (suc k) f = grind (arith, range_flat, add-one, each_is_flat k f)
+
+-- lines of each number below a count
+pub prints_lines_below : {W X : Type 0} (contents : W → Option (List ℕ)) (a b : TextWriter W)
+    (line : X → List ℕ) (f : ℕ → List X) (count : ℕ)
+    → Prints contents a b (each_below count (λ k. flat_map line (f k)))
+    → Prints contents a b (flat_map line (flat_map f (range_with_len 0 count)))
+prints_lines_below contents a b line f count prints =
+    subst (Prints contents a b)
+    (each_is_flat count _ ∙ flat_of_flat line f (range_with_len 0 count)) prints
 
 -- the line of the channel with this number, if there is one
 abbrev pub numbered_channel_line : List (List Event) → ℕ → List ℕ

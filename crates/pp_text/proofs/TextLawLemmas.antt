@@ -1,11 +1,8 @@
 -- The text of a machine tells its trace, its named processors and its channels.
-use Rattle.std.proofs.Common.{All, ◌≡◌, ◌∙◌, ◌≢◌, ℕ, ◌+◌, ◌*◌, ◌^◌, ◌<◌, ◌≤◌, Bool, true, false, List, [], ◌∷◌, ◌++◌, Option, Some, None, length, take, drop, refl, sym, ap, subst, add-one, append-nil, arith, inl, inr, ◌⊎◌, append_assoc, codes}
+use Rattle.std.proofs.Common.{◌≡◌, ◌∙◌, ◌≢◌, ℕ, ◌+◌, ◌*◌, ◌^◌, ◌<◌, ◌≤◌, Bool, true, false, List, [], ◌∷◌, ◌++◌, Option, Some, None, length, drop, refl, sym, ap, append-nil, arith, inl, inr, ◌⊎◌, append_assoc, codes}
 use Rattle.std.specs.Prelude.{◌==◌, ◌&&◌, ◌↔◌, nat_le, nat_lt, get_or, IfSome, IsTrue, slice_index_or, if◌then◌else◌}
 use Rattle.std.specs.List.{flat_map, last_or, list_all, range_with_len}
 use Rattle.std.proofs.lemmas.Bool.{and_parts, cases_lt, false_from_ne_true}
-use Rattle.std.proofs.lemmas.Grind.{flat_map-append}
-use Rattle.std.proofs.lemmas.List.Elements.{All-append, All-cons, All-nil}
-use Rattle.std.proofs.Math.Seq.{take-suc}
 use Rattle.pp_numbers.specs.ChannelNo.{all_channels, names_channel}
 use Rattle.pp_numbers.proofs.ChannelNoLemmas.{channel_fits}
 use Rattle.pp_channel.specs.History.{HasTwelveBitWord, active, waiting, last_stretch, history_on}
@@ -248,19 +245,3 @@ text_tells named others one other fits also e =
       processors = λ n is. (processors.0 n (omega arith) (named_digits named n is)).1 is;
       channels = channels.0;
     }
-
--- ---- what is printed fits
-
--- the events printed so far, and one more
-pub told_so_far : (events : List Trace) (i : ℕ) (e : Trace) → i < length events → e ≡ slice_index_or events i e → All EventFits (take i events) → EventFits e → All EventFits (take (i + 1) events)
-told_so_far events i e within at so_far told =
-    subst (All EventFits) (sym (ap (λ n. take n events) (add-one i) ∙ take-suc events i e within ∙ ap (λ x. take i events ++ x ∷ []) (sym at)))
-    (All-append EventFits (take i events) (e ∷ []) so_far (All-cons EventFits e [] told (All-nil EventFits)))
-
--- their text so far, and one more line
-pub events_go_on : (events : List Trace) (i : ℕ) (e : Trace) → i < length events → e ≡ slice_index_or events i e
-    → flat_map event_line (take i events) ++ event_line e ≡ flat_map event_line (take (i + 1) events)
-events_go_on events i e within at =
-    let more : take (i + 1) events ≡ take i events ++ e ∷ [] =
-    ap (λ n. take n events) (add-one i) ∙ take-suc events i e within ∙ ap (λ x. take i events ++ x ∷ []) (sym at) in
-    sym (ap (flat_map event_line) more ∙ (flat_map-append event_line (take i events) (e ∷ []) ∙ ap (λ l. flat_map event_line (take i events) ++ l) (append-nil (event_line e))))

@@ -4,27 +4,36 @@ ghost use Rattle.std.specs.Prelude.{◌≡◌, ◌<◌, ◌^◌, ◌++◌, IsTru
 ghost use Rattle.pp_numbers.specs.ChannelNo.{names_channel};
 ghost use Rattle.pp_channel.specs.History.{HasTwelveBitWord};
 ghost use Rattle.pp_numbers.specs.PpNo.{names_processor};
+ghost use Rattle.pp_machine.specs.MachineState.{processor_of};
 ghost use Rattle.pp_word.specs.Numeral.{digits, octal};
 ghost use Rattle.pp_text.specs.PrintedText.{event_line, event_text, line_end, processor_line, state_text};
 ghost use Rattle.pp_text.specs.TextLaw.{ProcessorFits, EventFits};
 ghost use Rattle.pp_text.specs.TextWriter.{Prints};
 
 use crate::{
-    TextWriter, decimal6, octal2, octal4, print_state_text, print_upper_digits, processor_heading,
+    Lines, TextWriter, decimal6, octal2, octal4, print_state_text, print_upper_digits,
+    processor_heading,
 };
 use pp_channel::{ChannelNo, Event};
-use pp_machine::{Pp, PpNo, Trace};
+use pp_machine::{Machine, PpNo, Trace};
 use pp_word::Word12;
+use std::alloc::Allocator;
 use std::io::Write;
 
-/// Prints `000020 PP00 CH05 PUT 0007` and a line feed.
-pub(crate) fn print_event<W: Write>(text: &mut TextWriter<W>, entry: &Trace)
-    ensures text { Prints W.contents text.old text.new (event_line entry.now) }
-    ensures fits { EventFits entry.now }
-{
-    let turn = print_upper_digits(text, entry.turn);
-    text.print(&event_heading(turn, entry.pp, entry.channel));
-    print_event_end(text, entry.event);
+/// The lines of events: `000020 PP00 CH05 PUT 0007` and a line feed.
+#[derive(Drop)]
+pub(crate) struct EventLines;
+
+impl<W: Write> Lines<Trace, W> for EventLines {
+    ghost text_of = { λ lines. event_line };
+
+    ghost Fits = { λ lines. EventFits };
+
+    fn print(&self, text: &mut TextWriter<W>, entry: &Trace) {
+        let turn = print_upper_digits(text, entry.turn);
+        text.print(&event_heading(turn, entry.pp, entry.channel));
+        print_event_end(text, entry.event);
+    }
 }
 
 /// Prints `PUT 0007` and a line feed.
@@ -68,14 +77,17 @@ fn line_with_word(name: [u8; 3], word: Word12) -> [u8; 9]
     [n0, n1, n2, b' ', w0, w1, w2, w3, b'\n']
 }
 
-/// Prints `PP00 P=0103 A=000007 STOPPED` and a line feed.
-#[tactic(auto, unfolding(crate::specs::PrintedText::processor_line))]
-pub(crate) fn print_processor<W: Write>(text: &mut TextWriter<W>, n: PpNo, pp: &Pp)
-    ensures text { Prints W.contents text.old text.new
-        (processor_line n pp.now (state_text pp.now.state)) }
-    ensures fits { ProcessorFits pp.now }
-{
-    text.print(&processor_heading(n, pp));
-    print_state_text(text, pp.state());
-    text.print(b"\n");
+/// The lines of processors: `PP00 P=0103 A=000007 STOPPED` and a line feed.
+impl<A: Allocator, W: Write> Lines<PpNo, W> for Machine<A> {
+    ghost text_of = { λ machine n.
+        let pp = processor_of n machine in processor_line n pp (state_text pp.state) };
+
+    ghost Fits = { λ machine n. ProcessorFits (processor_of n machine) };
+
+    fn print(&self, text: &mut TextWriter<W>, n: &PpNo) {
+        let pp = self.pp(*n);
+        text.print(&processor_heading(*n, pp));
+        print_state_text(text, pp.state());
+        text.print(b"\n");
+    }
 }

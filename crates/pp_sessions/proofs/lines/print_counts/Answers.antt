@@ -1,9 +1,0 @@
-use Rattle.pp_text.proofs.PrintingLemmas.{◌▹◌}
-use Rattle.pp_sessions.specs.SessionsText.{counts_line}
-use Rattle.pp_sessions.proofs.lines.print_counts.Goals as goal
-
-pub returns : goal.returns
-unfolding counts_line
-returns g c =
-    (rw c.processor_name.ensures at c.print.ensures) ▹ c.print-2.ensures ▹ (rw c.from.ensures at c.print_short_decimal.ensures) ▹ c.print-3.ensures
-    ▹ (rw c.from-2.ensures at c.print_short_decimal-2.ensures) ▹ c.print-4.ensures ▹ (rw c.from-3.ensures at c.print_short_decimal-3.ensures) ▹ c.print-5.ensures

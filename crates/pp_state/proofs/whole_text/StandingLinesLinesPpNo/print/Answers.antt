@@ -1,0 +1,9 @@
+use Rattle.pp_text.specs.PrintedText.{processor_line}
+use Rattle.pp_text.proofs.PrintingLemmas.{◌▹◌, prints_on}
+use Rattle.pp_state.proofs.whole_text.StandingLinesLinesPpNo.print.Goals as goal
+
+pub returns-clause-text : goal.returns-clause-text
+unfolding processor_line
+returns-clause-text g c =
+    prints_on _ _ _ _ _ _ _ (c.print.ensures ▹ c.print_standing.ensures) c.print-2.ensures
+    (rw (c.processor_heading.ensures.text, c.pp.ensures, c.index.ensures.place))
