@@ -7,10 +7,10 @@ use Rattle.pp_numbers.specs.ChannelNo.{names_channel}
 use Rattle.pp_channel.specs.declared.flags.Flags.{Flags}
 use Rattle.pp_numbers.specs.PpNo.{names_processor, processor_count, processor_index, processor_number, processor_places}
 use Rattle.pp_machine.specs.declared.trace.Trace.{Trace}
-use Rattle.pp_races.specs.FlagSets.{look_at, no_looks}
-use Rattle.pp_races.specs.Tables.{closing_findings, entry_count, entry_place, looks_after_event, looks_of}
+use Rattle.pp_races.specs.ByFlags.{at}
+use Rattle.pp_races.specs.Tables.{closing_findings, entry_count, entry_place, Looks, looks_after_event, looks_of, no_looks}
 use Rattle.pp_races.specs.Watch.{each_below, race_after}
-use Rattle.pp_races.specs.declared.{finding.Finding.Finding, looks.Looks.Looks}
+use Rattle.pp_races.specs.declared.finding.Finding.{Finding}
 use Rattle.pp_races.proofs.EntryLemmas.{entry_within, set_other}
 use Rattle.pp_races.proofs.EndLemmas.{each_more}
 
@@ -42,7 +42,7 @@ closed_more made after old now next place q c_named low q_is so_far next_is long
         | inl same ↦
             subst (λ (k : ℕ). looks_of next k c ≡ looks_after_event made.pp after k old c) (sym same)
             (ap (λ t. looks_of t q c) next_is ∙ get_or-set_same now (entry_place q c) (looks_after_event made.pp after q now c) no_looks within
-            ∙ ap (λ (l : Looks). if q == made.pp || is_some (look_at l after) then no_looks else l) (so_far.above q q_named (omega (arith, index))))
+            ∙ ap (λ (l : Looks). if q == made.pp || is_some (at l after) then no_looks else l) (so_far.above q q_named (omega (arith, index))))
         | inr other ↦ ap (λ t. looks_of t x c) next_is ∙ set_other now q c x c (looks_after_event made.pp after q now c) no_looks x_named q_named c_named c_named (λ is on. other is)
             ∙ so_far.below x x_named (elim (cases_lt (processor_index x) place) [
               | inl below ↦ below
@@ -80,6 +80,6 @@ found_more made after old now place q first found next low q_is so_far found_is 
     let q_named : IsTrue (names_processor q) = subst (λ (k : ℕ). IsTrue (names_processor k)) (sym q_is) (processor_places.number_named place low) in
     let index : processor_index q ≡ place = ap processor_index q_is ∙ processor_places.place_of_number place low in
     let same : closing_findings made after now q ≡ of place =
-    ap (λ (l : Looks). if q == made.pp then [] else race_after (look_at l after) made) (so_far.above q q_named (omega arith))
+    ap (λ (l : Looks). if q == made.pp then [] else race_after (at l after) made) (so_far.above q q_named (omega arith))
     ∙ ap (λ k. closing_findings made after old k) q_is in
     each_more of first found next place found_is (next_is ∙ ap (λ x. found ++ x) same)

@@ -1,12 +1,16 @@
 -- The entries of the tables: what a new one changes.
-use Rattle.std.proofs.Common.{◌≡◌, ℕ, ◌*◌, ◌<◌, Bool, true, false, IsTrue, List, slice_set, get_or, refl, ap, ◌∙◌, inl, inr, arith}
+use Rattle.std.proofs.Common.{◌≡◌, ℕ, ◌*◌, ◌<◌, Bool, true, false, IsTrue, List, [], length, slice_set, get_or, refl, sym, subst, ap, ◌∙◌, inl, inr, arith}
 use Rattle.std.specs.Prelude.{◌==◌, ◌&&◌, ◌⊎◌, if◌then◌else◌}
 use Rattle.std.proofs.lemmas.Bool.{cases_eq, eq-eqb, eqb-true}
-use Rattle.std.proofs.lemmas.List.{get_or-set_other}
+use Rattle.std.proofs.lemmas.List.{get_or_default, get_or-set_other, get_or-set_same}
 use Rattle.pp_numbers.specs.ChannelNo.{channel_count, channel_index, names_channel, channel_places}
 use Rattle.pp_numbers.specs.PpNo.{processor_count, processor_index, names_processor, processor_places}
-use Rattle.pp_races.specs.Tables.{entry_place}
-use Rattle.pp_races.specs.Watch.{put}
+use Rattle.pp_races.specs.Tables.{AreCursors, AreLooks, Looks, cursor_of, entry_place, events_of, looks_of, no_cursor, no_looks}
+use Rattle.pp_races.specs.ByFlags.{at}
+use Rattle.pp_channel.specs.declared.flags.Flags.{Flags}
+use Rattle.pp_races.specs.Cursor.{IsCursor}
+use Rattle.pp_races.specs.Watch.{Watch, put}
+use Rattle.pp_races.specs.declared.{cursor.Cursor.Cursor, missed.Missed.Missed}
 
 pub entry_within : (q c : ℕ) → IsTrue (names_processor q) → IsTrue (names_channel c) → entry_place q c < processor_count * channel_count
 entry_within q c q_named c_named =
@@ -53,3 +57,32 @@ both_off false b off = refl
 pub put_other : {X : Type 0} (n c q e : ℕ) (x : X) (entries : ℕ → ℕ → X) → (q ≡ n → e ≡ c → ⊥) → put n c x entries q e ≡ entries q e
 put_other n c q e x entries apart =
     ap (λ (t : Bool). if t then x else entries q e) (both_off (q == n) (e == c) (λ a b. apart (eqb-true q n a) (eqb-true e c b)))
+
+-- the events of a channel and the entry of a table, as the code reads them
+pub events_at : (events : List (List Missed)) (c place : ℕ) (list : List Missed) → place ≡ channel_index c → place < length events → list ≡ get_or events place list → list ≡ events_of events c
+events_at events c place list place_is below list_is = list_is ∙ get_or_default events place list [] below ∙ ap (λ k. get_or events k []) place_is
+
+pub entry_at : {X : Type 0} (table : List X) (n c entry : ℕ) (x d : X) → entry ≡ entry_place n c → entry < length table → x ≡ get_or table entry x → x ≡ get_or table (entry_place n c) d
+entry_at table n c entry x d entry_is within x_is = x_is ∙ get_or_default table entry x d within ∙ ap (λ k. get_or table k d) entry_is
+
+-- one cursor put in the place of another
+pub cursors_set : (events : List (List Missed)) (w : Watch) (table : List Cursor) (n c : ℕ) (cursor : Cursor) → IsTrue (names_processor n) → IsTrue (names_channel c) → entry_place n c < length table
+    → IsCursor (events_of events c) (w.missed n c) cursor
+    → ((q e : ℕ) → IsTrue (names_processor q) → IsTrue (names_channel e) → (q ≡ n → e ≡ c → ⊥) → IsCursor (events_of events e) (w.missed q e) (cursor_of table q e))
+    → AreCursors events w (slice_set table (entry_place n c) cursor)
+cursors_set events w table n c cursor n_named c_named within here others q e q_named e_named = elim (here_or_not n c q e) [
+  | inl same ↦
+      rw (same.0, same.1) (subst (λ (x : Cursor). IsCursor (events_of events c) (w.missed n c) x) (sym (get_or-set_same table (entry_place n c) cursor no_cursor within)) here)
+  | inr apart ↦
+      subst (λ (x : Cursor). IsCursor (events_of events e) (w.missed q e) x) (sym (set_other table n c q e cursor no_cursor q_named n_named e_named c_named apart)) (others q e q_named e_named apart)
+]
+
+-- one entry of looks put in the place of another
+pub looks_set : (w : Watch) (table : List Looks) (n c : ℕ) (new : Looks) → IsTrue (names_processor n) → IsTrue (names_channel c) → entry_place n c < length table
+    → ((f : Flags) → at new f ≡ w.looks n c f)
+    → ((q e : ℕ) → IsTrue (names_processor q) → IsTrue (names_channel e) → (q ≡ n → e ≡ c → ⊥) → (f : Flags) → at (looks_of table q e) f ≡ w.looks q e f)
+    → AreLooks w (slice_set table (entry_place n c) new)
+looks_set w table n c new n_named c_named within here others q e q_named e_named f = elim (here_or_not n c q e) [
+  | inl same ↦ rw (same.0, same.1) (ap (λ (l : Looks). at l f) (get_or-set_same table (entry_place n c) new no_looks within) ∙ here f)
+  | inr apart ↦ ap (λ (l : Looks). at l f) (set_other table n c q e new no_looks q_named n_named e_named c_named apart) ∙ others q e q_named e_named apart f
+]

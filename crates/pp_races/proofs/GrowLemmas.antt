@@ -11,9 +11,10 @@ use Rattle.pp_machine.specs.Run.{run}
 use Rattle.pp_machine.specs.declared.need.Need.{Need}
 use Rattle.pp_races.specs.Findings.{end_of, findings, findings_at_end, sharing_of}
 use Rattle.pp_races.specs.OtherFlags.{waits_at}
-use Rattle.pp_races.specs.Tables.{AreLow, AreLooks, AreUses, AreWatched}
+use Rattle.pp_races.specs.Tables.{Looks}
 use Rattle.pp_races.specs.Watch.{Watch, asked, each_below, each_number, looked, unwatched, watched, watched_need, watched_step}
-use Rattle.pp_races.specs.declared.{finding.Finding.Finding, looks.Looks.Looks, low.Low.Low, word_use.WordUse.WordUse}
+use Rattle.pp_races.specs.WatchTables.{AreKept}
+use Rattle.pp_races.specs.declared.{cursor.Cursor.Cursor, finding.Finding.Finding, missed.Missed.Missed, word_use.WordUse.WordUse}
 
 -- ---- one step more
 
@@ -49,18 +50,14 @@ behind (Need.Channel c op) n m w = behind_asked n c op (event_of op (history_of 
 behind other n m w = record { missed = refl; looks = refl; wrote = refl; used = refl; findings = sym (append-nil w.findings) }
 
 -- the tables after a step, of which the findings are taken away
-pub forgets : (some : List Finding) (m : MachineState) (now other : Watch) (low : List Low) (looks : List Looks) (found : List Finding) → IsBehind some now other → AreWatched m other low looks found
-    → AreWatched m (forgotten now) low looks []
-forgets some m now other low looks found is are = record {
-  low_are = subst (λ missed. AreLow m (record now { missed = missed }) low) (sym is.missed) are.low_are;
-  looks_are = subst (λ kept. AreLooks (record now { looks = kept }) looks) (sym is.looks) are.looks_are;
+pub forgets : (some : List Finding) (now other : Watch) (events : List (List Missed)) (cursors : List Cursor) (looks : List Looks) (uses : List WordUse) (found : List Finding) (words : ℕ) → IsBehind some now other
+    → AreKept events cursors looks uses found words other → AreKept events cursors looks uses [] words (forgotten now)
+forgets some now other events cursors looks uses found words is are = record {
+  cursors_are = rw is.missed are.cursors_are;
+  looks_are = rw is.looks are.looks_are;
+  words_are = are.words_are;
+  uses_are = rw (is.wrote, is.used) are.uses_are;
   found_are = refl;
-}
-
-pub forgets_uses : (some : List Finding) (now other : Watch) (uses : List WordUse) → IsBehind some now other → AreUses other uses → AreUses (forgotten now) uses
-forgets_uses some now other uses is are a low = record {
-  wrote = λ q named. (are a low).wrote q named ∙ ap (λ (f : ℕ → ℕ → Bool). f a q) (sym is.wrote);
-  used = λ q named. (are a low).used q named ∙ ap (λ (f : ℕ → ℕ → Bool). f a q) (sym is.used);
 }
 
 -- ---- what is found of a run so far

@@ -2,15 +2,11 @@ pub mod Watching
 pub mod VerdictLemmas
 mod TextLemmas
 mod GrowLemmas
-mod FlagSetLemmas
-mod LowLemmas
-mod SpanLemmas
-mod RowLemmas
-mod LatestLemmas
+mod ByFlagsLemmas
+mod CursorLemmas
 mod EntryLemmas
-mod LookLemmas
 mod EventLemmas
-mod BeginLemmas
+mod LookLemmas
 mod MissedLemmas
 mod SoundLemmas
 mod RunLemmas
@@ -20,4 +16,5 @@ mod PositionLemmas
 mod SettledLemmas
 mod EndLemmas
 mod UseLemmas
+mod BeginLemmas
 mod CloseLemmas

@@ -9,26 +9,28 @@ use Rattle.pp_channel.specs.declared.{chan_op.ChanOp.ChanOp, event.Event.Event}
 use Rattle.pp_machine.specs.MachineState.{MachineState, processor_of, history_of}
 use Rattle.pp_machine.specs.MachineStep.{stepped}
 use Rattle.pp_machine.specs.NeedAndEffect.{need}
-use Rattle.pp_numbers.specs.PpNo.{names_processor, processor_count}
+use Rattle.pp_numbers.specs.PpNo.{names_processor, processor_count, processor_number}
 use Rattle.pp_machine.specs.Run.{run}
 use Rattle.pp_machine.proofs.RunLemmas.{run_more}
 use Rattle.pp_machine.specs.declared.need.Need.{Need}
 use Rattle.pp_run.specs.Determinacy.{IsDeterminate, UsesAt, WritesAt, at_moment, need_at}
-use Rattle.pp_run.proofs.Moments.{moment_next, moment_each, mono, run_processors}
+use Rattle.pp_run.proofs.Moments.{moment_next, moment_each, mono, run_central, run_processors}
 use Rattle.pp_races.specs.Findings.{end_of, findings, findings_at_end, sharing_of}
 use Rattle.pp_races.specs.OtherFlags.{waits_at}
 use Rattle.pp_races.specs.OnePass.{Watched}
 use Rattle.pp_races.specs.Soundness.{AreLastOf, AsksLawfulChannel, IsSound, TurnTestIsExact, least_of, open_of}
 use Rattle.pp_races.specs.Watch.{Watch, asked, each_below, each_number, looked, unwatched, watched, watched_need}
-use Rattle.pp_races.specs.Tables.{AreLow, AreWatched}
-use Rattle.pp_races.specs.WatchTables.{AreTables}
-use Rattle.pp_races.specs.declared.{finding.Finding.Finding, watch_tables.WatchTables.WatchTables}
+use Rattle.pp_races.specs.Tables.{Looks}
+use Rattle.pp_races.specs.WatchTables.{AreKept}
+use Rattle.pp_races.specs.declared.{cursor.Cursor.Cursor, finding.Finding.Finding, missed.Missed.Missed, word_use.WordUse.WordUse}
 use Rattle.pp_races.proofs.FinalLemmas.{determinate, free}
 use Rattle.pp_races.proofs.GoingOnLemmas.{no_race}
 use Rattle.pp_races.specs.RaceFree.{IsRaceFreeSoFar}
 use Rattle.pp_races.specs.RacesText.{is_going_on}
 use Rattle.std.specs.List.{list_all}
-use Rattle.pp_races.proofs.GrowLemmas.{behind, findings_are, forgets, forgets_uses, forgotten, watched_push}
+use Rattle.pp_races.proofs.GrowLemmas.{behind, findings_are, forgets, forgotten, watched_push}
+use Rattle.pp_races.proofs.EndLemmas.{end_apart}
+use Rattle.pp_races.proofs.EventLemmas.{each_same}
 use Rattle.pp_races.proofs.MissedLemmas.{none_missed}
 use Rattle.pp_races.proofs.UseLemmas.{same_asked}
 use Rattle.pp_races.proofs.SoundLemmas.{none_first, none_second, open_where, step_sound}
@@ -97,18 +99,16 @@ module _ (ns : List ℕ) (m : MachineState) (each : length m.histories ≡ chann
         ];
       }
 
--- what is kept of a run after t of its steps, whose findings have been taken away
-pub record IsWatchedRun {A : Type 0} (ns : List ℕ) (t : ℕ) (m now : MachineState) (tables : WatchTables A) : Type 0 where
+-- what is known of a run after t of its steps
+pub record IsWatchedRun (ns : List ℕ) (t : ℕ) (m now : MachineState) : Type 0 where
   pub ran : now ≡ run (take t ns) m
-  pub kept : AreTables tables now (forgotten (watched (take t ns) m unwatched))
   pub sound : (watched (take t ns) m unwatched).findings ≡ [] → IsSound ns m t (watched (take t ns) m unwatched)
 
 -- ---- the loop
 
-pub run_begins : {A : Type 0} (ns : List ℕ) (m : MachineState) (tables : WatchTables A) → length m.histories ≡ channel_count → AreTables tables m unwatched → IsWatchedRun ns 0 m m tables
-run_begins ns m tables each are = record {
+pub run_begins : (ns : List ℕ) (m : MachineState) → length m.histories ≡ channel_count → IsWatchedRun ns 0 m m
+run_begins ns m each = record {
   ran = refl;
-  kept = are;
   sound = λ none. (record {
     watched = record {
       lower = λ q c s may. omega (arith, mono ns m each c zero s (omega arith));
@@ -134,85 +134,80 @@ sound_on ns m now n asked t w each within named n_is now_is asked_is well found 
     (subst (λ (x : Need). AsksLawfulChannel x (at_moment ns m t)) (sym need_is) (subst (λ (x : MachineState). AsksLawfulChannel asked x) (sym now_is) well))
     (ap (λ (x : Watch). x.findings) same ∙ found))
 
--- after one step more: the tables, whose findings are taken away
-pub run_goes_on : {A : Type 0} (ns : List ℕ) (t : ℕ) (m now next : MachineState) (n : ℕ) (tables taken new : WatchTables A) → length m.histories ≡ channel_count
-    → t < length ns → n ≡ get_or ns t 0 → IsTrue (names_processor n) → next ≡ stepped n now → AsksLawfulChannel (need (processor_of n now)) now
-    → ((w : Watch) → AreTables tables now w → AreTables taken (stepped n now) (watched_need (need (processor_of n now)) n now w))
-    → new ≡ record taken { found = new.found } → new.found.items ≡ []
-    → IsWatchedRun ns t m now tables → IsWatchedRun ns (t + 1) m next new × ((watched (take (t + 1) ns) m unwatched).findings ≡ (watched (take t ns) m unwatched).findings ++ taken.found.items)
-run_goes_on {A = A} ns t m now next n tables taken new each before n_is named next_is well takes new_is taken_away r =
-    let one : t + 1 ≡ suc t = omega arith in
-    let watch_is : watched (take (t + 1) ns) m unwatched ≡ watched_need (need (processor_of n now)) n now (watched (take t ns) m unwatched) =
-    ap (λ ks. watched ks m unwatched) (take_more ns t 0 before) ∙ watched_push (take t ns) (get_or ns t 0) m unwatched
-    ∙ ap (λ k. watched_need (need (processor_of k (run (take t ns) m))) k (run (take t ns) m) (watched (take t ns) m unwatched)) (sym n_is)
-    ∙ ap (λ (x : MachineState). watched_need (need (processor_of n x)) n x (watched (take t ns) m unwatched)) (sym r.ran) in
-    let step = behind (need (processor_of n now)) n now (watched (take t ns) m unwatched) in
-    let kept = takes (forgotten (watched (take t ns) m unwatched)) r.kept in (
-      record {
-        ran = next_is ∙ ap (λ x. stepped n x) r.ran ∙ ap (λ k. stepped k (run (take t ns) m)) n_is ∙ sym (run_more ns t m before);
-        kept = subst (λ (x : Watch). AreTables new next (forgotten x)) (sym watch_is) (subst (λ (x : MachineState). AreTables new x (forgotten (watched_need (need (processor_of n now)) n now (watched (take t ns) m unwatched)))) (sym next_is)
-            (subst (λ (v : WatchTables A). AreTables v (stepped n now) (forgotten (watched_need (need (processor_of n now)) n now (watched (take t ns) m unwatched)))) (sym new_is) (record {
-              indexed = kept.indexed;
-              low_all = kept.low_all;
-              looks_all = kept.looks_all;
-              words = kept.words;
-              watched = subst (λ (x : List Finding). AreWatched (stepped n now) (forgotten (watched_need (need (processor_of n now)) n now (watched (take t ns) m unwatched))) taken.low.items taken.looks.items x) (sym taken_away)
-                  (forgets (watched (take t ns) m unwatched).findings (stepped n now) _ _ taken.low.items taken.looks.items taken.found.items step kept.watched);
-              used = forgets_uses (watched (take t ns) m unwatched).findings _ _ taken.uses.items step kept.used;
-            })));
-        sound = λ none.
-            let found_none : (watched_need (need (processor_of n now)) n now (watched (take t ns) m unwatched)).findings ≡ [] = ap (λ (x : Watch). x.findings) (sym watch_is) ∙ none in
-            let now_is : at_moment ns m t ≡ now = sym r.ran in
-            subst (λ (x : Watch). IsSound ns m (t + 1) x) (sym watch_is)
-            (subst (λ (k : ℕ). IsSound ns m k (watched_need (need (processor_of n now)) n now (watched (take t ns) m unwatched))) (sym one)
-            (sound_on ns m now n (need (processor_of n now)) t (watched (take t ns) m unwatched) each before named (sym n_is) now_is refl well found_none
-            (r.sound (found_before (need (processor_of n now)) n now (watched (take t ns) m unwatched) found_none))));
-      },
-      ap (λ (x : Watch). x.findings) watch_is ∙ step.findings ∙ ap (λ x. (watched (take t ns) m unwatched).findings ++ x) (sym kept.watched.found_are),
-    )
+-- after one step more
+module _ (ns : List ℕ) (t : ℕ) (m now : MachineState) (n : ℕ) (before : t < length ns) (n_is : n ≡ get_or ns t 0) (r : IsWatchedRun ns t m now) where
+  watch_is : watched (take (t + 1) ns) m unwatched ≡ watched_need (need (processor_of n now)) n now (watched (take t ns) m unwatched)
+  watch_is =
+      ap (λ ks. watched ks m unwatched) (take_more ns t 0 before) ∙ watched_push (take t ns) (get_or ns t 0) m unwatched
+      ∙ ap (λ k. watched_need (need (processor_of k (run (take t ns) m))) k (run (take t ns) m) (watched (take t ns) m unwatched)) (sym n_is)
+      ∙ ap (λ (x : MachineState). watched_need (need (processor_of n x)) n x (watched (take t ns) m unwatched)) (sym r.ran)
+
+  pub run_goes_on : (next : MachineState) → length m.histories ≡ channel_count → IsTrue (names_processor n) → next ≡ stepped n now → AsksLawfulChannel (need (processor_of n now)) now → IsWatchedRun ns (t + 1) m next
+  run_goes_on next each named next_is well = record {
+    ran = next_is ∙ ap (λ x. stepped n x) r.ran ∙ ap (λ k. stepped k (run (take t ns) m)) n_is ∙ sym (run_more ns t m before);
+    sound = λ none.
+        let one : t + 1 ≡ suc t = omega arith in
+        let found_none : (watched_need (need (processor_of n now)) n now (watched (take t ns) m unwatched)).findings ≡ [] = ap (λ (x : Watch). x.findings) (sym watch_is) ∙ none in
+        let now_is : at_moment ns m t ≡ now = sym r.ran in
+        subst (λ (x : Watch). IsSound ns m (t + 1) x) (sym watch_is)
+        (subst (λ (k : ℕ). IsSound ns m k (watched_need (need (processor_of n now)) n now (watched (take t ns) m unwatched))) (sym one)
+        (sound_on ns m now n (need (processor_of n now)) t (watched (take t ns) m unwatched) each before named (sym n_is) now_is refl well found_none
+        (r.sound (found_before (need (processor_of n now)) n now (watched (take t ns) m unwatched) found_none))));
+  }
+
+  -- the tables, whose findings are taken away, and what these are
+  pub run_keeps : (events : List (List Missed)) (cursors : List Cursor) (looks : List Looks) (uses : List WordUse) (found : List Finding) (words : ℕ)
+      → AreKept events cursors looks uses found words (watched_need (need (processor_of n now)) n now (forgotten (watched (take t ns) m unwatched)))
+      → AreKept events cursors looks uses [] words (forgotten (watched (take (t + 1) ns) m unwatched)) × ((watched (take (t + 1) ns) m unwatched).findings ≡ (watched (take t ns) m unwatched).findings ++ found)
+  run_keeps events cursors looks uses found words kept =
+      let w : Watch = watched (take t ns) m unwatched in
+      let step = behind (need (processor_of n now)) n now w in (
+        subst (λ (x : Watch). AreKept events cursors looks uses [] words (forgotten x)) (sym watch_is) (forgets w.findings _ _ events cursors looks uses found words step kept),
+        ap (λ (x : Watch). x.findings) watch_is ∙ step.findings ∙ ap (λ x. w.findings ++ x) (sym kept.found_are),
+      )
 
 -- ---- the end
 
-pub run_finds : {A : Type 0} (ns : List ℕ) (t : ℕ) (m now : MachineState) (tables : WatchTables A) (ends : List Finding)
-    → t ≡ length ns → IsWatchedRun ns t m now tables
-    → ((w : Watch) → AreLow now w tables.low.items → ends ≡ tables.found.items ++ each_number (end_of now w))
-    → ((watched (take t ns) m unwatched).findings ++ ends) ++ each_below (length tables.uses.items) (sharing_of (forgotten (watched (take t ns) m unwatched))) ≡ findings ns m
-run_finds ns t m now tables ends end r ends_are =
+pub run_finds : (ns : List ℕ) (t : ℕ) (m now : MachineState) (ends : List Finding) (words : ℕ)
+    → t ≡ length ns → IsWatchedRun ns t m now → words ≡ length m.central
+    → ends ≡ each_number (end_of now (forgotten (watched (take t ns) m unwatched)))
+    → ((watched (take t ns) m unwatched).findings ++ ends) ++ each_below words (sharing_of (forgotten (watched (take t ns) m unwatched))) ≡ findings ns m
+run_finds ns t m now ends words end r words_is ends_are =
     let whole : take t ns ≡ ns = take_all t ns (omega (arith, end)) in
     let now_is : now ≡ run ns m = r.ran ∙ ap (λ ks. run ks m) whole in
-    let watch_is : watched (take t ns) m unwatched ≡ watched ns m unwatched = ap (λ ks. watched ks m unwatched) whole in
-    let words : length tables.uses.items ≡ length (run ns m).central = r.kept.words ∙ ap (λ (x : MachineState). length x.central) now_is in
     let w : Watch = watched (take t ns) m unwatched in
-    ap (λ x. (w.findings ++ x) ++ each_below (length tables.uses.items) (sharing_of w)) (ends_are w r.kept.watched.low_are ∙ ap (λ x. x ++ each_number (end_of now w)) r.kept.watched.found_are)
-    ∙ ap (λ (x : Watch). (x.findings ++ each_number (end_of now x)) ++ each_below (length tables.uses.items) (sharing_of x)) watch_is
-    ∙ ap (λ (x : MachineState). ((watched ns m unwatched).findings ++ each_number (end_of x (watched ns m unwatched))) ++ each_below (length tables.uses.items) (sharing_of (watched ns m unwatched))) now_is
-    ∙ ap (λ k. ((watched ns m unwatched).findings ++ each_number (end_of (run ns m) (watched ns m unwatched))) ++ each_below k (sharing_of (watched ns m unwatched))) words
+    let ends_same : ends ≡ each_number (end_of now w) =
+    ends_are ∙ sym (each_same (λ k. end_of now w (processor_number k)) (λ k. end_of now (forgotten w) (processor_number k)) processor_count (λ k low. end_apart (need (processor_of (processor_number k) now)) (processor_number k) now (forgotten w) w.findings)) in
+    ap (λ x. (w.findings ++ x) ++ each_below words (sharing_of w)) ends_same
+    ∙ ap (λ (x : Watch). (x.findings ++ each_number (end_of now x)) ++ each_below words (sharing_of x)) (ap (λ ks. watched ks m unwatched) whole)
+    ∙ ap (λ (x : MachineState). ((watched ns m unwatched).findings ++ each_number (end_of x (watched ns m unwatched))) ++ each_below words (sharing_of (watched ns m unwatched))) now_is
+    ∙ ap (λ k. ((watched ns m unwatched).findings ++ each_number (end_of (run ns m) (watched ns m unwatched))) ++ each_below k (sharing_of (watched ns m unwatched))) (words_is ∙ sym (run_central ns m))
     ∙ sym (findings_are ns m)
 
 -- after the last step, where no step raced, the watch is sound
-sound_at_end : {A : Type 0} (ns : List ℕ) (t : ℕ) (m now : MachineState) (tables : WatchTables A) → t ≡ length ns → IsWatchedRun ns t m now tables
+sound_at_end : (ns : List ℕ) (t : ℕ) (m now : MachineState) → t ≡ length ns → IsWatchedRun ns t m now
     → (watched ns m unwatched).findings ≡ [] → IsSound ns m (length ns) (watched ns m unwatched)
-sound_at_end ns t m now tables end r none =
+sound_at_end ns t m now end r none =
     let watch_is : watched (take t ns) m unwatched ≡ watched ns m unwatched = ap (λ ks. watched ks m unwatched) (take_all t ns (omega (arith, end))) in
     subst (λ (k : ℕ). IsSound ns m k (watched ns m unwatched)) end (subst (λ (x : Watch). IsSound ns m t x) watch_is (r.sound (ap (λ (x : Watch). x.findings) watch_is ∙ none)))
 
-pub run_is_free : {A : Type 0} (ns : List ℕ) (t : ℕ) (m now : MachineState) (tables : WatchTables A) → length m.processors ≡ processor_count → length m.histories ≡ channel_count
-    → t ≡ length ns → IsWatchedRun ns t m now tables → list_all is_going_on (findings ns m) ≡ true → IsRaceFreeSoFar ns m
-run_is_free ns t m now tables all each end r going =
+pub run_is_free : (ns : List ℕ) (t : ℕ) (m now : MachineState) → length m.processors ≡ processor_count → length m.histories ≡ channel_count
+    → t ≡ length ns → IsWatchedRun ns t m now → list_all is_going_on (findings ns m) ≡ true → IsRaceFreeSoFar ns m
+run_is_free ns t m now all each end r going =
     let none = no_race ns m (sym (ap (list_all is_going_on) (findings_are ns m)) ∙ going) in
-    free ns m (watched ns m unwatched) each (λ k. run_processors (take k ns) m ∙ all) (sound_at_end ns t m now tables end r none.0) none.1
+    free ns m (watched ns m unwatched) each (λ k. run_processors (take k ns) m ∙ all) (sound_at_end ns t m now end r none.0) none.1
 
-pub run_tells : {A : Type 0} (ns : List ℕ) (t : ℕ) (m now : MachineState) (tables : WatchTables A) → length m.processors ≡ processor_count → length m.histories ≡ channel_count
-    → t ≡ length ns → IsWatchedRun ns t m now tables → ((q : ℕ) → IsTrue (names_processor q) → TurnTestIsExact now q)
+pub run_tells : (ns : List ℕ) (t : ℕ) (m now : MachineState) → length m.processors ≡ processor_count → length m.histories ≡ channel_count
+    → t ≡ length ns → IsWatchedRun ns t m now → ((q : ℕ) → IsTrue (names_processor q) → TurnTestIsExact now q)
     → findings ns m ≡ [] → IsDeterminate ns m
-run_tells ns t m now tables all each end r turn_well none =
+run_tells ns t m now all each end r turn_well none =
     let whole : take t ns ≡ ns = take_all t ns (omega (arith, end)) in
     let now_is : now ≡ run ns m = r.ran ∙ ap (λ ks. run ks m) whole in
     let none_there : findings_at_end (run ns m) (watched ns m unwatched) ≡ [] = sym (findings_are ns m) ∙ none in
     let first = none_first ((watched ns m unwatched).findings ++ each_number (end_of (run ns m) (watched ns m unwatched))) _ none_there in
     determinate ns m (watched ns m unwatched) all each
     (λ k. run_processors (take k ns) m ∙ all) (run_processors ns m ∙ all)
-    (sound_at_end ns t m now tables end r (none_first (watched ns m unwatched).findings _ first))
+    (sound_at_end ns t m now end r (none_first (watched ns m unwatched).findings _ first))
     (none_second (watched ns m unwatched).findings _ first)
     (none_second ((watched ns m unwatched).findings ++ each_number (end_of (run ns m) (watched ns m unwatched))) _ none_there)
     (λ q named. subst (λ (x : MachineState). TurnTestIsExact x q) now_is (turn_well q named))

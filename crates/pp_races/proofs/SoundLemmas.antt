@@ -6,7 +6,7 @@ use Rattle.std.specs.Option.{option_or, option_to_list}
 use Rattle.std.proofs.lemmas.Bool.{and_parts, and_from, cases_eq, cases_lt, eq-eqb, ne_eqb, cases_Bool, or_from, not-false, cond-true}
 use Rattle.std.proofs.lemmas.List.{length_push}
 use Rattle.pp_channel.specs.Answer.{event_of, flags_of, flags_after}
-use Rattle.pp_numbers.specs.ChannelNo.{channel_count, names_channel}
+use Rattle.pp_numbers.specs.ChannelNo.{channel_count, channel_index, names_channel}
 use Rattle.pp_channel.specs.History.{IsLawful, HasTwelveBitWords}
 use Rattle.pp_channel.specs.declared.{chan_op.ChanOp.ChanOp, event.Event.Event, flags.Flags.Flags}
 use Rattle.pp_channel.proofs.AnswerLemmas.{flags_by_table, lawful_with_event}
@@ -18,7 +18,7 @@ use Rattle.pp_machine.specs.Processor.{Processor}
 use Rattle.pp_machine.specs.declared.{need.Need.Need, trace.Trace.Trace}
 use Rattle.pp_machine.specs.declared.need.Need.TheVariants.{Channel}
 use Rattle.pp_run.specs.Determinacy.{Stays}
-use Rattle.pp_run.proofs.StepFacts.{central_by, event_by_need, history_elsewhere, history_here, history_unless, own_step}
+use Rattle.pp_run.proofs.StepFacts.{central_by, event_by_need, histories_none, history_elsewhere, history_here, history_unless, own_step}
 use Rattle.pp_races.specs.OtherFlags.{found_at, is_alike, is_race, is_same, makes_none, position_at, position_of, shown_to, waits_at}
 use Rattle.pp_races.specs.OnePass.{DoesAsAt, IsChecked, WaitsAt, flags_at}
 use Rattle.pp_races.specs.OnePass.IsChecked.{step_waits, step_elsewhere, step_looks, step_makes}
@@ -28,7 +28,6 @@ use Rattle.pp_races.specs.declared.asking_step.AskingStep.{AskingStep}
 use Rattle.pp_races.proofs.PositionLemmas.{alike_is, alike_parts, none_made_makes_none, race_none, race_waits, same_itself, agrees}
 use Rattle.pp_races.proofs.EntryLemmas.{here_or_not, put_here, put_other}
 use Rattle.pp_races.proofs.EventLemmas.{looks_elsewhere, looks_there, missed_elsewhere, missed_others, missed_own}
-use Rattle.pp_races.proofs.LookLemmas.{history_kept}
 use Rattle.pp_races.proofs.MissedLemmas.{AreLeft, left_by, left_missed, none_missed, none_races, one_missed}
 use Rattle.pp_races.proofs.Watching.{stays_at}
 
@@ -59,6 +58,10 @@ none_below (suc count) of is k low = elim (cases_lt k count) [
 pub none_numbered : {X : Type 0} (of : ℕ → List X) → each_number of ≡ [] → (q : ℕ) → IsTrue (names_processor q) → of q ≡ []
 none_numbered of is q named =
     ap of (sym (processor_places.number_of_place q named)) ∙ none_below processor_count (λ place. of (processor_number place)) is (processor_index q) (processor_places.place_below q named)
+
+-- a step that makes no event leaves the histories
+history_kept : (n c k : ℕ) (op : ChanOp) (m : MachineState) → need (processor_of n m) ≡ Channel c op → event_of op (history_of c m) ≡ None → history_of k (stepped n m) ≡ history_of k m
+history_kept n c k op m e none = ap (λ (hs : List (List Event)). get_or hs (channel_index k) []) (histories_none n c op m e none)
 
 -- ---- tests
 

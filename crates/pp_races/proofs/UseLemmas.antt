@@ -9,11 +9,14 @@ use Rattle.std.proofs.lemmas.Nat.Bits.{bit_at_set_same, bit_at_set_other, bit_at
 use Rattle.pp_channel.specs.Answer.{flags_of}
 use Rattle.pp_channel.specs.declared.{chan_op.ChanOp.ChanOp, event.Event.Event}
 use Rattle.pp_machine.specs.MachineState.{MachineState, processor_of, history_of}
+use Rattle.pp_machine.specs.declared.need.Need.{Need}
+use Rattle.pp_machine.specs.declared.need.Need.TheVariants.{Channel}
 use Rattle.pp_numbers.specs.PpNo.{names_processor, processor_index, processor_places}
-use Rattle.pp_races.specs.Tables.{AreUses, has_bit, unused}
+use Rattle.pp_races.specs.Tables.{AreUses, Looks, has_bit, unused}
 use Rattle.pp_races.specs.OtherFlags.{waits_at}
-use Rattle.pp_races.specs.Watch.{Watch, asked, looked, unwatched}
-use Rattle.pp_races.specs.declared.word_use.WordUse.{WordUse}
+use Rattle.pp_races.specs.Watch.{Watch, asked, looked, unwatched, watched_need}
+use Rattle.pp_races.specs.WatchTables.{AreKept}
+use Rattle.pp_races.specs.declared.{cursor.Cursor.Cursor, finding.Finding.Finding, missed.Missed.Missed, word_use.WordUse.WordUse}
 
 pub bit_set : (mask n place : ℕ) → IsTrue (names_processor n) → place ≡ processor_index n → (q : ℕ) → IsTrue (names_processor q)
     → has_bit (bit_or mask (1 * 2 ^ place % 2 ^ 32)) q ≡ (has_bit mask q || q == n)
@@ -52,10 +55,17 @@ same_asked n c op None m w = by_wait (waits_at op (processor_of n m) (flags_of (
     by_wait true = (refl, refl)
     by_wait false = (refl, refl)
 
-pub uses_asked : (n c : ℕ) (op : ChanOp) (o : Option Event) (m : MachineState) (w : Watch) (table : List WordUse) → AreUses w table → AreUses (asked n c op o m w) table
-uses_asked n c op o m w table are a low = record {
-  wrote = λ q named. (are a low).wrote q named ∙ ap (λ (f : ℕ → ℕ → Bool). f a q) (sym (same_asked n c op o m w).1);
-  used = λ q named. (are a low).used q named ∙ ap (λ (f : ℕ → ℕ → Bool). f a q) (sym (same_asked n c op o m w).0);
+-- after a step that asks no channel
+pub uses_kept : (x : Need) (n : ℕ) (m : MachineState) (events : List (List Missed)) (cursors : List Cursor) (looks : List Looks) (uses new : List WordUse) (found : List Finding) (words : ℕ) (w : Watch) → ((c : ℕ) (op : ChanOp) → x ≡ Channel c op → ⊥)
+    → length new ≡ length uses → AreUses (watched_need x n m w) new
+    → AreKept events cursors looks uses found words w → AreKept events cursors looks new found words (watched_need x n m w)
+uses_kept (Channel c op) n m events cursors looks uses new found words w off long used are = absurd (off c op refl)
+uses_kept other n m events cursors looks uses new found words w off long used are = record {
+  cursors_are = are.cursors_are;
+  looks_are = are.looks_are;
+  words_are = long ∙ are.words_are;
+  uses_are = used;
+  found_are = are.found_are;
 }
 
 -- a word's bits after a step of processor n that uses it

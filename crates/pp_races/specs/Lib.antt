@@ -5,9 +5,9 @@ pub mod RacesText
 pub mod RaceFree
 -- cited by private contracts alone: nobody has to read these to believe what the crate promises
 pub mod Positions
-pub mod FlagSets
+pub mod ByFlags
+pub mod Cursor
 pub mod Tables
-pub mod Spans
 pub mod OnePass
 pub mod WatchTables
 pub mod Printing

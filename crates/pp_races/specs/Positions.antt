@@ -1,15 +1,21 @@
 -- Where an operation that makes no event leaves a processor, by its registers alone. (Private
 -- contracts alone cite this.)
-use Rattle.std.specs.Prelude.{ℕ, Bool, false, not, ◌==◌, Option, None, Some, is_some, if◌then◌else◌}
+use Rattle.std.specs.Prelude.{◌≡◌, ℕ, Bool, false, not, ◌==◌, Option, None, Some, is_some, if◌then◌else◌}
 use Rattle.pp_word.specs.Address.{next_place, place_after}
 use Rattle.pp_word.specs.Opcode.{code_of}
 use Rattle.pp_channel.specs.declared.{chan_op.ChanOp.ChanOp, flags.Flags.Flags}
+use Rattle.pp_machine.specs.NeedAndEffect.{need}
 use Rattle.pp_machine.specs.Operand.{operation, second_word}
 use Rattle.pp_machine.specs.Processor.{Processor, word_at}
 use Rattle.pp_machine.specs.declared.{block.Block.Block, block.BlockKind.BlockKind}
 use Rattle.pp_machine.specs.declared.block.BlockKind.TheVariants.{Input, Output}
+use Rattle.pp_machine.specs.declared.need.Need.TheVariants.{Channel}
 use Rattle.pp_races.specs.OtherFlags.{position_of}
 use Rattle.pp_races.specs.declared.position.Position.{Position}
+
+-- the processor asks an operation of a channel
+abbrev pub AsksChannel : Processor → ChanOp → Type 0
+AsksChannel pp op = (c : ℕ) × (need pp ≡ Channel c op)
 
 -- whether an instruction that tests flags, with this code, jumps at these: AJM, IJM, FJM and else
 -- EJM

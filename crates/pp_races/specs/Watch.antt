@@ -14,14 +14,11 @@ use Rattle.pp_machine.specs.declared.{need.Need.Need, trace.Trace.Trace}
 use Rattle.pp_machine.specs.declared.need.Need.TheVariants.{Channel, Read, Write}
 use Rattle.pp_races.specs.OtherFlags.{waits_at, found_at, is_alike, is_race}
 use Rattle.pp_races.specs.declared.{asking_step.AskingStep.AskingStep, finding.Finding.Finding}
+pub use Rattle.pp_races.specs.declared.missed.Missed.{Missed}
 use Rattle.pp_races.specs.declared.finding.Finding.TheVariants.{Before, After}
 unfoldable pub use Rattle.pp_text.specs.PrintedText.{each_below}
 
 -- an event of the trace, and the flags of its channel before it
-pub record Missed : Type 0 where
-  pub found : Flags
-  pub entry : Trace
-
 abbrev pub missed_event : Flags → Trace → Missed
 missed_event flags entry = record { found = flags; entry = entry }
 

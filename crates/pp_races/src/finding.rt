@@ -29,8 +29,5 @@ pub(crate) fn keep<A: Allocator>(
 ) -> Result<(), Memory>
     ensures { OnOk result (findings.new.items ≡ findings.old.items ++ finding ∷ []) }
 {
-    match findings.push(finding) {
-        Ok(()) => Ok(()),
-        Err(_) => Err(Memory),
-    }
+    Ok(findings.push(finding)?)
 }

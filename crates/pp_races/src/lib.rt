@@ -2,22 +2,21 @@
 //! which of its steps may race with which events.
 #![tactic(auto)]
 
+mod asked;
 mod asking_step;
+mod by_flags;
+mod channel_events;
+mod cursor;
 mod event_counts;
 mod finding;
-mod flag_set;
 mod found;
-mod latest;
 mod lines;
-mod looks;
-mod low;
+mod missed;
 mod position;
 mod printing;
 mod races_text;
 mod settled;
 mod sharing;
-mod span;
-mod trace_index;
 mod verdict;
 mod watch;
 mod watch_tables;

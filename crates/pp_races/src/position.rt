@@ -2,13 +2,11 @@
 
 ghost use Rattle.std.specs.Prelude.{◌≡◌};
 ghost use Rattle.pp_channel.specs.declared.chan_op.ChanOp.{ChanOp};
-ghost use Rattle.pp_machine.specs.NeedAndEffect.{need};
-ghost use Rattle.pp_machine.specs.declared.need.Need.{Need};
 ghost use Rattle.pp_word.specs.Opcode.{code_of};
-ghost use Rattle.pp_races.specs.Positions.{branch_position, cut_position, held_position, position_shown, tests_flags};
+ghost use Rattle.pp_races.specs.Positions.{AsksChannel, branch_position, cut_position, held_position, position_shown, tests_flags};
 ghost use Rattle.pp_races.specs.OtherFlags.{is_same, makes_none, position_at, position_of, waits_at};
 
-use pp_channel::{ChanOp, ChannelNo, Flags};
+use pp_channel::{ChanOp, Flags};
 use pp_machine::{Block, BlockKind, Pp};
 use pp_word::{Opcode, Word12, decode, next};
 
@@ -33,11 +31,10 @@ impl Position {
     /// That of a processor after its operation on a channel with these flags, if it makes no event.
     /// The processor itself is not copied.
     #[tactic(auto, using(crate::proofs::PositionLemmas::shown_position))]
-    pub(crate) fn at(pp: &Pp, c: ChannelNo, op: &ChanOp, flags: Flags) -> Position
-        requires { need pp.now ≡ Need.Channel c op.now }
+    pub(crate) fn at(pp: &Pp, op: &ChanOp, flags: Flags) -> Position
+        requires { AsksChannel pp.now op.now }
         ensures { result ≡ position_at op.now pp.now flags }
     {
-        let _channel = c;
         shown(pp, op, flags)
     }
 
@@ -138,9 +135,9 @@ pub(crate) fn makes_none(op: &ChanOp, flags: Flags) -> bool
 }
 
 /// Whether a processor waits if its channel has these flags.
-pub(crate) fn waits_at(pp: &Pp, c: ChannelNo, op: &ChanOp, flags: Flags) -> bool
-    requires { need pp.now ≡ Need.Channel c op.now }
+pub(crate) fn waits_at(pp: &Pp, op: &ChanOp, flags: Flags) -> bool
+    requires { AsksChannel pp.now op.now }
     ensures { result ≡ waits_at op.now pp.now flags }
 {
-    makes_none(op, flags) && Position::at(pp, c, op, flags).is_same(&Position::of(pp))
+    makes_none(op, flags) && Position::at(pp, op, flags).is_same(&Position::of(pp))
 }

@@ -16,7 +16,6 @@ use crate::Verdict;
 use crate::event_counts::event_counts;
 use crate::watch_tables::WatchTables;
 use crate::watched_run::print_run;
-use pp_channel::CHANNELS;
 use pp_machine::Machine;
 use pp_run::Order;
 use pp_text::{ReportFault, TextWriter};
@@ -56,19 +55,10 @@ pub fn write_races<A: Allocator + Copy, W: Write>(
     let Ok(()) = machine.reserve(&events) else {
         return Err(ReportFault::Memory);
     };
-    let Ok(mut tables) = WatchTables::of(alloc, machine, in_all(&events)) else {
+    let Ok(mut tables) = WatchTables::of(alloc, machine, &events) else {
         return Err(ReportFault::Memory);
     };
     write_watched(writer, machine, order, &mut tables)
-}
-
-/// How many events these are in all.
-fn in_all(events: &[usize; CHANNELS]) -> usize {
-    let mut all: usize = 0;
-    for count in events {
-        all = all.saturating_add(*count);
-    }
-    all
 }
 
 /// Makes the run, and writes the text of its races.
@@ -78,7 +68,7 @@ fn write_watched<A: Allocator, W: Write>(
     order: &Order<A>,
     tables: &mut WatchTables<A>,
 ) -> Result<(), ReportFault>
-    requires { AreTables tables.old machine.old unwatched }
+    requires { AreTables tables.old (length machine.old.central) unwatched }
     ensures written { IsReportWritten (races_text order.now machine.old)
         result (W.contents writer.old) (W.contents writer.new) }
     ensures same { result ≢ Err ReportFault.Memory → findings order.now machine.old ≡ []

@@ -1,25 +1,20 @@
 //! Whether the processors are settled after a run.
 
-ghost use Rattle.std.specs.Prelude.{◌≡◌, ◌++◌, ◌+◌, ℕ, IsTrue, OnOk, length};
-ghost use Rattle.pp_numbers.specs.ChannelNo.{names_channel};
-ghost use Rattle.pp_machine.specs.MachineState.{processor_of};
+ghost use Rattle.std.specs.Prelude.{◌≡◌, ℕ, IsTrue, OnOk};
 ghost use Rattle.pp_machine.specs.NeedAndEffect.{need, processor_after};
 ghost use Rattle.pp_machine.specs.declared.{answer.Answer.Answer, need.Need.Need};
 ghost use Rattle.pp_numbers.specs.PpNo.{names_processor};
 ghost use Rattle.pp_races.specs.Findings.{end_by_need, end_of, same_profile, same_words, stays_running, turns_in_place};
 ghost use Rattle.pp_races.specs.Soundness.{TurnTestIsExact};
-ghost use Rattle.pp_races.specs.Spans.{Indexes};
-ghost use Rattle.pp_races.specs.Tables.{entry_count, AreLow};
+ghost use Rattle.pp_races.specs.WatchTables.{AreTables, finds};
 ghost use Rattle.pp_races.specs.Watch.{Watch, each_number};
 
+use crate::Finding;
+use crate::asked::Asked;
 use crate::finding::keep;
-use crate::found::goes_on_at;
-use crate::low::Low;
-use crate::position::{Position, waits_at};
-use crate::trace_index::TraceIndex;
-use crate::watch::entry_place;
-use crate::{AskingStep, Finding};
-use pp_channel::{ChanOp, ChannelNo, Memory};
+use crate::position::Position;
+use crate::watch_tables::WatchTables;
+use pp_channel::Memory;
 use pp_machine::{Answer, Machine, Need, PROCESSORS, Pp, PpNo, Profile};
 use pp_word::Word12;
 use std::alloc::Allocator;
@@ -75,73 +70,51 @@ fn turns_in_place(pp: &Pp) -> bool
     stays_running(pp, &after)
 }
 
-/// Finds whether a processor that asks a channel goes on, or might have gone on.
-fn find_asking<A: Allocator>(
-    machine: &Machine<A>,
-    n: PpNo,
-    c: ChannelNo,
-    op: &ChanOp,
-    index: &TraceIndex<A>,
-    low: &[Low],
-    findings: &mut Vec<Finding, A>,
-) -> Result<(), Memory>
-    requires needs { need (processor_of n machine.now) ≡ Need.Channel c op.now }
-    requires index { Indexes index.now machine.now.trace }
-    requires low { length low.now ≡ entry_count }
-    ensures { OnOk result ((w : Watch) → AreLow machine.now w low.now → findings.new.items
-        ≡ findings.old.items ++ end_by_need (Need.Channel c op.now) n machine.now w) }
-{
-    let pp = machine.pp(n);
-    if !waits_at(pp, c, op, machine.channel(c).flags()) {
-        return keep(findings, Finding::GoingOn(n));
+impl<A: Allocator> WatchTables<A> {
+    /// Finds whether a processor that asks a channel goes on, or might have gone on.
+    fn find_asking(&mut self, asked: &Asked<A>) -> Result<(), Memory>
+        ensures { OnOk result ((size : ℕ) (w : Watch) → AreTables self.old size w
+            → AreTables self.new size (finds (end_by_need
+            (Need.Channel asked.now.c asked.now.op) asked.now.n asked.now.machine.now w) w)) }
+    {
+        if !asked.waits() {
+            keep(&mut self.found, Finding::GoingOn(asked.n))?;
+            return Ok(());
+        }
+        let goes_on = asked.goes_on_at();
+        if let Some(entry) = self.first_race(asked, &goes_on) {
+            keep(&mut self.found, Finding::HeldBefore(asked.step(), entry))?;
+        }
+        Ok(())
     }
-    let goes_on = goes_on_at(pp, c, op);
-    if let Some(entry) = low[entry_place(n, c)].first_race(machine.events(), index, c, &goes_on) {
-        let step = AskingStep::of(machine, n, c);
-        return keep(findings, Finding::HeldBefore(step, entry));
-    }
-    Ok(())
-}
 
-/// Finds whether a processor goes on, or might have gone on.
-fn find_end<A: Allocator>(
-    machine: &Machine<A>,
-    n: PpNo,
-    index: &TraceIndex<A>,
-    low: &[Low],
-    findings: &mut Vec<Finding, A>,
-) -> Result<(), Memory>
-    requires index { Indexes index.now machine.now.trace }
-    requires low { length low.now ≡ entry_count }
-    ensures found { OnOk result ((w : Watch) → AreLow machine.now w low.now
-        → findings.new.items ≡ findings.old.items ++ end_of machine.now w n) }
-    ensures turns { OnOk result (TurnTestIsExact machine.now n) }
-{
-    let pp = machine.pp(n);
-    match pp.wants() {
-        Need::Nothing => Ok(()),
-        Need::Local if turns_in_place(pp) => Ok(()),
-        Need::Local | Need::Read(_) | Need::Write(_, _) => keep(findings, Finding::GoingOn(n)),
-        Need::Channel(c, op) => find_asking(machine, n, c, &op, index, low, findings),
+    /// Finds whether a processor goes on, or might have gone on.
+    fn find_end(&mut self, machine: &Machine<A>, n: PpNo) -> Result<(), Memory>
+        ensures found { OnOk result ((size : ℕ) (w : Watch) → AreTables self.old size w
+            → AreTables self.new size (finds (end_of machine.now w n) w)) }
+        ensures turns { OnOk result (TurnTestIsExact machine.now n) }
+    {
+        let pp = machine.pp(n);
+        match pp.wants() {
+            Need::Nothing => Ok(()),
+            Need::Local if turns_in_place(pp) => Ok(()),
+            Need::Local | Need::Read(_) | Need::Write(_, _) => {
+                keep(&mut self.found, Finding::GoingOn(n))
+            }
+            Need::Channel(c, op) => self.find_asking(&Asked { machine, n, c, op }),
+        }
     }
-}
 
-/// Finds which processors go on, or might have gone on.
-pub(crate) fn find_unsettled<A: Allocator>(
-    machine: &Machine<A>,
-    index: &TraceIndex<A>,
-    low: &[Low],
-    findings: &mut Vec<Finding, A>,
-) -> Result<(), Memory>
-    requires index { Indexes index.now machine.now.trace }
-    requires low { length low.now ≡ entry_count }
-    ensures found { OnOk result ((w : Watch) → AreLow machine.now w low.now
-        → findings.new.items ≡ findings.old.items ++ each_number (end_of machine.now w)) }
-    ensures turns { OnOk result ((q : ℕ) → IsTrue (names_processor q)
-        → TurnTestIsExact machine.now q) }
-{
-    for place in 0..PROCESSORS {
-        find_end(machine, PpNo::at(place), index, low, findings)?;
+    /// Finds which processors go on, or might have gone on.
+    pub(crate) fn find_unsettled(&mut self, machine: &Machine<A>) -> Result<(), Memory>
+        ensures found { OnOk result ((size : ℕ) (w : Watch) → AreTables self.old size w
+            → AreTables self.new size (finds (each_number (end_of machine.now w)) w)) }
+        ensures turns { OnOk result ((q : ℕ) → IsTrue (names_processor q)
+            → TurnTestIsExact machine.now q) }
+    {
+        for place in 0..PROCESSORS {
+            self.find_end(machine, PpNo::at(place))?;
+        }
+        Ok(())
     }
-    Ok(())
 }

@@ -45,7 +45,7 @@ fn is_shared(writers: &[bool; PROCESSORS], users: &[bool; PROCESSORS]) -> bool
 
 /// What is found of the central word of this address, if it is shared.
 pub(crate) fn sharing(address: u32, use_of: WordUse) -> Option<Finding>
-    ensures { (w : Watch) → IsUseOf w address use_of
+    ensures { (w : Watch) → IsUseOf w.wrote w.used address use_of
         → option_to_list result ≡ sharing_of w address }
 {
     let writers = flags_of(use_of.writers);

@@ -1,33 +1,29 @@
 //! A run that is watched: what each of its steps leaves in the tables, and what is found by it.
 
-ghost use Rattle.std.specs.Prelude.{◌≡◌, ℕ, ◌++◌, ◌+◌, ◌<◌, ◌==◌, Some, None, IsTrue, List, OnOk, OnErr, length, false, true, slice_set, if◌then◌else◌};
-ghost use Rattle.pp_channel.specs.Answer.{event_of, flags_of};
-ghost use Rattle.pp_numbers.specs.ChannelNo.{names_channel};
+ghost use Rattle.std.specs.Prelude.{◌≡◌, ℕ, ◌++◌, ◌<◌, IsTrue, None, OnOk, Some, length, slice_set, if◌then◌else◌};
+ghost use Rattle.std.specs.Option.{option_or};
 ghost use Rattle.pp_channel.specs.declared.flags.Flags.{Flags};
-ghost use Rattle.pp_machine.specs.MachineState.{MachineState, history_of, processor_of};
-ghost use Rattle.pp_machine.specs.MachineStep.{stepped};
+ghost use Rattle.pp_numbers.specs.ChannelNo.{names_channel};
+ghost use Rattle.pp_machine.specs.MachineState.{MachineState, processor_of};
 ghost use Rattle.pp_machine.specs.NeedAndEffect.{need};
 ghost use Rattle.pp_numbers.specs.PpNo.{names_processor};
 ghost use Rattle.pp_machine.specs.declared.need.Need.{Need};
-ghost use Rattle.pp_races.specs.OtherFlags.{waits_at};
+ghost use Rattle.pp_races.specs.ByFlags.{at};
 ghost use Rattle.pp_races.specs.Soundness.{AsksLawfulChannel};
-ghost use Rattle.pp_races.specs.Spans.{Indexes};
-ghost use Rattle.pp_races.specs.Tables.{entry_count, entry_place, closing_findings, looks_after_event, looks_of, AreClosed, AreUses, AreWatched};
+ghost use Rattle.pp_races.specs.Tables.{entry_count, entry_place, closing_findings, looks_after_event, AreClosed, AreUses};
 ghost use Rattle.pp_races.specs.WatchTables.{AreTables};
-ghost use Rattle.pp_races.specs.Watch.{Watch, asked, each_number, looked, made, race_after, race_before, watched_need};
+ghost use Rattle.pp_races.specs.Watch.{Watch, each_number, first_race, looked, made, race_before, watched_need};
 
+use crate::asked::Asked;
+use crate::by_flags::ByFlags;
 use crate::finding::keep;
-use crate::found::{goes_on_at, look_sets};
-use crate::looks::Looks;
-use crate::low::Low;
-use crate::position::waits_at;
-use crate::trace_index::TraceIndex;
-use crate::watch_tables::WatchTables;
+use crate::missed::Missed;
+use crate::watch_tables::{Looks, WatchTables};
 use crate::word_use::WordUse;
 use crate::{AskingStep, Finding};
-use pp_channel::{CHANNELS, ChanOp, ChannelNo, Event, Flags, Memory, flags_after};
+use pp_channel::{CHANNELS, ChannelNo, Event, Flags, Memory, flags_after};
 use pp_machine::{Machine, Need, PROCESSORS, PpNo, Trace};
-use pp_word::{Word18, Word60};
+use pp_word::Word18;
 use std::alloc::Allocator;
 
 /// The place of the entry of a processor and a channel.
@@ -57,39 +53,16 @@ fn push_before<A: Allocator>(
     }
 }
 
-/// Takes in a look of a processor, which moves it.
-fn take_look<A: Allocator>(
-    machine: &Machine<A>,
-    n: PpNo,
-    c: ChannelNo,
-    op: &ChanOp,
-    index: &TraceIndex<A>,
-    low: &mut [Low],
-    looks: &mut [Looks],
-    findings: &mut Vec<Finding, A>,
-) -> Result<(), Memory>
-    requires needs { need (processor_of n machine.now) ≡ Need.Channel c op.now }
-    requires none { event_of op.now (history_of c machine.now) ≡ None }
-    requires index { Indexes index.now machine.now.trace }
-    requires low { length low.old ≡ entry_count }
-    requires looks { length looks.old ≡ entry_count }
-    ensures index { OnOk result (Indexes index.now (stepped n machine.now).trace) }
-    ensures watched { OnOk result ((w : Watch)
-        → AreWatched machine.now w low.old looks.old findings.old.items
-        → AreWatched (stepped n machine.now) (looked n c op.now machine.now w)
-        low.new looks.new findings.new.items) }
+/// With one more look, which would have done the same at these flags.
+fn with_look(looks: &Looks, alike: &ByFlags<bool>, step: &AskingStep) -> Looks
+    ensures { (f : Flags) → at result f
+        ≡ option_or (at looks.now f) (if at alike.now f then None else Some step.now) }
 {
-    let sets = look_sets(machine.pp(n), c, op, machine.channel(c).flags());
-    let step = AskingStep::of(machine, n, c);
-    let trace = machine.events();
-    let entry = entry_place(n, c);
-    let was = low[entry];
-    let race = was.first_race(trace, index, c, &sets.races);
-    push_before(findings, &step, &race)?;
-    low[entry] = was.from_alike(trace, index, c, &sets.alike);
-    let kept = looks[entry];
-    looks[entry] = kept.with(&sets.alike, &step);
-    Ok(())
+    ByFlags::of(|flags| {
+        looks
+            .at(flags)
+            .or(if alike.at(flags) { None } else { Some(*step) })
+    })
 }
 
 /// Closes the looks of a processor at a channel on which another makes this event: those of the
@@ -110,12 +83,12 @@ fn close_looks<A: Allocator>(
     let entry = entry_place(q, made.channel);
     let kept = looks[entry];
     if q.get() == made.pp.get() {
-        looks[entry] = Looks::none();
+        looks[entry] = ByFlags::all(None);
         return Ok(());
     }
     match kept.at(after) {
         Some(look) => {
-            looks[entry] = Looks::none();
+            looks[entry] = ByFlags::all(None);
             keep(findings, Finding::After(look, *made))
         }
         None => Ok(()),
@@ -142,87 +115,6 @@ fn close_all<A: Allocator>(
     Ok(())
 }
 
-/// Takes in an event of a processor.
-fn take_event<A: Allocator>(
-    machine: &Machine<A>,
-    n: PpNo,
-    c: ChannelNo,
-    op: &ChanOp,
-    event: &Event,
-    index: &mut TraceIndex<A>,
-    low: &mut [Low],
-    looks: &mut [Looks],
-    findings: &mut Vec<Finding, A>,
-) -> Result<(), Memory>
-    requires needs { need (processor_of n machine.now) ≡ Need.Channel c op.now }
-    requires event { event_of op.now (history_of c machine.now) ≡ Some event.now }
-    requires index { Indexes index.old machine.now.trace }
-    requires low { length low.old ≡ entry_count }
-    requires looks { length looks.old ≡ entry_count }
-    ensures index { OnOk result (Indexes index.new (stepped n machine.now).trace) }
-    ensures watched { OnOk result ((w : Watch)
-        → AreWatched machine.now w low.old looks.old findings.old.items
-        → AreWatched (stepped n machine.now) (made n c op.now event.now machine.now w)
-        low.new looks.new findings.new.items) }
-{
-    machine.is_sound();
-    let trace = machine.events();
-    let entry = entry_place(n, c);
-    let goes_on = goes_on_at(machine.pp(n), c, op);
-    let race = low[entry].first_race(trace, index, c, &goes_on);
-    push_before(findings, &AskingStep::of(machine, n, c), &race)?;
-    let after = flags_after(event);
-    let made = Trace {
-        turn: machine.turns(),
-        pp: n,
-        channel: c,
-        event: *event,
-    };
-    close_all(looks, &made, after, findings)?;
-    index.push(trace, &made)?;
-    low[entry] = Low {
-        from: trace.len() + 1,
-        flags: after,
-    };
-    Ok(())
-}
-
-/// Takes in an operation on a channel.
-fn take_asked<A: Allocator>(
-    machine: &Machine<A>,
-    n: PpNo,
-    c: ChannelNo,
-    op: &ChanOp,
-    index: &mut TraceIndex<A>,
-    low: &mut [Low],
-    looks: &mut [Looks],
-    findings: &mut Vec<Finding, A>,
-) -> Result<(), Memory>
-    requires needs { need (processor_of n machine.now) ≡ Need.Channel c op.now }
-    requires index { Indexes index.old machine.now.trace }
-    requires low { length low.old ≡ entry_count }
-    requires looks { length looks.old ≡ entry_count }
-    ensures sound { AsksLawfulChannel (Need.Channel c op.now) machine.now }
-    ensures index { OnOk result (Indexes index.new (stepped n machine.now).trace) }
-    ensures watched { OnOk result ((w : Watch)
-        → AreWatched machine.now w low.old looks.old findings.old.items
-        → AreWatched (stepped n machine.now)
-        (asked n c op.now (event_of op.now (history_of c machine.now)) machine.now w) low.new
-        looks.new findings.new.items) }
-{
-    let channel = machine.channel(c);
-    // The calls say to the proof that the channel exists, and that its history is lawful.
-    let _entry = entry_place(n, c);
-    let _sound = channel.history();
-    if let Some(event) = channel.next_event(op) {
-        return take_event(machine, n, c, op, &event, index, low, looks, findings);
-    }
-    if waits_at(machine.pp(n), c, op, channel.flags()) {
-        return Ok(());
-    }
-    take_look(machine, n, c, op, index, low, looks, findings)
-}
-
 /// Takes in that a processor reads the central word of an address.
 fn take_read(uses: &mut [WordUse], n: PpNo, a: Word18)
     ensures { (m : MachineState) (w : Watch) → AreUses w uses.old
@@ -236,11 +128,10 @@ fn take_read(uses: &mut [WordUse], n: PpNo, a: Word18)
 }
 
 /// Takes in that a processor writes one.
-fn take_write(uses: &mut [WordUse], n: PpNo, a: Word18, word: Word60)
-    ensures { (m : MachineState) (w : Watch) → AreUses w uses.old
+fn take_write(uses: &mut [WordUse], n: PpNo, a: Word18)
+    ensures { (word : ℕ) (m : MachineState) (w : Watch) → AreUses w uses.old
         → AreUses (watched_need (Need.Write a word) n m w) uses.new }
 {
-    let _word = word;
     let place = a.get() as usize;
     if place < uses.len() {
         let was = uses[place];
@@ -248,32 +139,92 @@ fn take_write(uses: &mut [WordUse], n: PpNo, a: Word18, word: Word60)
     }
 }
 
-/// Takes in the next step of a processor.
-pub(crate) fn take_step<A: Allocator>(
-    machine: &Machine<A>,
-    n: PpNo,
-    tables: &mut WatchTables<A>,
-) -> Result<(), Memory>
-    requires { (w : Watch) × AreTables tables.old machine.now w }
-    ensures sound { AsksLawfulChannel (need (processor_of n machine.now)) machine.now }
-    ensures watched { OnOk result ((w : Watch) → AreTables tables.old machine.now w
-        → AreTables tables.new (stepped n machine.now)
-        (watched_need (need (processor_of n machine.now)) n machine.now w)) }
-{
-    match machine.pp(n).wants() {
-        Need::Channel(c, op) => take_asked(
-            machine,
-            n,
-            c,
-            &op,
-            &mut tables.index,
-            &mut tables.low,
-            &mut tables.looks,
-            &mut tables.found,
-        )?,
-        Need::Read(a) => take_read(&mut tables.uses, n, a),
-        Need::Write(a, word) => take_write(&mut tables.uses, n, a, word),
-        Need::Nothing | Need::Local => {}
+impl<A: Allocator> WatchTables<A> {
+    /// The first event that the processor missed on the channel and that found one of these flags.
+    pub(crate) fn first_race(&mut self, asked: &Asked<A>, races: &ByFlags<bool>) -> Option<Trace>
+        ensures kept { (size : ℕ) (w : Watch) → AreTables self.old size w
+            → AreTables self.new size w }
+        ensures race { (size : ℕ) (w : Watch) → AreTables self.old size w
+            → result ≡ first_race (at races.now) (w.missed asked.now.n asked.now.c) }
+    {
+        let events = self.events[asked.c.index()].as_slice();
+        self.cursors[entry_place(asked.n, asked.c)].first_race(events, races)
     }
-    Ok(())
+
+    /// Takes in a look of a processor, which moves it.
+    fn take_look(&mut self, asked: &Asked<A>) -> Result<(), Memory>
+        ensures { OnOk result ((size : ℕ) (w : Watch) → AreTables self.old size w → AreTables
+            self.new size (looked asked.now.n asked.now.c asked.now.op asked.now.machine.now w)) }
+    {
+        let found = asked.found();
+        let alike = ByFlags::of(|flags| found.at(flags).is_alike());
+        let races = ByFlags::of(|flags| found.at(flags).is_race());
+        let step = asked.step();
+        let race = self.first_race(asked, &races);
+        push_before(&mut self.found, &step, &race)?;
+        let entry = entry_place(asked.n, asked.c);
+        let events = self.events[asked.c.index()].as_slice();
+        self.cursors[entry].pass(events, &alike);
+        let looks = self.looks[entry];
+        self.looks[entry] = with_look(&looks, &alike, &step);
+        Ok(())
+    }
+
+    /// Takes in an event of a processor.
+    fn take_event(&mut self, asked: &Asked<A>, event: &Event) -> Result<(), Memory>
+        ensures { OnOk result ((size : ℕ) (w : Watch) → AreTables self.old size w → AreTables
+            self.new size
+            (made asked.now.n asked.now.c asked.now.op event.now asked.now.machine.now w)) }
+    {
+        let goes_on = asked.goes_on_at();
+        let race = self.first_race(asked, &goes_on);
+        push_before(&mut self.found, &asked.step(), &race)?;
+        let made = asked.entry(event);
+        close_all(&mut self.looks, &made, flags_after(event), &mut self.found)?;
+        let missed = Missed {
+            found: asked.flags(),
+            entry: made,
+        };
+        let events = &mut self.events[asked.c.index()];
+        events.push(missed)?;
+        self.cursors[entry_place(asked.n, asked.c)].pass_all(events.as_slice());
+        Ok(())
+    }
+
+    /// Takes in an operation on a channel.
+    fn take_asked(&mut self, asked: &Asked<A>) -> Result<(), Memory>
+        ensures sound { AsksLawfulChannel (Need.Channel asked.now.c asked.now.op)
+            asked.now.machine.now }
+        ensures watched { OnOk result ((size : ℕ) (w : Watch) → AreTables self.old size w
+            → AreTables self.new size
+            (watched_need (Need.Channel asked.now.c asked.now.op) asked.now.n asked.now.machine.now w)) }
+    {
+        let channel = asked.machine.channel(asked.c);
+        // The calls say to the proof that the channel exists, and that its history is lawful.
+        let _entry = entry_place(asked.n, asked.c);
+        let _sound = channel.history();
+        if let Some(event) = channel.next_event(&asked.op) {
+            return self.take_event(asked, &event);
+        }
+        if asked.waits() {
+            return Ok(());
+        }
+        self.take_look(asked)
+    }
+
+    /// Takes in the next step of a processor.
+    pub(crate) fn take_step(&mut self, machine: &Machine<A>, n: PpNo) -> Result<(), Memory>
+        ensures sound { AsksLawfulChannel (need (processor_of n machine.now)) machine.now }
+        ensures watched { OnOk result ((size : ℕ) (w : Watch) → AreTables self.old size w
+            → AreTables self.new size
+            (watched_need (need (processor_of n machine.now)) n machine.now w)) }
+    {
+        match machine.pp(n).wants() {
+            Need::Channel(c, op) => self.take_asked(&Asked { machine, n, c, op })?,
+            Need::Read(a) => take_read(&mut self.uses, n, a),
+            Need::Write(a, _) => take_write(&mut self.uses, n, a),
+            Need::Nothing | Need::Local => {}
+        }
+        Ok(())
+    }
 }

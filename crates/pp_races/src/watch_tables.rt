@@ -1,72 +1,74 @@
 //! The tables by which a run is watched.
 
-ghost use Rattle.std.specs.Prelude.{◌≡◌, List, IfOk, length};
-ghost use Rattle.pp_races.specs.Tables.{entry_count, AreLooks, AreLow, AreUses};
+ghost use Rattle.std.specs.Prelude.{◌≡◌, IfOk, length, replicate, vec_len};
+ghost use Rattle.pp_numbers.specs.ChannelNo.{channel_count};
+ghost use Rattle.pp_races.specs.Tables.{entry_count, AreCursors, AreEmpty, AreLooks, AreUses};
 ghost use Rattle.pp_races.specs.Watch.{unwatched};
-ghost use Rattle.pp_races.specs.WatchTables.{AreTables};
 
-use crate::Finding;
-use crate::looks::Looks;
-use crate::low::Low;
-use crate::trace_index::TraceIndex;
+use crate::by_flags::ByFlags;
+use crate::channel_events::ChannelEvents;
+use crate::cursor::Cursor;
 use crate::word_use::WordUse;
-use pp_channel::{CHANNELS, ChannelNo, Memory};
+use crate::{AskingStep, Finding};
+use pp_channel::{CHANNELS, Memory};
 use pp_machine::{Machine, PROCESSORS};
 use std::alloc::Allocator;
 
-/// What is kept of a run as it goes, and what was found of its last step, not yet printed.
+/// For each of the flags of a channel, the first look of a processor, since its last event there,
+/// that would have done otherwise at them.
+pub(crate) type Looks = ByFlags<Option<AskingStep>>;
+
+/// What is kept of a run as it goes, and what was found of its last step, not yet printed: by
+/// channel the events, by processor and channel a cursor and looks, and by address the uses.
 #[derive(Drop)]
 pub(crate) struct WatchTables<A: Allocator> {
-    pub(crate) low: Vec<Low, A>,
+    pub(crate) events: Vec<ChannelEvents<A>, A>,
+    pub(crate) cursors: Vec<Cursor, A>,
     pub(crate) looks: Vec<Looks, A>,
     pub(crate) uses: Vec<WordUse, A>,
     pub(crate) found: Vec<Finding, A>,
-    pub(crate) index: TraceIndex<A>,
+    ghost channels: { vec_len events ≡ channel_count },
+    ghost all_cursors: { vec_len cursors ≡ entry_count },
+    ghost all_looks: { vec_len looks ≡ entry_count },
 }
 
 impl<A: Allocator> WatchTables<A> {
-    /// Those before the first step, with room for `events` events.
-    pub(crate) fn of(alloc: A, machine: &Machine<A>, events: usize) -> Result<Self, Memory>
+    ghost use Rattle.pp_races.specs.WatchTables.{AreTables};
+
+    /// Those before the first step, with room for these numbers of events, by the places of the
+    /// channels.
+    pub(crate) fn of(
+        alloc: A,
+        machine: &Machine<A>,
+        counts: &[usize; CHANNELS],
+    ) -> Result<Self, Memory>
     where
         A: Copy,
-        ensures { IfOk result (λ tables. AreTables tables machine.now unwatched) }
+        ensures { IfOk result (λ tables. AreTables tables (length machine.now.central) unwatched) }
     {
         Ok(WatchTables {
-            low: first_low(alloc, machine)?,
-            looks: first_looks(alloc)?,
+            events: no_events(alloc, counts)?,
+            cursors: filled(alloc, Cursor::first())?,
+            looks: filled(alloc, ByFlags::all(None))?,
             uses: first_uses(alloc, machine)?,
             // No more is found of a step, or of the end, than there are processors.
             found: Vec::with_capacity(alloc, PROCESSORS)?,
-            index: TraceIndex::of(alloc, machine.events(), events)?,
         })
     }
 }
 
-/// How many entries the tables have (decimal).
+/// How many entries there are of processors and channels (decimal).
 const ENTRIES: usize = PROCESSORS * CHANNELS;
 
-/// The end of the trace, for each processor and channel.
-#[tactic(auto, using(crate::proofs::BeginLemmas::begins_low))]
-fn first_low<A: Allocator + Copy>(alloc: A, machine: &Machine<A>) -> Result<Vec<Low, A>, Memory>
-    ensures entries { IfOk result (λ table. length table.items ≡ entry_count) }
-    ensures low { IfOk result (λ table. AreLow machine.now unwatched table.items) }
+/// A table with the same for each.
+fn filled<T: Copy, A: Allocator>(alloc: A, value: T) -> Result<Vec<T, A>, Memory>
+    ensures { IfOk result (λ table. table.items ≡ replicate entry_count value) }
 {
     let mut table = Vec::with_capacity(alloc, ENTRIES)?;
-    for entry in 0..ENTRIES {
-        table.push(Low {
-            from: machine.events().len(),
-            flags: machine.channel(ChannelNo::at(entry % CHANNELS)).flags(),
-        })?;
+    for _ in 0..ENTRIES {
+        table.push(value)?;
     }
     Ok(table)
-}
-
-/// No look was made.
-fn first_looks<A: Allocator + Copy>(alloc: A) -> Result<Vec<Looks, A>, Memory>
-    ensures entries { IfOk result (λ table. length table.items ≡ entry_count) }
-    ensures looks { IfOk result (λ table. AreLooks unwatched table.items) }
-{
-    Ok(vec![in alloc; Looks::none(); ENTRIES]?)
 }
 
 /// No central word was used.
@@ -79,4 +81,19 @@ fn first_uses<A: Allocator + Copy>(
     ensures unused { IfOk result (λ table. AreUses unwatched table.items) }
 {
     Ok(vec![in alloc; WordUse::unused(); machine.central().size() as usize]?)
+}
+
+/// No event was made.
+fn no_events<A: Allocator + Copy>(
+    alloc: A,
+    counts: &[usize; CHANNELS],
+) -> Result<Vec<ChannelEvents<A>, A>, Memory>
+    ensures channels { IfOk result (λ table. length table.items ≡ channel_count) }
+    ensures empty { IfOk result (λ table. AreEmpty table.items) }
+{
+    let mut table = Vec::with_capacity(alloc, CHANNELS)?;
+    for count in counts {
+        table.push(ChannelEvents::with_capacity(alloc, *count)?)?;
+    }
+    Ok(table)
 }

@@ -14,8 +14,6 @@ ghost use Rattle.pp_races.specs.declared.verdict.Verdict.TheVariants.{NoRaceSoFa
 
 use crate::Verdict;
 use crate::printing::{print_findings, print_shared};
-use crate::settled::find_unsettled;
-use crate::watch::take_step;
 use crate::watch_tables::WatchTables;
 use pp_machine::Machine;
 use pp_run::Order;
@@ -32,7 +30,7 @@ pub(crate) fn print_run<A: Allocator, W: Write>(
     order: &Order<A>,
     tables: &mut WatchTables<A>,
 ) -> Result<Verdict, Verdict>
-    requires { AreTables tables.old machine.old unwatched }
+    requires { AreTables tables.old (length machine.old.central) unwatched }
     ensures ran { OnOk result (machine.new ≡ run order.now machine.old) }
     ensures printed { IfOk result (λ verdict. PrintsFindings W.contents text.old text.new Same
         verdict (findings order.now machine.old)) }
@@ -51,7 +49,7 @@ pub(crate) fn print_run<A: Allocator, W: Write>(
     for n in order.processors() {
         // Reveals its place to the proof.
         let _place = n.index();
-        let Ok(()) = take_step(machine, *n, tables) else {
+        let Ok(()) = tables.take_step(machine, *n) else {
             return Err(verdict);
         };
         let Ok(_outcome) = machine.step(*n) else {
@@ -60,7 +58,7 @@ pub(crate) fn print_run<A: Allocator, W: Write>(
         verdict = print_findings(text, verdict, &tables.found);
         tables.found.clear();
     }
-    let Ok(()) = find_unsettled(machine, &tables.index, &tables.low, &mut tables.found) else {
+    let Ok(()) = tables.find_unsettled(machine) else {
         return Err(verdict);
     };
     verdict = print_findings(text, verdict, &tables.found);

@@ -4,7 +4,7 @@ use Rattle.pp_races.proofs.UseLemmas.{bits_marked}
 use Rattle.pp_races.proofs.watch.take_write.Goals as goal
 
 pub returns-then-place-uses : goal.returns-then-place-uses
-returns-then-place-uses c = λ m w are b low.
+returns-then-place-uses c = λ word m w are b low.
     let table = c.args.uses.now in
     let below : b < length table = omega (arith, low, length-set table c.get-place.result c.written_by.result) in
     record {
