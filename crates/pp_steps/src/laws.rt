@@ -39,8 +39,8 @@ pub fn steps_text_law()
         → steps_shown choice steps load ≡ steps_shown others more other }
 {}
 
-/// So does the text of the steps that meet a condition: two that are the same, of whatever steps and
-/// conditions, show the same steps that meet them, in the same order, held ones one by one.
+/// So does the text of the steps that meet a condition: two that are the same, of whatever steps
+/// and conditions, show the same steps that meet them, in the same order, held ones one by one.
 pub fn steps_where_law()
     ensures { (condition other : Condition) (steps more : List RunStep) (text : List ℕ)
         (one : HasLinesWhere condition steps text) (also : HasLinesWhere other more text)
