@@ -41,6 +41,7 @@ refused_alike a b (CallFault.NoValue name) then is = then is
 refused_alike a b (CallFault.Missing name) then is = then is
 refused_alike a b CallFault.Number then is = absurd is
 refused_alike a b CallFault.Picture then is = absurd is
+refused_alike a b CallFault.Forms then is = absurd is
 
 -- after a word that is refused nothing is given
 nothing_from : (options : List Rule) (words : List Text) → given_from options None words ≡ None

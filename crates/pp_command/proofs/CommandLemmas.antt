@@ -10,7 +10,7 @@ use Rattle.pp_numbers.specs.declared.{window.Window.Window, profile.Profile.Prof
 use Rattle.pp_numbers.specs.Profile.{processors_in}
 use Rattle.pp_command.specs.CommandLine.{Finds, IsFaultBy, IsRefused, IsWorkOf, ReadsAlike, AsksForMore, AsksForText, ReadsChannels, ReadsChosen, ReadsEnd, ReadsNumber, ReadsProfile, ReadsTurn, ReadsTurns, ReadsWindow, ppsim, refusals}
 use Rattle.pp_command.specs.declared.{line_fault.LineFault.LineFault, work.Work.Work, text_of.TextOf.TextOf}
-use Rattle.pp_command.specs.declared.line_fault.LineFault.TheVariants.{Memory, Refused, Number, Picture}
+use Rattle.pp_command.specs.declared.line_fault.LineFault.TheVariants.{Forms, Memory, Refused, Number, Picture}
 
 -- a parse that succeeds has no refusal
 pub taken_words : (words : List Text) (app : App) → ReadsAlike words app → (is_simple_and_free app ≡ true → fault_of app words ≡ []) → refusals words ≡ []
@@ -29,6 +29,7 @@ refused_words words app error Memory alike h by = tt
 refused_words words app error (Refused told) alike h by = grind (arith, among)
 refused_words words app error Number alike h by = absurd by
 refused_words words app error Picture alike h by = absurd by
+refused_words words app error Forms alike h by = absurd by
 
 pair_of : {Z : Type 0} (o : Option (Box SubCommand Z)) (name : Text) (rows : List Row) → Some name ≡ option_map (λ b. (out-SubCommand (box_value b)).name.now) o → Some rows ≡ option_map (λ p. p.1) (subcommand_rows o) → subcommand_rows o ≡ Some (name, rows)
 pair_of None name rows e h = cc

@@ -6,7 +6,7 @@ use Rattle.std.specs.Option.{option_and_then, option_map}
 use Rattle.clap.specs.Lexer.{long_of, short_of}
 use Rattle.clap.specs.Words.{Rule, Text}
 use Rattle.clap.specs.declared.builder.action.ArgAction.{ArgAction}
-use Rattle.pp_command.specs.CommandLine.{AsksForMore, Command, IsAskedOf, ReadsFile, commands}
+use Rattle.pp_command.specs.CommandLine.{AsksForMore, Command, IsAskedOf, MixesForms, ReadsFile, commands}
 use Rattle.pp_command.specs.declared.{call_fault.CallFault.CallFault, work.Work.Work}
 use Rattle.pp_condition.specs.declared.until.Until.{Until}
 
@@ -121,18 +121,22 @@ abbrev pub IsRefusal : {X : Type 0} → Option X → CallFault → Type 0
 IsRefusal outcome CallFault.Memory = Unit {0}
 IsRefusal outcome CallFault.Number = ⊥
 IsRefusal outcome CallFault.Picture = ⊥
+IsRefusal outcome CallFault.Forms = ⊥
 IsRefusal outcome fault = outcome ≡ None
 
 -- by these values a command asks for no work, for one of these reasons: `Memory` says nothing;
--- `Picture` that it asks for more turns than a picture has; `Number` that it does not
+-- `Picture` that it asks for more turns than a picture has; `Forms` that it mixes the forms of
+-- `test`; `Number` that it does neither
 abbrev pub IsAskRefused : Text → (Text → Option Text) → CallFault → Type 0
 IsAskRefused name value CallFault.Memory = Unit {0}
-IsAskRefused name value CallFault.Number = AsksForNone name value × ¬ AsksForMore name value
+IsAskRefused name value CallFault.Number =
+    AsksForNone name value × (¬ AsksForMore name value) × (¬ MixesForms name value)
 IsAskRefused name value CallFault.Picture = AsksForNone name value × AsksForMore name value
+IsAskRefused name value CallFault.Forms = AsksForNone name value × MixesForms name value
 IsAskRefused name value fault = ⊥
 
--- why words are refused: for `Number` and `Picture` they are a call, which asks for no work; for
--- all other reasons they are no call, of which `Memory` says nothing
+-- why words are refused: for `Number`, `Picture` and `Forms` they are a call, which asks for no
+-- work; for all other reasons they are no call, of which `Memory` says nothing
 abbrev pub IsCallRefused : List Text → CallFault → Type 0
 IsCallRefused words fault = IsRefusal (values_of_call words) fault
     ⊎ IsSomeAnd (values_of_call words) (λ call. IsAskRefused call.0 (value_among call.1) fault)

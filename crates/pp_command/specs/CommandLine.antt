@@ -15,7 +15,7 @@ use Rattle.pp_command.specs.ProcessorList.{AreProcessorsListed}
 use Rattle.pp_numbers.specs.declared.{window.Window.Window, bounds.Bounds.Bounds, profile.Profile.Profile}
 use Rattle.pp_numbers.specs.Profile.{has_processor, processors_in}
 use Rattle.pp_numbers.specs.Limits.{AreLimits}
-use Rattle.pp_command.specs.declared.{command.CommandForm.CommandForm, command.OptionForm.OptionForm, command.ValueForm.ValueForm, line_fault.LineFault.LineFault, text_of.TextOf.TextOf, work.Work.Work}
+use Rattle.pp_command.specs.declared.{command.CommandForm.CommandForm, command.OptionForm.OptionForm, command.ValueForm.ValueForm, line_fault.LineFault.LineFault, text_of.TextOf.TextOf, work.Tested.Tested, work.Work.Work}
 
 -- THE COMMAND LINE, as clap sees it: `ppsim`, one of the commands of `ppsim` below, its options, of
 -- which some may be left out, and a file, which may be left out; or `ppsim --version`
@@ -55,11 +55,15 @@ order_option = optional_value (codes "order")
 abbrev pub until_options : List Rule
 until_options = optional_value (codes "until") ∷ optional_value (codes "times") ∷ []
 
+-- the options that any such run has, which may be left out
+abbrev pub run_options : List Rule
+run_options = until_options ++ order_option ∷ processors_option ∷ []
+
 -- a command that makes a run of some steps in any order, with these options besides
 abbrev pub steps : Text → List Rule → Command
 steps name options = (
   name,
-  number_option (codes "turns") ∷ options ++ until_options ++ order_option ∷ processors_option ∷ [],
+  number_option (codes "turns") ∷ options ++ run_options,
 )
 
 -- a command that makes a run of some turns of the barrel, with these options besides
@@ -94,7 +98,11 @@ commands = steps (codes "barrel") []
     ∷ steps (codes "central") (optional_value (codes "first") ∷ optional_value (codes "last") ∷ [])
     ∷ steps (codes "sessions") (flag_option (codes "words") ∷ []) ∷ steps (codes "races") []
     ∷ (codes "orders", number_option (codes "states") ∷ processors_option ∷ [])
-    ∷ steps (codes "test") []
+    ∷ (
+      codes "test",
+      optional_value (codes "turns") ∷ flag_option (codes "every-order")
+          ∷ optional_value (codes "states") ∷ run_options,
+    )
     ∷ steps (codes "draw") (optional_value (codes "from") ∷ optional_value (codes "to") ∷ [])
     ∷ (codes "check", optional_value (codes "opened") ∷ []) ∷ []
 
@@ -244,14 +252,35 @@ AsksForText name value profile (TextOf.Steps turns chosen) = (name ≡ codes "st
 AsksForText name value _ (TextOf.Draw window) =
     (name ≡ codes "draw") × ReadsWindow value window × (window.to - window.from ≤ 2000)
 
+-- the two forms of `test`: of a run of some turns; or of every order of steps, as far as some
+-- standings show, without the options of a run
+pub record IsOfARun (value_of : Text → Option Text) : Type 0 where
+  pub no_flag : ReadsFlag (value_of (codes "every-order")) false
+  pub no_states : value_of (codes "states") ≡ None
+  pub turns : value_of (codes "turns") ≢ None
+
+pub record IsOfEveryOrder (value_of : Text → Option Text) : Type 0 where
+  pub flag : ReadsFlag (value_of (codes "every-order")) true
+  pub states : value_of (codes "states") ≢ None
+  pub no_turns : value_of (codes "turns") ≡ None
+  pub no_until : value_of (codes "until") ≡ None
+  pub no_times : value_of (codes "times") ≡ None
+  pub no_order : value_of (codes "order") ≡ None
+
+-- what is tested
+abbrev pub IsTestedBy : (Text → Option Text) → Tested → Type 0
+IsTestedBy value_of (Tested.Run turns) = IsOfARun value_of × ReadsTurns value_of turns
+IsTestedBy value_of (Tested.EveryOrder states) =
+    IsOfEveryOrder value_of × ReadsStates value_of states
+
 -- it asks for this work
 abbrev pub IsWorkOf : Text → (Text → Option Text) → Work → Type 0
 IsWorkOf name value_of (Work.Deck profile text) =
     ReadsProfile (value_of (codes "processors")) profile × AsksForText name value_of profile text
 IsWorkOf name value_of (Work.Lint profile) =
     (name ≡ codes "lint") × ReadsProfile (value_of (codes "processors")) profile
-IsWorkOf name value_of (Work.Test profile turns) = (name ≡ codes "test")
-    × ReadsProfile (value_of (codes "processors")) profile × ReadsTurns value_of turns
+IsWorkOf name value_of (Work.Test profile tested) = (name ≡ codes "test")
+    × ReadsProfile (value_of (codes "processors")) profile × IsTestedBy value_of tested
 IsWorkOf name value_of (Work.Threads profile limits) =
     (name ≡ codes "threads") × ReadsProfile (value_of (codes "processors")) profile
     × ReadsNumber (value_of (codes "steps")) limits.steps
@@ -272,15 +301,26 @@ abbrev pub AsksForMore : Text → (Text → Option Text) → Type 0
 AsksForMore name value_of =
     (name ≡ codes "draw") × ((w : Window) × ReadsWindow value_of w × (2000 < w.to - w.from))
 
-abbrev pub AsksForMoreAmong : Option (Text × List Row) → Type 0
-AsksForMoreAmong None = ⊥
-AsksForMoreAmong (Some (name, rows)) = AsksForMore name (λ id. first_of id rows)
+-- it is `test`, with options of none of its two forms
+abbrev pub MixesForms : Text → (Text → Option Text) → Type 0
+MixesForms name value_of =
+    (name ≡ codes "test") × (¬ IsOfARun value_of) × (¬ IsOfEveryOrder value_of)
+
+-- so does the command that the words name, with the values that they give
+abbrev pub SoDoes : (Text → (Text → Option Text) → Type 0) → Option (Text × List Row) → Type 0
+SoDoes Does None = ⊥
+SoDoes Does (Some (name, rows)) = Does name (λ id. first_of id rows)
 
 -- the words ask for this work, in whose run these processors come first, and which goes on until
 -- then
 abbrev pub AskFor : List Text → Work → List ℕ → Option Until → Type 0
 AskFor words work first until = IsSomeAnd (subcommand_of ppsim words)
     (λ s. IsAskedOf s.0 (λ id. first_of id s.1) work first until)
+
+-- they ask for no work
+abbrev pub AskForNone : List Text → Type 0
+AskForNone words = (work : Work) (first : List ℕ) (until : Option Until)
+    → ¬ AskFor words work first until
 
 -- the words name this file, or none
 abbrev pub Name : List Text → Option Text → Type 0
@@ -289,18 +329,19 @@ Name words file =
 
 -- what each refusal says of the words: `Memory` nothing; `Refused` that its kind is among those
 -- that clap may give to them, and not want of memory; the others that they are a command line and
--- ask for no work within the ranges: `Picture` if they ask for more turns than a picture has, else
--- `Number`
+-- ask for no work within the ranges: `Picture` if they ask for more turns than a picture has,
+-- `Forms` if they mix the forms of `test`, else `Number`
 abbrev pub IsRefused : List Text → LineFault → Type 0
 IsRefused words LineFault.Memory = Unit {0}
 IsRefused words (LineFault.Refused error) =
     IsAmong (kind_of error) (refusals words) × (kind_of error ≢ OutOfMemory)
-IsRefused words LineFault.Number = (refusals words ≡ [])
-    × ((work : Work) (first : List ℕ) (until : Option Until) → ¬ AskFor words work first until)
-    × ¬ AsksForMoreAmong (subcommand_of ppsim words)
-IsRefused words LineFault.Picture = (refusals words ≡ [])
-    × ((work : Work) (first : List ℕ) (until : Option Until) → ¬ AskFor words work first until)
-    × AsksForMoreAmong (subcommand_of ppsim words)
+IsRefused words LineFault.Number = (refusals words ≡ []) × AskForNone words
+    × (¬ SoDoes AsksForMore (subcommand_of ppsim words))
+    × (¬ SoDoes MixesForms (subcommand_of ppsim words))
+IsRefused words LineFault.Picture =
+    (refusals words ≡ []) × AskForNone words × SoDoes AsksForMore (subcommand_of ppsim words)
+IsRefused words LineFault.Forms =
+    (refusals words ≡ []) × AskForNone words × SoDoes MixesForms (subcommand_of ppsim words)
 
 -- the fault that clap's error makes: want of memory is reported as such
 abbrev pub IsFaultBy : Error → LineFault → Type 0

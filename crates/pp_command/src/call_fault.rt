@@ -33,4 +33,7 @@ pub enum CallFault<'a> {
     /// More turns are to be drawn than a picture has.
     #[error("a picture has at most 2000 turns: give --from and --to")]
     Picture,
+    /// The options of `test` are of none of its two forms.
+    #[error("test takes --turns, or --every-order and --states alone")]
+    Forms,
 }

@@ -6,7 +6,7 @@ ghost use Rattle.pp_command.specs.CallWords.{CallFor, IsCallRefused, IsRefusal, 
 ghost use Rattle.pp_command.specs.CommandLine.{command_of_form, rule_of_form};
 
 use crate::command::{CommandForm, CommandHelp, OptionForm, ValueForm};
-use crate::command_words::{asked_of, asks_for_more, named_file};
+use crate::command_words::{asked_of, asks_for_more, mixes_forms, named_file};
 use crate::commands::COMMANDS;
 use crate::{Asked, CallFault, Values};
 use std::alloc::Allocator;
@@ -282,6 +282,7 @@ pub fn read_call<'a, A: Allocator + Copy>(
     match found {
         Some(asked) => Ok((asked, named_file(values.given("file")))),
         None if asks_for_more(name, &values) => Err(CallFault::Picture),
+        None if mixes_forms(name, &values) => Err(CallFault::Forms),
         None => Err(CallFault::Number),
     }
 }

@@ -1,17 +1,17 @@
 //! Reading the words of a command line.
 
 ghost use Rattle.std.specs.Prelude.{◌≡◌, ◌↔◌, ℕ, [], List, Option, IsTrue, codes, map, option_map, IfOk, IfErr, IfNone, IfSome, OnOk};
-ghost use Rattle.pp_command.specs.CommandLine.{AskFor, AsksForMore, Finds, IsAskedOf, IsFaultBy, IsRefused, IsWorkOf, Name, ReadsFile, refusals};
+ghost use Rattle.pp_command.specs.CommandLine.{AskFor, AsksForMore, Finds, IsAskedOf, IsFaultBy, IsOfARun, IsOfEveryOrder, IsRefused, IsTestedBy, IsWorkOf, MixesForms, Name, ReadsFile, refusals};
 ghost use Rattle.pp_command.specs.declared.work.Work.{Work};
 ghost use Rattle.pp_condition.specs.declared.until.Until.{Until};
 
 use crate::command::command;
 use crate::option_values::{
-    channels_of, fits_a_picture, limits_of, number_of, order_of, profile_of, turns_of, until_of,
-    window_of,
+    channels_of, fits_a_picture, is_flagged, limits_of, number_of, order_of, profile_of, states_of,
+    turns_of, until_of, window_of,
 };
 use crate::text_of::text_of;
-use crate::{Asked, LineFault, Values, Work};
+use crate::{Asked, LineFault, Tested, Values, Work};
 use clap::Error;
 use clap::error::ErrorKind;
 use pp_numbers::CHANNELS;
@@ -40,10 +40,11 @@ fn work_of<V: Values>(name: &str, values: &V) -> Option<Work>
         "lint" => Some(Work::Lint {
             profile: profile_of(values)?,
         }),
-        "test" => Some(Work::Test {
-            profile: profile_of(values)?,
-            turns: turns_of(values)?,
-        }),
+        "test" => {
+            let profile = profile_of(values)?;
+            let tested = tested_of(values)?;
+            Some(Work::Test { profile, tested })
+        }
         "check" => {
             let opened = channels_of(values, "opened")?.unwrap_or([false; CHANNELS]);
             Some(Work::Check { opened })
@@ -54,6 +55,47 @@ fn work_of<V: Values>(name: &str, values: &V) -> Option<Work>
             Some(Work::Deck { profile, text })
         }
     }
+}
+
+/// What `test` is to test, if its options are of one of its two forms, and their numbers in range.
+fn tested_of<V: Values>(values: &V) -> Option<Tested>
+    ensures { Finds (IsTestedBy (V.value values.now)) result }
+{
+    if is_of_a_run(values) {
+        return Some(Tested::Run(turns_of(values)?));
+    }
+    if is_of_every_order(values) {
+        return Some(Tested::EveryOrder(states_of(values)?));
+    }
+    None
+}
+
+/// Whether a command is `test`, with options of none of its two forms.
+pub(crate) fn mixes_forms<V: Values>(name: &str, values: &V) -> bool
+    ensures { IsTrue result ↔ MixesForms name.now (V.value values.now) }
+{
+    name == "test" && !is_of_a_run(values) && !is_of_every_order(values)
+}
+
+/// Whether options are those of a test of a run.
+fn is_of_a_run<V: Values>(values: &V) -> bool
+    ensures { IsTrue result ↔ IsOfARun (V.value values.now) }
+{
+    !is_flagged(values, "every-order")
+        && values.value_of("states").is_none()
+        && values.value_of("turns").is_some()
+}
+
+/// Whether options are those of a test of every order.
+fn is_of_every_order<V: Values>(values: &V) -> bool
+    ensures { IsTrue result ↔ IsOfEveryOrder (V.value values.now) }
+{
+    is_flagged(values, "every-order")
+        && values.value_of("states").is_some()
+        && values.value_of("turns").is_none()
+        && values.value_of("until").is_none()
+        && values.value_of("times").is_none()
+        && values.value_of("order").is_none()
 }
 
 /// What a command asks for, if its numbers are in range.
@@ -128,6 +170,7 @@ pub fn read_words<'a>(
     match found {
         Some(asked) => Ok((asked, named_file(inner.get_str("file")))),
         None if asks_for_more(name, inner) => Err(LineFault::Picture),
+        None if mixes_forms(name, inner) => Err(LineFault::Forms),
         None => Err(LineFault::Number),
     }
 }

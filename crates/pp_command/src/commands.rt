@@ -3,7 +3,7 @@
 use crate::command::ValueForm::{Flag, Number, Text};
 use crate::command::{CommandForm, CommandHelp, OptionForm};
 use crate::command_macros::{command, example, four_example, handoff_example, option};
-use crate::number_range::{DRAWN_FROM, FROM, PATIENCE, STATES, STEPS, TO};
+use crate::number_range::{DRAWN_FROM, FROM, PATIENCE, STATES, STEPS, TO, TURNS};
 use crate::run_options::{
     FIRST_OPTION, ORDER_OPTION, PROCESSORS_OPTION, RUN_OPTIONS, TIMES_OPTION, TURNS_OPTION,
     UNTIL_OPTION,
@@ -35,9 +35,9 @@ A deck with a fault is refused, as in 'ppsim: deck fault 4 at line 3':
   9  out of memory, printed as 'ppsim: out of memory'
 
 The exit status is 0 when the work is done or help was asked for, 1 when the deck is refused or
-can't be dumped as it stands, when lint finds something, when test finds no expectation or one that
-fails, or when a trace is not lawful, 2 when the command line is refused, 3 after a read or write
-fault, and 4 when memory runs out.
+can't be dumped as it stands, when lint finds something, when test finds no expectation, one that
+fails, or not all endings, or when a trace is not lawful, 2 when the command line is refused, 3
+after a read or write fault, and 4 when memory runs out.
 
 The pages TUTORIAL.md, VIEWS.md, docs/MACHINE.md (the instructions), docs/DECK.md and
 docs/OUTPUT.md of the repository say more.
@@ -342,7 +342,7 @@ may be missing.",
         about: "Runs a deck in the barrel, and says whether it came to what the deck expects",
         long_about: "\
 Runs a deck in the barrel, and says whether the run came to what the deck expects, in comments that
-begin with *= or *!.
+begin with *= or *!; or says so of each way in which the deck can end, over all orders of steps.
 
 Reads the deck from FILE or standard input. What stands after *= has to begin some line of the run,
 word by word; what stands after *! must begin none. The lines of a run are those of processors and
@@ -353,12 +353,27 @@ word or two for how the run ends, as AT REST; and those that sessions --words pr
 Prints to standard output, for each expectation that fails, its line (decimal) and its text, and
 under it the line that has the most words in front in common; then HELD and how many there are, or
 FAILED and how many of how many, or 'no expectations'. The exit status is 0 after HELD, else 1. What
-else goes wrong is one line on standard error.",
+else goes wrong is one line on standard error.
+
+With --every-order and --states N, in place of --turns, each ending that 'orders --states N' finds
+is tested: the run of just the steps of its order. Of the first that fails its line ORDER comes
+before what failed; if none does, HELD says in how many endings. OR MORE at its end says that some
+endings may be missing, and the exit status is then 1, too.",
         example: example!("test --turns 40", "four.deck", "  PP 0
   0100 1405 1603 3450 0300
   START 0100
   *= PP 0 0050 0010"),
-        options: RUN_OPTIONS,
+        options: &[
+            option!(required: false, "turns", Number(TURNS)),
+            option!(required: false, "every-order", Flag(
+                "Test each ending over every order of steps, in place of a run"
+            )),
+            option!(required: false, "states", Number(STATES)),
+            UNTIL_OPTION,
+            TIMES_OPTION,
+            ORDER_OPTION,
+            PROCESSORS_OPTION,
+        ],
     },
     command! {
         name: "draw",

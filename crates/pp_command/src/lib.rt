@@ -26,4 +26,4 @@ pub use line_fault::LineFault;
 pub use order_list::listed_order;
 pub use text_of::{ChosenSteps, TextOf};
 pub(crate) use values::Values;
-pub use work::{Asked, Work};
+pub use work::{Asked, Tested, Work};

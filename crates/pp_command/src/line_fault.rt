@@ -16,4 +16,7 @@ pub enum LineFault {
     /// More turns are to be drawn than a picture has.
     #[error("a picture has at most 2000 turns: give --from and --to")]
     Picture,
+    /// The options of `test` are of none of its two forms.
+    #[error("test takes --turns, or --every-order and --states alone")]
+    Forms,
 }

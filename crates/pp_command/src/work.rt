@@ -3,6 +3,16 @@ use pp_condition::Until;
 use pp_numbers::{CHANNELS, Limits, PpNo, Profile};
 use std::alloc::Allocator;
 
+/// What is tested of a deck.
+#[derive(Clone, Copy)]
+pub enum Tested {
+    /// Its run of this many turns (decimal).
+    Run(u32),
+    /// Each ending over every order of its steps, as far as this many standings show (decimal): a
+    /// command line gives 1 to 9,999,999.
+    EveryOrder(u32),
+}
+
 /// The work that a command line asks for.
 #[derive(Clone, Copy)]
 pub enum Work {
@@ -10,9 +20,8 @@ pub enum Work {
     Deck { profile: Profile, text: TextOf },
     /// What is found in a deck, for a machine of this profile.
     Lint { profile: Profile },
-    /// The verdict on the run of this many turns (decimal) of a deck, by its own expectations, for
-    /// a machine of this profile.
-    Test { profile: Profile, turns: u32 },
+    /// The verdict on a deck by its own expectations, for a machine of this profile.
+    Test { profile: Profile, tested: Tested },
     /// The run of a deck with one thread per processor of this profile, within these limits.
     Threads { profile: Profile, limits: Limits },
     /// The check of a channel trace; the channels that are flagged, in the order of their places,

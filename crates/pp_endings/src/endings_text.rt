@@ -136,7 +136,7 @@ fn print_ending<W: Write, A: Allocator + Copy>(
 }
 
 /// The deck of these bytes, after the steps of an order.
-fn load_after<A: Allocator + Copy>(
+pub fn load_after<A: Allocator + Copy>(
     alloc: A,
     profile: Profile,
     bytes: &[u8],
@@ -154,8 +154,8 @@ fn load_after<A: Allocator + Copy>(
     }
 }
 
-/// Prints `ORDER 0:3,1`.
-fn print_order_line<W: Write>(text: &mut TextWriter<W>, order: &[PpNo])
+/// Prints `ORDER 0:3,1` and a line feed.
+pub fn print_order_line<W: Write>(text: &mut TextWriter<W>, order: &[PpNo])
     ensures { Prints W.contents text.old text.new (order_line order.now) }
 {
     text.print(b"ORDER");

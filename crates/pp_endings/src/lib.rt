@@ -3,4 +3,4 @@
 
 mod endings_text;
 
-pub use endings_text::text_of_endings;
+pub use endings_text::{load_after, print_order_line, text_of_endings};

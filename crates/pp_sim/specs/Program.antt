@@ -18,14 +18,14 @@ use Rattle.pp_sim.specs.declared.text_fault.TextFault.{TextFault}
 
 -- The answer of a work: a text of the deck that was read, in whose run these processors come
 -- first, and which goes on until then, or what stands in its way; what is found in the deck; the
--- verdict on such a run; or the check of the trace that was read. Z is the allocator's type, of
--- which a report is made.
+-- verdict on such a run, or over every order of steps; or the check of the trace that was read. Z
+-- is the allocator's type, of which a report is made.
 abbrev pub IsDone : Type 0 → Work → List ℕ → Option Until → Result (Unit {0}) TextFault
     → Option (List ℕ) → Option (List ℕ) → Option (List ℕ) → Option (List ℕ) → Type 0
 IsDone Z (Work.Deck profile text) first until =
     AnswersDeckUnless profile (obstacle_until first until text) (IsTextUntil first until text)
 IsDone Z (Work.Lint profile) first until = AnswersLint profile
-IsDone Z (Work.Test profile turns) first until = AnswersTest profile first until turns
+IsDone Z (Work.Test profile tested) first until = AnswersTest profile first until tested
 IsDone Z (Work.Threads profile limits) first until = AnswersDeck profile (IsThreadsText Z limits)
 IsDone Z (Work.Check opened) first until = AnswersTrace opened
 
@@ -89,6 +89,7 @@ abbrev pub IsReported : LineFault → ℕ → Option (List ℕ) → Option (List
 IsReported LineFault.Memory status old new = (status ≡ 4) × Keeps old new
 IsReported LineFault.Number status old new = (status ≡ 2) × Keeps old new
 IsReported LineFault.Picture status old new = (status ≡ 2) × Keeps old new
+IsReported LineFault.Forms status old new = (status ≡ 2) × Keeps old new
 IsReported (LineFault.Refused error) status old new =
     (IsHelp error × ((text : List ℕ) × IsPrinted text status old new))
     ⊎ (¬ IsHelp error × (status ≡ 2) × Keeps old new)

@@ -9,7 +9,7 @@ mod text_fault;
 mod texts;
 
 pub use entry::run_main;
-pub use pp_command::{Asked, ChosenSteps, LineFault, TextOf, Work, read_words};
+pub use pp_command::{Asked, ChosenSteps, LineFault, Tested, TextOf, Work, read_words};
 pub use pp_deck::{Deck, DeckCode, DeckFault, read_deck};
 pub use program::run_program;
 pub use text_fault::TextFault;

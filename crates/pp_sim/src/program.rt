@@ -99,9 +99,9 @@ fn do_work<T: Threads + Wait + Sync, I: Read, A: Allocator + Copy + Send + Sync,
             deck_text(alloc, *profile, first, &asked.until, input, output, text)
         }
         Work::Lint { profile } => lint_text(alloc, *profile, input, output),
-        Work::Test { profile, turns } => {
+        Work::Test { profile, tested } => {
             let first = asked.first.as_slice();
-            test_text(alloc, *profile, first, &asked.until, input, output, *turns)
+            test_text(alloc, *profile, first, &asked.until, input, output, *tested)
         }
         Work::Threads { profile, limits } => {
             threads_text(rt, alloc, *profile, input, output, *limits)

@@ -30,7 +30,10 @@ use Rattle.pp_text.proofs.TextLawLemmas.{event_tells, state_tells}
 use Rattle.pp_steps.specs.declared.{choice.Choice.Choice, cursor.LineKind.LineKind}
 use Rattle.pp_steps.specs.declared.cursor.LineKind.TheVariants.{NoLine, OneStep, HeldSteps}
 use Rattle.pp_steps.specs.Choice.{chosen_steps}
-use Rattle.pp_steps.specs.ShownStep.{OnChannel, FitsChannel, FitsItsStepLine, IsWordAt, ShownStep, changes_shown, channel_shown, event_shown, held_shown, hold_shown, kind_shown, line_shown, step_shown, steps_shown, words_shown}
+use Rattle.pp_condition.specs.declared.condition.Condition.{Condition}
+use Rattle.pp_run.specs.RunSteps.{RunStep}
+use Rattle.pp_steps.specs.StepsWhere.{HasLinesWhere, alone}
+use Rattle.pp_steps.specs.ShownStep.{OnChannel, FitsChannel, FitsItsStepLine, IsWordAt, ShownStep, alone_shown, changes_shown, channel_shown, event_shown, held_shown, hold_shown, kind_shown, line_shown, step_shown, steps_shown, words_shown}
 use Rattle.pp_steps.specs.ShownStep.OnChannel.{Made, Saw}
 use Rattle.pp_steps.specs.StepLine.{centrals_text, channel_text, end_text, event_or_flags, heading, held_line, places_text, step_line, words_text}
 use Rattle.pp_steps.specs.StepsText.{StepWithLine, kind_text, line_text, steps_text, with_lines}
@@ -357,9 +360,18 @@ steps_tell (s ∷ ss) (t ∷ ts) fits also e =
     let more = steps_tell ss ts (All-tail FitsItsStepLine s ss fits) (All-tail FitsItsStepLine t ts also) first.1 in
     (λ j. first.0 j ∷ more j)
 
+pub lines_tell : (xs ys : List StepWithLine) → All FitsItsStepLine (flat_map line_shown xs) → All FitsItsStepLine (flat_map line_shown ys)
+    → flat_map line_text xs ≡ flat_map line_text ys → flat_map line_shown xs ≡ flat_map line_shown ys
+lines_tell xs ys fits also e = steps_tell (flat_map line_shown xs) (flat_map line_shown ys) fits also (sym (lines_are xs) ∙ e ∙ lines_are ys)
+
+-- the text of those that meet a condition tells them
+pub where_tells_steps : (condition other : Condition) (steps more : List RunStep) (text : List ℕ) (one : HasLinesWhere condition steps text) (also : HasLinesWhere other more text)
+    → All FitsItsStepLine (alone_shown one.those) → All FitsItsStepLine (alone_shown also.those) → alone_shown one.those ≡ alone_shown also.those
+where_tells_steps condition other steps more text one also fits too =
+    lines_tell (map alone one.those) (map alone also.those) fits too (sym one.text_is ∙ also.text_is)
+
 pub text_tells_steps : (choice others : Choice) (steps more : List ℕ) (load other : MachineState) → All FitsItsStepLine (steps_shown choice steps load) → All FitsItsStepLine (steps_shown others more other)
     → steps_text choice steps load ≡ steps_text others more other → steps_shown choice steps load ≡ steps_shown others more other
 unfolding steps_text
 text_tells_steps choice others steps more load other fits also e =
-    steps_tell (steps_shown choice steps load) (steps_shown others more other) fits also
-    (sym (lines_are (with_lines (chosen_steps choice steps load))) ∙ e ∙ lines_are (with_lines (chosen_steps others more other)))
+    lines_tell (with_lines (chosen_steps choice steps load)) (with_lines (chosen_steps others more other)) fits also e

@@ -3,6 +3,7 @@ use Rattle.std.specs.Prelude.{◌≡◌, ℕ, ◌<◌, ◌^◌, false, List, [],
 use Rattle.std.specs.List.{All, filter, flat_map, range_with_len}
 use Rattle.pp_numbers.specs.ChannelNo.{names_channel}
 use Rattle.pp_numbers.specs.PpNo.{names_processor}
+use Rattle.pp_run.specs.RunSteps.{RunStep}
 use Rattle.pp_channel.specs.Answer.{event_of, flags_of}
 use Rattle.pp_channel.specs.History.{HasTwelveBitWord}
 use Rattle.pp_channel.specs.declared.{event.Event.Event, flags.Flags.Flags}
@@ -21,6 +22,7 @@ use Rattle.pp_steps.specs.declared.{choice.Choice.Choice, cursor.LineKind.LineKi
 use Rattle.pp_steps.specs.declared.cursor.LineKind.TheVariants.{NoLine, OneStep, HeldSteps}
 use Rattle.pp_steps.specs.Choice.{chosen_steps}
 use Rattle.pp_steps.specs.StepsText.{StepWithLine, with_lines}
+use Rattle.pp_steps.specs.StepsWhere.{alone}
 
 -- what a step did on a channel: it made an event, or else saw flags
 pub data OnChannel : Type 0 where
@@ -114,6 +116,10 @@ line_shown x = kind_shown x.line x.step.processor x.step.before
 -- all that the text of some steps shows, line by line
 abbrev pub steps_shown : Choice → List ℕ → MachineState → List ShownStep
 steps_shown choice steps load = flat_map line_shown (with_lines (chosen_steps choice steps load))
+
+-- and that of the text of those that meet a condition, by these
+abbrev pub alone_shown : List RunStep → List ShownStep
+alone_shown those = flat_map line_shown (map alone those)
 
 -- ---- what fits its columns
 

@@ -1,6 +1,7 @@
 -- The text of the steps chosen of a run that meet a condition: a line for each, held steps one by
 -- one.
-use Rattle.std.specs.Prelude.{ℕ, List, [], ◌∷◌, ◌++◌, Option, Result, Ok, Err}
+use Rattle.std.specs.Prelude.{◌≡◌, ℕ, List, [], ◌∷◌, ◌++◌, map, Option, Result, Err}
+use Rattle.std.specs.List.{flat_map}
 use Rattle.std.specs.Io.KnownBytes.{Keeps}
 use Rattle.pp_machine.specs.MachineState.{MachineState}
 use Rattle.pp_condition.specs.Condition.{Meets}
@@ -12,28 +13,34 @@ use Rattle.pp_text.specs.Written.{IsReportWritten}
 use Rattle.pp_text.specs.declared.report_fault.ReportFault.{ReportFault}
 use Rattle.pp_steps.specs.Choice.{chosen_steps}
 use Rattle.pp_steps.specs.HeldRuns.{progress_of}
-use Rattle.pp_steps.specs.StepsText.{kind_text}
+use Rattle.pp_steps.specs.StepsText.{StepWithLine, line_text}
 use Rattle.pp_steps.specs.declared.{choice.Choice.Choice, cursor.LineKind.LineKind}
 use Rattle.pp_steps.specs.declared.cursor.LineKind.TheVariants.{NoLine, OneStep, HeldSteps}
 
--- the line of a step by itself
+-- the line of a step by itself, and the step with it
 abbrev pub line_alone : Progress → LineKind
 line_alone AtRest = NoLine
 line_alone Moved = OneStep
 line_alone (Held flags) = HeldSteps 1
 
-abbrev pub text_alone : RunStep → List ℕ
-text_alone step = kind_text (line_alone (progress_of step)) step.processor step.before
+abbrev pub alone : RunStep → StepWithLine
+alone step = record { step = step; line = line_alone (progress_of step) }
 
--- a text has the lines of those of some steps that meet a condition, in order
-pub data HasLinesWhere (condition : Condition) : List RunStep → List ℕ → Type 0 where
-  none : HasLinesWhere condition [] []
-  meets : (steps : List RunStep) (step : RunStep) (text : List ℕ)
-      → HasLinesWhere condition steps text → Meets condition step
-      → HasLinesWhere condition (steps ++ step ∷ []) (text ++ text_alone step)
-  passes : (steps : List RunStep) (step : RunStep) (text : List ℕ)
-      → HasLinesWhere condition steps text → ¬ Meets condition step
-      → HasLinesWhere condition (steps ++ step ∷ []) text
+-- those of some steps that meet a condition, in order
+pub data AreThoseWhere (condition : Condition) : List RunStep → List RunStep → Type 0 where
+  none : AreThoseWhere condition [] []
+  meets : (steps those : List RunStep) (step : RunStep) → AreThoseWhere condition steps those
+      → Meets condition step
+      → AreThoseWhere condition (steps ++ step ∷ []) (those ++ step ∷ [])
+  passes : (steps those : List RunStep) (step : RunStep) → AreThoseWhere condition steps those
+      → ¬ Meets condition step → AreThoseWhere condition (steps ++ step ∷ []) those
+
+-- a text has their lines
+pub record HasLinesWhere (condition : Condition) (steps : List RunStep) (text : List ℕ) : Type 0
+  where
+    pub those : List RunStep
+    pub are_those : AreThoseWhere condition steps those
+    pub text_is : text ≡ flat_map line_text (map alone those)
 
 -- what writing them comes to: for want of memory nothing is written
 abbrev pub IsWrittenWhere : Choice → Condition → List ℕ → MachineState

@@ -5,11 +5,13 @@ ghost use Rattle.std.specs.Prelude.{◌≡◌, ℕ, List, drop, length};
 ghost use Rattle.std.specs.List.{All, filter, flat_map};
 ghost use Rattle.pp_machine.specs.MachineState.{MachineState};
 ghost use Rattle.pp_machine.specs.Run.{run};
-ghost use Rattle.pp_run.specs.RunSteps.{seen_of};
 ghost use Rattle.pp_steps.specs.Choice.{chosen_steps};
 ghost use Rattle.pp_steps.specs.HeldRuns.{progress_of};
 ghost use Rattle.pp_steps.specs.StepsLaw.{is_by, is_chosen_event, is_running, line_event, line_steps};
-ghost use Rattle.pp_steps.specs.ShownStep.{FitsItsStepLine, steps_shown};
+ghost use Rattle.pp_condition.specs.declared.condition.Condition.{Condition};
+ghost use Rattle.pp_run.specs.RunSteps.{RunStep, seen_of};
+ghost use Rattle.pp_steps.specs.ShownStep.{FitsItsStepLine, alone_shown, steps_shown};
+ghost use Rattle.pp_steps.specs.StepsWhere.{HasLinesWhere};
 ghost use Rattle.pp_steps.specs.StepsText.{steps_text, with_lines};
 ghost use Rattle.pp_steps.specs.declared.choice.Choice.{Choice};
 
@@ -35,4 +37,14 @@ pub fn steps_text_law()
         → All FitsItsStepLine (steps_shown others more other)
         → steps_text choice steps load ≡ steps_text others more other
         → steps_shown choice steps load ≡ steps_shown others more other }
+{}
+
+/// So does the text of the steps that meet a condition: two that are the same, of whatever steps
+/// and conditions, show the same steps that meet them, in the same order, held ones one by one.
+pub fn steps_where_law()
+    ensures { (condition other : Condition) (steps more : List RunStep) (text : List ℕ)
+        (one : HasLinesWhere condition steps text) (also : HasLinesWhere other more text)
+        → All FitsItsStepLine (alone_shown one.those)
+        → All FitsItsStepLine (alone_shown also.those)
+        → alone_shown one.those ≡ alone_shown also.those }
 {}

@@ -13,6 +13,6 @@ mod steps_where;
 mod stores;
 
 pub use choice::Choice;
-pub use laws::{steps_law, steps_text_law};
+pub use laws::{steps_law, steps_text_law, steps_where_law};
 pub use steps_text::write_steps;
 pub use steps_where::write_steps_where;

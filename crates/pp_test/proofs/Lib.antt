@@ -1,2 +1,4 @@
+mod CountLemmas
+mod EveryOrderLemmas
 mod NearestLemmas
 mod VerdictLemmas

@@ -1,3 +1,4 @@
+pub mod EveryOrder
 pub mod Expectations
 pub mod Nearest
 pub mod RunLines

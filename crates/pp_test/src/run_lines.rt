@@ -3,13 +3,13 @@
 ghost use Rattle.std.specs.Prelude.{◌≡◌, ◌++◌, IfOk, Ok, OnOk, true};
 ghost use Rattle.std.specs.Io.KnownBytes.{Appends};
 ghost use Rattle.pp_deck.specs.DeckMeaning.{LoadedDeck, deck_meaning};
-ghost use Rattle.pp_machine.specs.Run.{run};
 ghost use Rattle.pp_sessions.specs.SessionsText.{sessions_text};
 ghost use Rattle.pp_test.specs.RunLines.{EndsAfter, IsRunText, machine_lines};
 
 use crate::machine_lines::write_machine_lines;
 use pp_channel::Memory;
-use pp_deck::{Deck, read_deck};
+use pp_deck::Deck;
+use pp_endings::load_after;
 use pp_ends::{Ending, find_ending};
 use pp_machine::{Machine, PROCESSORS, PpNo, Profile};
 use pp_run::{Order, StepCounts, run_counting_steps};
@@ -59,25 +59,6 @@ fn ending_of_run<A: Allocator + Copy>(
     let count = first.len().min(turns as usize);
     let deck = load_after(alloc, profile, bytes, &first[..count])?;
     find_ending(alloc, &deck.machine, turns - count as u32)
-}
-
-/// The deck of these bytes, after the steps of an order.
-fn load_after<A: Allocator + Copy>(
-    alloc: A,
-    profile: Profile,
-    bytes: &[u8],
-    order: &[PpNo],
-) -> Result<Deck<A>, Memory>
-    ensures { IfOk result (λ after. (deck : LoadedDeck) → deck_meaning profile bytes.now ≡ Ok deck
-        → after.machine ≡ run order.now deck.machine) }
-{
-    let Ok(mut deck) = read_deck(alloc, profile, bytes) else {
-        return Err(Memory);
-    };
-    match deck.machine.run_turns(order) {
-        Ok(()) => Ok(deck),
-        Err(_) => Err(Memory),
-    }
 }
 
 /// Writes the lines of a machine after its run, by the counts of its steps, and its sessions.

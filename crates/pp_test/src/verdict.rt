@@ -48,7 +48,7 @@ pub fn write_verdict<W: Write>(
 
 /// Prints the verdict, and returns whether there are expectations, and all held.
 #[tactic(auto, unfolding(crate::specs::Verdict::verdict, crate::specs::Verdict::is_held))]
-fn print_verdict<W: Write>(text: &mut TextWriter<W>, deck: &[u8], lines: &[u8]) -> bool
+pub(crate) fn print_verdict<W: Write>(text: &mut TextWriter<W>, deck: &[u8], lines: &[u8]) -> bool
     requires { length deck.now ≤ 2 ^ 62 }
     ensures prints { Prints W.contents text.old text.new (verdict deck.now lines.now) }
     ensures held { result ≡ is_held deck.now lines.now }
@@ -60,7 +60,7 @@ fn print_verdict<W: Write>(text: &mut TextWriter<W>, deck: &[u8], lines: &[u8]) 
 }
 
 /// Prints `HELD 5`, `FAILED 2 OF 5` or `no expectations`.
-fn print_last_words<W: Write>(text: &mut TextWriter<W>, count: u64, failed: u64)
+pub(crate) fn print_last_words<W: Write>(text: &mut TextWriter<W>, count: u64, failed: u64)
     ensures { Prints W.contents text.old text.new (last_words count failed) }
 {
     if count == 0 {

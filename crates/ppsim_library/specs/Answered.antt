@@ -17,7 +17,7 @@ words_of text = slice_split (λ byte. byte == 0) text
 abbrev pub NeedsNoThreads : Work → Type 0
 NeedsNoThreads (Work.Deck profile text) = Unit {0}
 NeedsNoThreads (Work.Lint profile) = Unit {0}
-NeedsNoThreads (Work.Test profile turns) = Unit {0}
+NeedsNoThreads (Work.Test profile tested) = Unit {0}
 NeedsNoThreads (Work.Threads profile limits) = ⊥
 NeedsNoThreads (Work.Check opened) = Unit {0}
 

@@ -83,9 +83,9 @@ fn do_work<A: Allocator + Copy>(
             deck_text(alloc, *profile, first, &asked.until, input, output, text)
         }
         Work::Lint { profile } => lint_text(alloc, *profile, input, output),
-        Work::Test { profile, turns } => {
+        Work::Test { profile, tested } => {
             let first = asked.first.as_slice();
-            test_text(alloc, *profile, first, &asked.until, input, output, *turns)
+            test_text(alloc, *profile, first, &asked.until, input, output, *tested)
         }
         Work::Threads { .. } => unreachable!(),
         Work::Check { opened } => check_text(alloc, opened, input, output),

@@ -41,6 +41,8 @@ fn deck_faults(rt: HostRuntime) {
 /// What a drawing of too many turns is answered.
 const PICTURE: &str = "a picture has at most 2000 turns: give --from and --to";
 
+const FORMS: &str = "test takes --turns, or --every-order and --states alone";
+
 #[test]
 fn other_faults(rt: HostRuntime) {
     let alloc = rt.alloc();
@@ -51,6 +53,7 @@ fn other_faults(rt: HostRuntime) {
     assert!(rt; tells(alloc, &LineFault::Memory, "out of memory"));
     assert!(rt; tells(alloc, &LineFault::Number, "number out of range"));
     assert!(rt; tells(alloc, &LineFault::Picture, PICTURE));
+    assert!(rt; tells(alloc, &LineFault::Forms, FORMS));
     assert!(rt; tells(alloc, &RunFault::Memory, "out of memory"));
     assert!(rt; tells(alloc, &CentralFault::Memory, "out of memory"));
     assert!(rt; tells(alloc, &CentralFault::BadSize, "central size out of range"));

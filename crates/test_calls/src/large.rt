@@ -6,7 +6,7 @@ use pp_machine::{Machine, Profile};
 use pp_sim::DeckCode::{
     BadDigits, BadProcessor, CentralRange, NoProcessor, NotAscii, PastEnd, TooLong, UnknownLine,
 };
-use pp_sim::{DeckCode, DeckFault, read_deck};
+use pp_sim::{DeckCode, DeckFault, Tested, TextFault, read_deck, test_text};
 use pp_word::{Word12, Word18, Word60};
 use std::alloc::{AllocError, Global};
 use std::test::Fail;
@@ -94,6 +94,73 @@ fn is_listed(alloc: Global, deck: Long, listed: &str) -> Result<bool, Fail> {
 fn long_decks(rt: HostRuntime) -> Result<(), Fail> {
     for (deck, listed) in DECKS {
         assert!(rt; is_listed(rt.alloc(), deck, listed)?, "{listed}");
+    }
+    Ok(())
+}
+
+/// Decks that expect much, or one thing at length, and what is said of each.
+const EXPECTING: [(Long, Tested, Long); 5] = [
+    (
+        (b"CENTRAL 10\n", b"*= AT REST\n", b"", 110_011),
+        Tested::Run(0),
+        (b"", b"", b"HELD 10000\n", 11),
+    ),
+    (
+        (b"CENTRAL 10\n", b"*= AT REST\n", b"", 110_011),
+        Tested::EveryOrder(10),
+        (b"", b"", b"HELD 10000 IN 1 ENDING\n", 23),
+    ),
+    (
+        (b"CENTRAL 10\n*! ", b"x", b"", 100_014),
+        Tested::Run(0),
+        (b"", b"", b"HELD 1\n", 7),
+    ),
+    (
+        (b"CENTRAL 10\n*= ", b"x", b"", 100_014),
+        Tested::Run(0),
+        (
+            b"2: *= ",
+            b"x",
+            b"\n  nearest: CM 0 00000000000000000000\nFAILED 1 OF 1\n",
+            100_058,
+        ),
+    ),
+    (
+        (b"CENTRAL 10\n*= ", b"AT ", b"", 100_013),
+        Tested::EveryOrder(10),
+        (
+            b"ORDER\n2: *= ",
+            b"AT ",
+            b"\n  nearest: AT REST\nFAILED 1 OF 1\n",
+            100_045,
+        ),
+    ),
+];
+
+/// What is said of what a long deck expects.
+fn verdict_on(alloc: Global, deck: Long, tested: Tested) -> Result<Vec<u8>, Fail> {
+    let text = text_of(deck, alloc)?;
+    let (mut reader, mut writer) = (text.as_slice(), Vec::new(alloc));
+    match test_text(
+        alloc,
+        Profile::Ten,
+        &[],
+        &None,
+        &mut reader,
+        &mut writer,
+        tested,
+    ) {
+        Ok(()) | Err(TextFault::Findings) => Ok(writer),
+        Err(fault) => Err(fault.into()),
+    }
+}
+
+#[test]
+fn long_expectations(rt: HostRuntime) -> Result<(), Fail> {
+    for (deck, tested, said) in EXPECTING {
+        let text = verdict_on(rt.alloc(), deck, tested)?;
+        assert!(rt; text.as_slice() == text_of(said, rt.alloc())?.as_slice());
+        assert!(rt; text.len() == said.3);
     }
     Ok(())
 }

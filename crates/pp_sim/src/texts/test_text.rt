@@ -1,23 +1,28 @@
-ghost use Rattle.std.specs.Prelude.{◌≡◌, ◌≤◌, Ok, IfOk, IfErr, length};
+ghost use Rattle.std.specs.Prelude.{◌≡◌, ◌≤◌, ℕ, List, Option, Ok, IfOk, IfErr, length};
 ghost use Rattle.pp_deck.specs.DeckMeaning.{deck_meaning};
 ghost use Rattle.pp_sim.specs.TestAnswer.{AnswersTest, HasTurns, IsTest};
 ghost use Rattle.pp_sim.specs.TextAnswer.{most_bytes};
 ghost use Rattle.pp_sim.specs.declared.text_fault.TextFault.TheVariants.{Memory};
+ghost use Rattle.pp_command.specs.declared.work.Tested.{Tested};
+ghost use Rattle.pp_condition.specs.declared.until.Until.{Until};
 
 use crate::TextFault;
 use crate::deck_bytes::DeckBytes;
 use crate::streams::read_front;
+use pp_command::Tested;
 use pp_condition::{Until, steps_until};
 use pp_deck::Deck;
 use pp_machine::{PpNo, Profile};
 use pp_run::Order;
-use pp_test::{run_to_lines, write_verdict};
+use pp_test::{run_to_lines, text_of_every_order, write_verdict};
+use pp_text::write_whole;
 use std::alloc::Allocator;
 use std::io::{Read, Write};
 
-/// Reads a deck for a machine of this profile, runs it for `turns` turns (decimal), in which these
-/// processors come first, and which go on until then, if that is given; and writes the verdict on
-/// the run by the expectations in the deck: `Findings` if there are none, or one failed.
+/// Reads a deck for a machine of this profile, and writes the verdict by the expectations in it: on
+/// a run, in which these processors come first, and which goes on until then, if that is given; or
+/// over every order of steps. `Findings` if there are no expectations, if one failed, or if there
+/// may be more endings than were tested.
 pub fn test_text<A: Allocator + Copy, R: Read, W: Write>(
     alloc: A,
     profile: Profile,
@@ -25,9 +30,9 @@ pub fn test_text<A: Allocator + Copy, R: Read, W: Write>(
     until: &Option<Until>,
     reader: &mut R,
     writer: &mut W,
-    turns: u32,
+    tested: Tested,
 ) -> Result<(), TextFault>
-    ensures { AnswersTest profile first.now until.now turns result
+    ensures { AnswersTest profile first.now until.now tested result
         (R.remaining reader.old) (R.remaining reader.new)
         (W.contents writer.old) (W.contents writer.new) }
 {
@@ -35,11 +40,56 @@ pub fn test_text<A: Allocator + Copy, R: Read, W: Write>(
     let bytes = front.as_slice();
     let deck = DeckBytes { profile, bytes };
     let mut loaded = deck.load(alloc)?;
-    write_test(alloc, &deck, &mut loaded, writer, first, until, turns)
+    write_test(alloc, &deck, &mut loaded, writer, first, until, tested)
+}
+
+/// Writes the verdict on a deck.
+fn write_test<A: Allocator + Copy, W: Write>(
+    alloc: A,
+    deck: &DeckBytes,
+    loaded: &mut Deck<A>,
+    writer: &mut W,
+    first: &[PpNo],
+    until: &Option<Until>,
+    tested: Tested,
+) -> Result<(), TextFault>
+    requires meant { deck_meaning deck.now.profile deck.now.bytes.now
+        ≡ Ok (record { machine = loaded.old.machine; named = loaded.old.named }) }
+    requires short { length deck.now.bytes.now ≤ most_bytes }
+    ensures { IsTest deck.now.profile first.now until.now tested result deck.now.bytes.now
+        (W.contents writer.old) (W.contents writer.new) }
+{
+    match tested {
+        Tested::Run(turns) => write_test_of_run(alloc, deck, loaded, writer, first, until, turns),
+        Tested::EveryOrder(states) => write_test_of_endings(alloc, deck, loaded, writer, states),
+    }
+}
+
+/// Writes the verdict on every ending of a deck.
+fn write_test_of_endings<A: Allocator + Copy, W: Write>(
+    alloc: A,
+    deck: &DeckBytes,
+    loaded: &Deck<A>,
+    writer: &mut W,
+    states: u32,
+) -> Result<(), TextFault>
+    requires meant { deck_meaning deck.now.profile deck.now.bytes.now
+        ≡ Ok (record { machine = loaded.now.machine; named = loaded.now.named }) }
+    requires short { length deck.now.bytes.now ≤ most_bytes }
+    ensures { (first : List ℕ) (until : Option Until) → IsTest deck.now.profile first until
+        (Tested.EveryOrder states) result deck.now.bytes.now
+        (W.contents writer.old) (W.contents writer.new) }
+{
+    let found = text_of_every_order(alloc, deck.profile, deck.bytes, loaded, states)?;
+    match write_whole(writer, found.text.as_slice()) {
+        Ok(()) if found.held => Ok(()),
+        Ok(()) => Err(TextFault::Findings),
+        Err(_) => Err(TextFault::Write),
+    }
 }
 
 /// Runs a deck, and writes the verdict on its run.
-fn write_test<A: Allocator + Copy, W: Write>(
+fn write_test_of_run<A: Allocator + Copy, W: Write>(
     alloc: A,
     deck: &DeckBytes,
     loaded: &mut Deck<A>,
@@ -51,8 +101,8 @@ fn write_test<A: Allocator + Copy, W: Write>(
     requires meant { deck_meaning deck.now.profile deck.now.bytes.now
         ≡ Ok (record { machine = loaded.old.machine; named = loaded.old.named }) }
     requires short { length deck.now.bytes.now ≤ most_bytes }
-    ensures { IsTest deck.now.profile first.now until.now turns result deck.now.bytes.now
-        (W.contents writer.old) (W.contents writer.new) }
+    ensures { IsTest deck.now.profile first.now until.now (Tested.Run turns) result
+        deck.now.bytes.now (W.contents writer.old) (W.contents writer.new) }
 {
     let turns = turns_of_run(alloc, loaded, first, until, turns)?;
     let lines = run_to_lines(alloc, deck.profile, deck.bytes, loaded, first, turns)?;

@@ -36,9 +36,20 @@ returns-in-None-clause-refused g c =
     let none = rw c.in-None.is at c.in-Ok-asked_of.ensures.none in
     inr (rw read (none, c.asks_for_more.ensures.0 c.if-asks_for_more.true))
 
+pub returns-in-None-2-clause-refused : goal.returns-in-None-2-clause-refused
+returns-in-None-2-clause-refused g c =
+    let at = sym c.first.ensures.value ∙ sym c.copied.ensures ∙ c.in-Some.is in
+    let read = called c.args.words.now c.in-Some.name c.command_named.result c.in-Some-command_named.form (Some c.in-Ok.values.values) at c.command_named.ensures c.in-Some-command_named.is c.in-Ok.ensures.values in
+    let none = rw c.in-None.is at c.in-Ok-asked_of.ensures.none in
+    inr (rw read (none, c.mixes_forms.ensures.0 c.if-mixes_forms.true))
+
 pub returns-clause-refused : goal.returns-clause-refused
 returns-clause-refused g c =
     let at = sym c.first.ensures.value ∙ sym c.copied.ensures ∙ c.in-Some.is in
     let read = called c.args.words.now c.in-Some.name c.command_named.result c.in-Some-command_named.form (Some c.in-Ok.values.values) at c.command_named.ensures c.in-Some-command_named.is c.in-Ok.ensures.values in
     let none = rw c.in-None.is at c.in-Ok-asked_of.ensures.none in
-    inr (rw read (none, λ more. let is = c.asks_for_more.ensures.1 more in let not = c.if-asks_for_more.false in cc))
+    inr (rw read (
+      none,
+      λ more. let is = c.asks_for_more.ensures.1 more in let not = c.if-asks_for_more.false in cc,
+      λ mixed. let is = c.mixes_forms.ensures.1 mixed in let not = c.if-mixes_forms.false in cc,
+    ))

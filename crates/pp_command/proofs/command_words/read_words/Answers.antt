@@ -1,7 +1,7 @@
 use Rattle.std.proofs.Common.{None, codes, ◌∙◌}
 use Rattle.clap.specs.Words.{found_of}
 use Rattle.clap.proofs.WalkLemmas.{first_value-rows}
-use Rattle.pp_command.specs.CommandLine.{AsksForMoreAmong}
+use Rattle.pp_command.specs.CommandLine.{AsksForMore, MixesForms, SoDoes}
 use Rattle.pp_command.proofs.CommandLemmas.{met_command, met_none, refused_words, taken_words}
 use Rattle.pp_command.proofs.command_words.read_words.Goals as goal
 
@@ -13,7 +13,8 @@ returns-in_default-subcommand-clause-refused c =
     let e = met_none _ _ c.in-Ok-try_get_matches_from.matches c.in-Ok.ensures c.in-Ok-try_get_matches_from.ensures.matches c.in_default-subcommand.ensures.name in (
       taken_words _ _ c.in-Ok.ensures c.in-Ok-try_get_matches_from.ensures.kinds,
       λ work first until k. let bad : ⊥ = rw e at k in bad,
-      λ k. let bad : AsksForMoreAmong None = rw e at k in bad,
+      λ k. let bad : SoDoes AsksForMore None = rw e at k in bad,
+      λ k. let bad : SoDoes MixesForms None = rw e at k in bad,
     )
 
 pub returns-in-Some-found-clause-taken : goal.returns-in-Some-found-clause-taken
@@ -44,6 +45,16 @@ returns-in-None-clause-refused c =
       rw e (c.asks_for_more.ensures.0 c.if-asks_for_more.true),
     )
 
+pub returns-in-None-2-clause-refused : goal.returns-in-None-2-clause-refused
+returns-in-None-2-clause-refused c =
+    let e = met_command _ _ c.in-Ok-try_get_matches_from.matches c.in-Some.name.now (found_of c.in-Some.inner.now)
+    c.in-Ok.ensures c.in-Ok-try_get_matches_from.ensures.matches c.in-Some.ensures.name c.in-Some.ensures.rows in
+    let none = rw c.in-None.is at c.in-Ok-asked_of.ensures.none in (
+      taken_words _ _ c.in-Ok.ensures c.in-Ok-try_get_matches_from.ensures.kinds,
+      λ work first until k. none work first until (rw e at k),
+      rw e (c.mixes_forms.ensures.0 c.if-mixes_forms.true),
+    )
+
 pub returns-clause-refused : goal.returns-clause-refused
 returns-clause-refused c =
     let e = met_command _ _ c.in-Ok-try_get_matches_from.matches c.in-Some.name.now (found_of c.in-Some.inner.now)
@@ -52,4 +63,5 @@ returns-clause-refused c =
       taken_words _ _ c.in-Ok.ensures c.in-Ok-try_get_matches_from.ensures.kinds,
       λ work first until k. none work first until (rw e at k),
       λ k. let is = c.asks_for_more.ensures.1 (rw e at k) in let not = c.if-asks_for_more.false in cc,
+      λ k. let is = c.mixes_forms.ensures.1 (rw e at k) in let not = c.if-mixes_forms.false in cc,
     )

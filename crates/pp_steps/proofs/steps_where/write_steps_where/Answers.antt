@@ -1,20 +1,19 @@
-use Rattle.std.proofs.Common.{◌≡◌, ◌<◌, ◌+◌, ◌++◌, ◌≤◌, ℕ, [], ◌∷◌, List, cond, length, sym, subst, ap, ◌∙◌, get_or, take, arith, rules, true, false}
-use Rattle.std.specs.Prelude.{Bool, ◌&&◌}
+use Rattle.std.proofs.Common.{◌≡◌, ◌<◌, ◌+◌, ◌++◌, ◌≤◌, ℕ, [], ◌∷◌, List, cond, length, sym, subst, ap, ◌∙◌, get_or, take, arith, rules}
+use Rattle.std.specs.Prelude.{Bool}
 use Rattle.std.proofs.lemmas.List.{get_or_read, take_all}
 use Rattle.pp_machine.specs.MachineState.{MachineState}
 use Rattle.pp_machine.specs.MachineStep.{stepped}
 use Rattle.pp_machine.specs.Run.{run}
 use Rattle.pp_machine.proofs.RunLemmas.{run_more}
 use Rattle.pp_run.specs.RunSteps.{RunStep}
-use Rattle.pp_run.specs.BareMachine.{StandsFor, progress}
+use Rattle.pp_run.specs.BareMachine.{StandsFor}
 use Rattle.pp_text.specs.TextWriter.{Prints}
 use Rattle.pp_text.proofs.PrintingLemmas.{prints_nothing, prints_then}
 use Rattle.pp_steps.specs.Choice.{chosen_steps, is_chosen}
-use Rattle.pp_steps.specs.StepsText.{kind_text}
-use Rattle.pp_steps.specs.StepsWhere.{HasLinesWhere, line_alone, none, text_alone}
+use Rattle.pp_steps.specs.StepsWhere.{HasLinesWhere}
 use Rattle.pp_steps.proofs.ChosenSteps.{chosen_more, step_in}
 use Rattle.pp_steps.proofs.LineLemmas.{kept_ok}
-use Rattle.pp_steps.proofs.WhereLemmas.{own_text, where_more, written_where}
+use Rattle.pp_steps.proofs.WhereLemmas.{no_lines, own_text, where_more, written_where}
 use Rattle.pp_steps.proofs.steps_where.write_steps_where.Goals as goal
 use Rattle.pp_steps.proofs.steps_where.write_steps_where.Goals.{then-is_chosen+then-meets, else-is_chosen, else-is_chosen-via-then-is_chosen+else-meets, else-is_chosen-via-else-is_chosen}
 
@@ -25,7 +24,7 @@ loop-n-init g c =
       before = kept_ok (λ b. StandsFor b m) c.of.result c.map_err.result c.in_ok-before.before _ c.map_err.ensures.cases c.map_err.ensures.variant c.of.ensures c.in_ok-before.was;
       after = kept_ok (λ b. StandsFor b m) c.of-2.result c.map_err-2.result c.in_ok-after.after _ c.map_err-2.ensures.cases c.map_err-2.ensures.variant c.of-2.ensures c.in_ok-after.was;
       watched = kept_ok (λ b. StandsFor b m) c.of-3.result c.map_err-3.result c.in_ok-watched.watched _ c.map_err-3.ensures.cases c.map_err-3.ensures.variant c.of-3.ensures c.in_ok-watched.was;
-      printed = ([], prints_nothing _ _, none);
+      printed = ([], prints_nothing _ _, no_lines _);
     }
 
 pub loop-n-preserved : goal.loop-n-preserved
