@@ -1,4 +1,7 @@
-ghost use Rattle.std.specs.Prelude.{◌<◌, ◌^◌};
+ghost use Rattle.std.specs.Prelude.{◌≡◌, ◌<◌, ◌^◌};
+ghost use Rattle.std.specs.List.{list_any, range_with_len};
+ghost use Rattle.pp_numbers.specs.ChannelNo.{channel_count, channel_number};
+ghost use Rattle.pp_machine.specs.MachineState.{is_opened};
 ghost use Rattle.pp_text.specs.TextWriter.{Prints};
 ghost use Rattle.pp_text.specs.Written.{IsWritten};
 ghost use Rattle.pp_listing.specs.ListedLine.{text_of};
@@ -65,14 +68,20 @@ impl<'a, A: Allocator, W: Write> Lines<u32, W> for CentralWords<'a, A> {
 }
 
 /// Prints `DEAD` and a line feed, if dead start opened a channel.
+#[tactic(auto, unfolding(pp_numbers::specs::ChannelNo::all_channels, // by place
+pp_numbers::specs::Tables::tabulate))]
 fn print_dead_start<A: Allocator, W: Write>(text: &mut TextWriter<W>, machine: &Machine<A>)
     ensures { Prints W.contents text.old text.new (text_of (dead_start_line machine.now)) }
 {
-    let mut any = false;
-    for place in 0..CHANNELS {
-        any |= machine.opened(ChannelNo::at(place));
-    }
-    if any {
+    if any_opened(machine) {
         text.print(b"DEAD\n");
     }
+}
+
+/// Whether dead start opened a channel.
+fn any_opened<A: Allocator>(machine: &Machine<A>) -> bool
+    ensures { result ≡ list_any (λ place. is_opened (channel_number place) machine.now)
+        (range_with_len 0 channel_count) }
+{
+    (0..CHANNELS).any(|place| machine.opened(ChannelNo::at(place)))
 }
