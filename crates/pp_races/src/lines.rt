@@ -1,16 +1,18 @@
 //! The lines of findings.
 
-ghost use Rattle.std.specs.Prelude.{◌≤◌, ◌++◌, [], codes, length, nat_lt, if◌then◌else◌};
+ghost use Rattle.std.specs.Prelude.{◌<◌, ◌≤◌, ◌++◌, [], codes, length, nat_lt, if◌then◌else◌};
+ghost use Rattle.pp_numbers.specs.PpNo.{processor_count};
 ghost use Rattle.pp_word.specs.Numeral.{octal};
 ghost use Rattle.pp_text.specs.PrintedText.{line_end};
 ghost use Rattle.pp_text.specs.TextWriter.{Prints};
-ghost use Rattle.pp_races.specs.RacesText.{entry_text, finding_line, place_text, processors_text, step_line};
+ghost use Rattle.pp_races.specs.RacesText.{entry_text, finding_line, name_text, place_text, processors_text, step_line};
 
+use crate::sharing::count;
 use crate::{AskingStep, Finding};
 use pp_machine::{PROCESSORS, PpNo, Trace};
 use pp_text::{
-    TextWriter, channel_name, octal4, octal6, print_decimal, print_event_end, processor_name,
-    running_field,
+    Lines, TextWriter, channel_name, octal4, octal6, print_decimal, print_each_below,
+    print_event_end, processor_name, running_field,
 };
 use std::io::Write;
 
@@ -85,17 +87,29 @@ fn print_shared_line<W: Write>(
 fn print_processors<W: Write>(text: &mut TextWriter<W>, flags: &[bool; PROCESSORS])
     ensures { Prints W.contents text.old text.new (processors_text flags.now) }
 {
-    let mut named: u32 = 0;
-    for place in 0..PROCESSORS {
+    print_each_below(text, PROCESSORS as u32, &Names(flags));
+}
+
+/// The names of processors that are flagged, by place, with a comma before each but the first.
+#[derive(Drop)]
+struct Names<'a>(&'a [bool; PROCESSORS]);
+
+impl<'a, W: Write> Lines<u32, W> for Names<'a> {
+    ghost text_of = { λ names. name_text names.0.now };
+
+    ghost Has = { λ names place. place < processor_count };
+
+    fn print(&self, text: &mut TextWriter<W>, place: &u32) {
+        let flags = self.0;
+        let place = *place as usize;
         if flags[place] {
-            print_name(text, named, PpNo::at(place));
-            named += 1;
+            print_name(text, count(&flags[..place]), PpNo::at(place));
         }
     }
 }
 
 /// Prints the name of a processor, with a comma before it if others were named.
-fn print_name<W: Write>(text: &mut TextWriter<W>, named: u32, n: PpNo)
+fn print_name<W: Write>(text: &mut TextWriter<W>, named: usize, n: PpNo)
     ensures { Prints W.contents text.old text.new
         ((if nat_lt 0 named then codes "," else []) ++ codes "PP" ++ octal 2 n) }
 {

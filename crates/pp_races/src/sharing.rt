@@ -1,6 +1,6 @@
 //! Whether a central word is shared.
 
-ghost use Rattle.std.specs.Prelude.{◌≡◌, ℕ, Bool, List, count_by};
+ghost use Rattle.std.specs.Prelude.{◌≡◌, count_by};
 ghost use Rattle.std.specs.Option.{option_to_list};
 ghost use Rattle.pp_numbers.specs.Tables.{tabulate};
 ghost use Rattle.pp_numbers.specs.PpNo.{processor_count, processor_number};
@@ -24,16 +24,10 @@ fn flags_of(mask: u32) -> [bool; PROCESSORS]
 }
 
 /// How many flags are set.
-fn count(flags: &[bool; PROCESSORS]) -> usize
+pub(crate) fn count(flags: &[bool]) -> usize
     ensures { result ≡ count_by (λ flag. flag) flags.now }
 {
-    let mut set = 0;
-    for flag in flags {
-        if *flag {
-            set += 1;
-        }
-    }
-    set
+    flags.iter().filter(|flag| **flag).count()
 }
 
 /// Whether one processor wrote a word and another used it.
