@@ -2,8 +2,7 @@
 
 ghost use Rattle.std.specs.Prelude.{◌≡◌, ◌++◌, length, map, not, IfOk, Ok, OnOk};
 ghost use Rattle.std.specs.Io.KnownBytes.{Appends};
-ghost use Rattle.std.specs.List.{flat_map};
-ghost use Rattle.pp_numbers.specs.PpNo.{all_processors};
+ghost use Rattle.pp_numbers.specs.PpNo.{is_named};
 ghost use Rattle.pp_machine.specs.MachineState.{processor_of};
 ghost use Rattle.pp_machine.specs.Run.{run};
 ghost use Rattle.pp_run.specs.BareMachine.{StandsFor};
@@ -12,7 +11,7 @@ ghost use Rattle.pp_text.specs.PrintedText.{each_below, processor_line};
 ghost use Rattle.pp_text.specs.Standing.{standing};
 ghost use Rattle.pp_text.specs.TextWriter.{Prints};
 ghost use Rattle.pp_orders.specs.Found.{going_in, orders_of};
-ghost use Rattle.pp_endings.specs.EndingsText.{IsEndingsText, ending_at, ending_text, endings_text, going_line, going_text, head_line, order_line};
+ghost use Rattle.pp_endings.specs.EndingsText.{IsEndingsText, ending_at, ending_text, endings_text, going_text, head_line, order_line};
 
 use pp_channel::Memory;
 use pp_deck::{Deck, read_deck};
@@ -20,7 +19,10 @@ use pp_machine::{Machine, PROCESSORS, PpNo, Profile};
 use pp_orders::{Ending, Endings, find_endings};
 use pp_run::BareMachine;
 use pp_state::print_changes;
-use pp_text::{TextWriter, print_order, print_short_decimal, print_standing, processor_heading};
+use pp_text::{
+    Lines, TextWriter, print_each_named, print_order, print_short_decimal, print_standing,
+    processor_heading,
+};
 use std::alloc::Allocator;
 use std::io::Write;
 
@@ -130,7 +132,11 @@ fn print_ending<W: Write, A: Allocator + Copy>(
 {
     let after = load_after(alloc, profile, bytes, ending.order.as_slice())?;
     print_order_line(text, ending.order.as_slice());
-    print_processors(text, &load.in_use(), &ending.goes_on, &after.machine);
+    let lines = GoingLines {
+        machine: &after.machine,
+        going: &ending.goes_on,
+    };
+    print_each_named(text, &load.in_use(), &lines);
     print_changes(text, before, &after.machine);
     Ok(())
 }
@@ -166,57 +172,30 @@ pub fn print_order_line<W: Write>(text: &mut TextWriter<W>, order: &[PpNo])
     text.print(b"\n");
 }
 
-/// Prints the lines of all processors shown, in order of number.
-fn print_processors<W: Write, A: Allocator>(
-    text: &mut TextWriter<W>,
-    shown: &[bool; PROCESSORS],
-    going: &[bool; PROCESSORS],
-    machine: &Machine<A>,
-)
-    ensures { Prints W.contents text.old text.new
-        (flat_map (going_line shown.now going.now machine.now) all_processors) }
-{
-    for place in 0..PROCESSORS {
-        print_shown_processor(text, shown, going, machine, PpNo::at(place));
-    }
+/// The lines of processors: `PP01 P=0101 A=000001 RUNNING IJM 0100,02 GOES ON` and a line feed.
+#[derive(Drop)]
+struct GoingLines<'a, A: Allocator> {
+    machine: &'a Machine<A>,
+    going: &'a [bool; PROCESSORS],
 }
 
-fn print_shown_processor<W: Write, A: Allocator>(
-    text: &mut TextWriter<W>,
-    shown: &[bool; PROCESSORS],
-    going: &[bool; PROCESSORS],
-    machine: &Machine<A>,
-    n: PpNo,
-)
-    ensures { Prints W.contents text.old text.new (going_line shown.now going.now machine.now n) }
-{
-    if shown[n.index()] {
-        print_processor(text, machine, n, going[n.index()]);
-    }
-}
+impl<'a, A: Allocator, W: Write> Lines<PpNo, W> for GoingLines<'a, A> {
+    ghost text_of = { λ lines n. processor_line n (processor_of n lines.machine.now)
+        (standing n lines.machine.now 0 ++ going_text (is_named lines.going.now n)) };
 
-/// Prints `PP01 P=0101 A=000001 RUNNING IJM 0100,02 GOES ON` and a line feed.
-fn print_processor<W: Write, A: Allocator>(
-    text: &mut TextWriter<W>,
-    machine: &Machine<A>,
-    n: PpNo,
-    goes_on: bool,
-)
-    ensures { Prints W.contents text.old text.new
-        (processor_line n (processor_of n machine.now)
-        (standing n machine.now 0 ++ going_text goes_on)) }
-{
-    text.print(&processor_heading(n, machine.pp(n)));
-    print_standing(text, machine, n, 0);
-    print_going(text, goes_on);
-    text.print(b"\n");
+    fn print(&self, text: &mut TextWriter<W>, n: &PpNo) {
+        text.print(&processor_heading(*n, self.machine.pp(*n)));
+        print_standing(text, self.machine, *n, 0);
+        print_going(text, self.going, *n);
+        text.print(b"\n");
+    }
 }
 
 /// Prints ` GOES ON`, of a processor that does.
-fn print_going<W: Write>(text: &mut TextWriter<W>, goes_on: bool)
-    ensures { Prints W.contents text.old text.new (going_text goes_on) }
+fn print_going<W: Write>(text: &mut TextWriter<W>, going: &[bool; PROCESSORS], n: PpNo)
+    ensures { Prints W.contents text.old text.new (going_text (is_named going.now n)) }
 {
-    if goes_on {
+    if going[n.index()] {
         text.print(b" GOES ON");
     }
 }

@@ -20,7 +20,7 @@ returns g c =
     let ran : after ≡ run order deck.machine = c.in_ok-after.ensures deck c.requires.meant ∙ ap (λ (ns : List ℕ). run ns deck.machine) c.as_slice.ensures.value in
     let told : List ℕ → List Bool → MachineState → List ℕ =
     λ ns shown m. order_line ns ++ flat_map (going_line shown going m) all_processors ++ changes_text deck.machine m in
-    prints_on _ _ _ _ _ _ _ (c.print_order_line.ensures ▹ c.print_processors.ensures) (c.print_changes.ensures deck.machine c.requires.stands)
+    prints_on _ _ _ _ _ _ _ (c.print_order_line.ensures ▹ c.print_each_named.ensures.text) (c.print_changes.ensures deck.machine c.requires.stands)
     (ap (λ (ns : List ℕ). told ns c.in_use.result after) c.as_slice-2.ensures.value
     ∙ ap (λ (flags : List Bool). told order flags after) c.in_use.ensures
     ∙ ap (told order (in_use deck)) ran)
