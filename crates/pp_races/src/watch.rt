@@ -197,7 +197,8 @@ impl<A: Allocator> WatchTables<A> {
             asked.now.machine.now }
         ensures watched { OnOk result ((size : ℕ) (w : Watch) → AreTables self.old size w
             → AreTables self.new size
-            (watched_need (Need.Channel asked.now.c asked.now.op) asked.now.n asked.now.machine.now w)) }
+            (watched_need (Need.Channel asked.now.c asked.now.op) asked.now.n
+            asked.now.machine.now w)) }
     {
         let channel = asked.machine.channel(asked.c);
         // The calls say to the proof that the channel exists, and that its history is lawful.
