@@ -7,7 +7,7 @@ use test_bench::{HANDOFF, LOST_AND_WAITING};
 pub(crate) type Case = (&'static [&'static str], &'static str, u64);
 
 /// Command lines that are done, or whose deck or trace is refused.
-pub(crate) const CASES: [Case; 28] = [
+pub(crate) const CASES: [Case; 29] = [
     (&["ppsim", "barrel", "--turns", "40"], HANDOFF, 5),
     (
         &["ppsim", "barrel", "--turns", "80", "--processors", "20"],
@@ -62,6 +62,11 @@ pub(crate) const CASES: [Case; 28] = [
         ],
         EXPECTED,
         7,
+    ),
+    (
+        &["ppsim", "test", "--every-order", "--states", "100"],
+        EXPECTED,
+        9,
     ),
     (&["ppsim", "check"], TRACE, 1),
     (&["ppsim", "check", "--opened", "5"], TRACE, 1),
