@@ -42,8 +42,8 @@ function typeOrder() {
   go(Math.max(at, steps.length));
 }
 
-const copyOrder = () => navigator.clipboard.writeText(orderText(list, turn()))
-  .then(() => say('The order is copied.'), fault => say(`Not copied: ${fault}`));
+const copyText = (what = '', text = '') => navigator.clipboard.writeText(text)
+  .then(() => say(`${what} is copied.`), fault => say(`Not copied: ${fault}`));
 
 /** The first step between two turns that comes to where a condition says: one held was there. */
 async function findStep(condition = '', from = 0, end = LAST_TURN) {
@@ -100,8 +100,6 @@ function showHand(/** @type {Answer} */ { status, output }) {
   $('order').value = orderText(list, length);
   $('order').ariaInvalid = 'false';
 }
-
-// ---- how the run ends
 
 /** How the run by turns of a deck ends, from which turn on, and its period; once it is known. */
 let ending = { deck, how: '', from: NaN, every: 0 };

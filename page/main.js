@@ -93,8 +93,9 @@ const drop = (/** @type {any} */ e) => { e.preventDefault(); openFile(e.dataTran
 /** What each control of the page does, by its event. */
 const DOES = {
   click: {
-    play, copy: copyOrder, save: saveFile, take: takeEvents,
-    skip: () => $('text').focus(), open: () => $('file').click(), load: () => go(0),
+    play, copy: () => copyText('The order', orderText(list, turn())), save: saveFile,
+    link: () => { remember(); copyText('The address of this moment', location.href); },
+    skip: () => $('text').focus(), open: () => $('file').click(), load: () => go(0), take: takeEvents,
     back: () => go(turn() - 1), turnOn: () => go(turn() + 1),
     roundOn: () => go(turn() + processors()), stop: () => stopWork([front, back], 0),
     steps: (/** @type {any} */ e) => stepBy(parseInt(e.target.value, 8)),

@@ -354,6 +354,32 @@ async function decks() {
   expect('the address has it', kept.startsWith('#deck=PP+3%0A0200'));
 }
 
+/** A newcomer finds the word that lost_word loses, an order that keeps it, and a link that shows it:
+ * by the names on the page, in five clicks. */
+async function newcomer() {
+  await show();
+  const named = async (selector, name) => {
+    await value(`[...document.querySelectorAll('${selector}')]
+      .find(it => it.textContent.trim() === '${name}').setAttribute('data-named', '')`);
+    await click(`${selector}[data-named]`);
+    await value(`document.querySelector('[data-named]')?.removeAttribute('data-named')`);
+  };
+  const lost = `$('picture').shadowRoot.querySelector('rect.l[y]')`;
+  await pick('example', 'lost_word');
+  await becomes('the drawing has a lost word', lost);
+  await named('#views label', 'Endings');
+  await becomes('there is another ending', `$('text').querySelectorAll('.ending').length === 2`);
+  await named('#text button', '2  ORDER 0:3,1:5,0:5');
+  await becomes('in its order no word is lost', `turn() === 13 && !${lost}`);
+  await named('#views label', 'State');
+  await becomes('processor 1 has it', `$('text').textContent.includes('PP01 P=0204 A=000007')`);
+  await named('header button', 'Link');
+  const words = Object.fromEntries(new URLSearchParams((await value(`location.hash`)).slice(1)));
+  await show(words);
+  await becomes('a link shows it', `$('order').value === '0:3,1:5,0:5' && turn() === 13 && view() === 'State'
+    && $('text').textContent.includes('PP01 P=0204 A=000007') && !${lost}`);
+}
+
 /** That an edit survives whatever a reader does. */
 async function edits() {
   await show({ example: 'handoff' });
@@ -468,8 +494,8 @@ async function frames() {
 
 async function main() {
   browser = await browsers[which]();
-  const all = { first, views, faults, moving, lists, hand, endings, exercises, decks, edits, work,
-    screens, names, frames };
+  const all = { first, views, faults, moving, lists, hand, endings, exercises, newcomer, decks, edits,
+    work, screens, names, frames };
   for (const [name, part] of Object.entries(all)) {
     if (!only || only.split(',').includes(name)) await part();
   }
