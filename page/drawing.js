@@ -19,7 +19,7 @@ function pictureOf(/** @type {string} */ text) {
   const host = make('div', { role: 'img', ariaLabel: 'Drawing of the run' });
   const sheet = new CSSStyleSheet();
   sheet.replaceSync(`${style.replaceAll(':root', ':host')}
-    @media(prefers-color-scheme:light){:host{--held:#b8730b;--lost:#8e1b10}} /* other greys than their neighbours */
+    @media(prefers-color-scheme:light){:host{--held:#b8730b;--lost:#8e1b10}} /* as greys too */
     svg{display:block} g>:last-child{paint-order:stroke;stroke:var(--ground);stroke-width:5px}
     @media print{svg{width:100%;height:auto}}`);
   host.attachShadow({ mode: 'open' }).append(document.adoptNode(parsed.documentElement));

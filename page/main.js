@@ -95,8 +95,8 @@ const DOES = {
   click: {
     play, copy: () => copyText('The order', orderText(list, turn())), save: saveFile,
     link: () => { remember(); copyText('The address of this moment', location.href); },
-    skip: () => $('text').focus(), open: () => $('file').click(), load: () => go(0), take: takeEvents,
-    back: () => go(turn() - 1), turnOn: () => go(turn() + 1),
+    skip: () => $('text').focus(), open: () => $('file').click(), take: takeEvents,
+    load: () => go(0), back: () => go(turn() - 1), turnOn: () => go(turn() + 1),
     roundOn: () => go(turn() + processors()), stop: () => stopWork([front, back], 0),
     steps: (/** @type {any} */ e) => stepBy(parseInt(e.target.value, 8)),
     views: (/** @type {any} */ e) => { // by a mouse: keys go to the text
