@@ -3,19 +3,16 @@
 
 const MOST_BYTES = 1048577, MOST_IN_ADDRESS = 32768; // the first is one more than a deck may have
 const MOST_INSERTED = 100000, MOST_OWN = 30; // characters that undo takes back; decks kept
-const OWN = 'own ', STORED = 'ppsim deck ', FIRST_NAME = 'my';
-/** @typedef {{ deck: string, processors: number, turns: number, turn?: number, order?: string }} Run */
-/** @typedef {Run & { id: string, name: string }} Own */
+const OWN = 'own ', STORED = 'ppsim deck '; // before the number of a deck
 
-/** @type {Own[]} */
-let own = [];
-let chosen = '', isLoading = false, saving = 0;
+let /** @type {Own[]} */ own = [], chosen = '', isLoading = false, saving = 0;
 const turn = () => $('turn').valueAsNumber, last = () => Number($('turn').max);
 /** The deck of one's own that is in the editor, if it is no example. */
 const mine = () => own.find(it => OWN + it.id === chosen);
-/** @type {() => Run} */
-const runShown = () => ({ deck: $('deck').value, processors: processors(), turns: last(), turn: turn(),
-  order: orderText(list) });
+/** All decks that can be chosen, by name. */
+const decks = () => ({ ...EXAMPLES, ...Object.fromEntries(own.map(it => [OWN + it.id, it])) });
+const runShown = () => ({ deck: $('deck').value, processors: processors(), turns: last(),
+  turn: turn(), view: view(), order: orderText(list) });
 
 function readStored() {
   try {
@@ -25,49 +22,43 @@ function readStored() {
   } catch {} // a browser may forbid its storage: then decks last as long as the page
 }
 
-/** Writes a deck of one's own to the storage; if it is full, the oldest give way. */
-function store(/** @type {Own} */ it) {
-  for (let others = own.filter(other => other !== it); ; others.shift()) {
-    try {
-      localStorage.setItem(STORED + it.id, JSON.stringify(it));
-      return true;
-    } catch {
-      if (!others.length) return false;
-      try { localStorage.removeItem(STORED + others[0].id); } catch { return false; }
-    }
-  }
+/** Keeps the deck in the editor, if it is no example; false if the storage is full or forbidden. */
+function keepMine() {
+  const it = mine();
+  try {
+    if (it) localStorage.setItem(STORED + it.id, JSON.stringify(Object.assign(it, runShown())));
+    return true;
+  } catch { return false; }
 }
 
-function newOwn(/** @type {string} */ name, /** @type {Run} */ run) {
-  const same = own.find(it => it.deck === run.deck && (it.name === name || name === FIRST_NAME));
-  if (same) return Object.assign(same, run);
-  let free = name;
-  for (let n = 2; own.some(it => it.name === free); n++) free = `${name}-${n}`;
-  const id = Date.now().toString(36).padStart(9, '0') + own.length;
-  own.push({ ...run, id, name: free });
-  return own[own.length - 1];
+/** Makes a run one's own, under such a name; one that has the same deck is there already. */
+function adopt(/** @type {Run} */ run, name = '') {
+  const same = own.find(it => it.deck === run.deck && it.name.startsWith(name));
+  const id = Date.now().toString(36).padStart(9, '0') + own.length, first = name || 'my deck';
+  const used = own.map(it => it.name), free = [first, ...used.map((_, n) => `${first} ${n + 2}`)];
+  if (same) Object.assign(same, run);
+  else own.push({ ...run, id, name: free.find(it => !used.includes(it)) ?? first });
+  return OWN + (same?.id ?? id);
 }
 
-/** Puts the decks of one's own before the examples, the latest first. */
+/** Lists the decks of one's own before the examples, the latest first. */
 function listDecks() {
-  const label = (/** @type {string} */ name) => (name === FIRST_NAME ? 'a deck of your own'
-    : name.startsWith(`${FIRST_NAME}-`) ? `a deck of your own, ${name.slice(3)}` : name);
-  const options = own.map(({ id, name }) => make('option', { value: OWN + id, textContent: label(name) }));
+  const options = own.map(({ id, name }) => make('option', { value: OWN + id, textContent: name }));
   $('own').replaceChildren(...options.reverse());
   $('own').hidden = !own.length;
   $('example').value = chosen;
-  $('about').textContent = EXAMPLES[chosen]?.title ?? '';
+  $('about').textContent = $('about').title = EXAMPLES[chosen]?.title ?? '';
 }
 
 /** Shows a deck. What stood in the editor stays among one's own, and undo brings it back too. */
-function load(/** @type {string} */ choice, /** @type {Run} */ run, isFirst = false) {
-  const { deck: text, order = '', turns, turn: at = turns } = run, editor = $('deck');
+function load(/** @type {string} */ choice, /** @type {Run} */ run = decks()[choice]) {
+  const text = run.deck, editor = $('deck'), focused = document.activeElement;
   keepMine();
   chosen = choice;
   isLoading = true;
-  if (isFirst || Math.max(text.length, editor.value.length) > MOST_INSERTED) editor.value = text;
+  const length = Math.max(text.length, editor.value.length);
+  if (!editor.value || length > MOST_INSERTED) editor.value = text;
   else if (editor.value !== text) {
-    const focused = document.activeElement;
     editor.focus({ preventScroll: true });
     editor.select();
     if (!document.execCommand('insertText', false, text)) editor.value = text;
@@ -76,87 +67,71 @@ function load(/** @type {string} */ choice, /** @type {Run} */ run, isFirst = fa
     /** @type {HTMLElement | null} */ (focused)?.focus({ preventScroll: true });
   }
   isLoading = false;
-  takeRun({ ...run, order, turn: at });
-  listDecks();
+  takeRun(run);
 }
 
-/** Takes the machine, the list, the length and the turn of a run. */
-function takeRun(/** @type {Run} */ { processors, order = '', turns, turn }) {
+/** Takes the machine, the list, the length, the turn and the view of the run of the deck chosen. */
+function takeRun(/** @type {Run} */ { processors, order = '', turns, turn = turns, view }) {
   $('processors').value = String(processors) === '20' ? 20 : 10;
   list = orderOf(order) ?? [];
-  const to = Math.min(LAST_TURN, Math.max(0, Math.trunc(Number(turns)) || 0));
-  $('last').value = $('turn').max = to;
-  $('turn').value = Math.min(to, Math.max(0, Math.trunc(Number(turn ?? to)) || 0));
+  setLast(Math.trunc(Number(turns)) || 0);
+  $('turn').value = Math.trunc(Number(turn)) || 0;
+  if (view) pickView(view);
+  listDecks();
   renew();
 }
 
-/** The text in the editor is no longer what was loaded. */
+/** The text in the editor is another; by undo it may be that of another deck. */
 function edited(/** @type {InputEvent} */ e) {
   if (isLoading) return;
-  const text = $('deck').value, isUndo = e.inputType?.startsWith('history');
-  const known = isUndo ? own.find(it => it.deck === text) : null;
-  const example = isUndo && Object.keys(EXAMPLES).find(it => EXAMPLES[it].deck === text);
-  const isOther = known ? known !== mine() : example;
-  if (isOther) {
-    chosen = known ? OWN + known.id : example || '';
-    takeRun(known ?? EXAMPLES[chosen]);
-    return listDecks();
+  const isUndo = e.inputType?.startsWith('history'), all = decks();
+  const same = isUndo && Object.keys(all).find(it => all[it].deck === $('deck').value);
+  if (same && same !== chosen) {
+    chosen = same;
+    return takeRun(all[same]);
   }
-  const run = { ...runShown(), deck: text };
-  if (!mine()) {
-    chosen = OWN + newOwn(FIRST_NAME, run).id;
-    listDecks();
-  }
-  Object.assign(mine() ?? {}, { deck: text });
+  if (!mine()) chosen = adopt(runShown(), `my ${chosen}`);
+  listDecks();
   renew();
 }
 
-function keepMine() {
-  const it = mine();
-  if (it) Object.assign(it, runShown());
-  return it ? store(it) : true;
-}
-
-async function openFile(/** @type {File} */ file) {
+async function openFile(/** @type {File | undefined} */ file) {
   if (!file) return;
-  const text = await file.slice(0, MOST_BYTES).text(), name = file.name.replace(/\.[^.]*$/, '') || FIRST_NAME;
-  const it = newOwn(name, { ...runShown(), deck: text, order: '' });
-  load(OWN + it.id, it);
+  const text = await file.slice(0, MOST_BYTES).text(), name = file.name.replace(/\.[^.]*$/, '');
+  load(adopt({ ...runShown(), deck: text, order: '' }, name));
 }
 
 function saveFile() {
-  const href = URL.createObjectURL(new Blob([deck], { type: 'text/plain' }));
-  make('a', { href, download: `${mine()?.name ?? chosen}.deck` }).click();
-  setTimeout(() => URL.revokeObjectURL(href), 1000);
+  const href = `data:text/plain;charset=utf-8,${encodeURIComponent($('deck').value)}`;
+  make('a', { href, download: `${(mine()?.name ?? chosen).replaceAll(' ', '_')}.deck` }).click();
 }
 
 /** The address keeps the example, or else the deck itself, and the run, the turn and the view. What
-    is too long for it the storage keeps, under a number that the address has. */
+ * is too long for it the storage keeps, under a number that the address has. */
 function remember() {
-  const { deck: text, order = '', ...run } = runShown(), it = mine(), isInStorage = keepMine();
-  const isLong = text.length + order.length > MOST_IN_ADDRESS, opened = $('opened').value;
-  const whose = !it ? { example: chosen } : isLong ? { kept: it.id } : { deck: text };
-  const words = new URLSearchParams({ ...whose, processors: `${run.processors}`, turns: `${run.turns}`,
-    turn: `${run.turn}`, ...(order && (!isLong || !it) && order.length <= MOST_IN_ADDRESS && { order }),
-    view: view(), ...(opened && { opened }), ...($('pp').value !== '0' && { pp: $('pp').value }),
-    ...(view() === 'Endings' && { states: $('states').value }) });
-  history.replaceState(null, '', isLong && it && !isInStorage ? '#' : `#${words}`);
-  $('kept').textContent = !isLong ? '' : !it ? 'The order is too long for the address: copy it.'
-    : isInStorage ? 'Too long for the address: kept in this browser. To share it, save it.'
-    : 'Too long for the address and for the browser\'s storage: save it.';
+  const { deck, order, ...run } = runShown(), it = mine(), isStored = keepMine();
+  const isLong = deck.length + order.length > MOST_IN_ADDRESS, opened = $('opened').value;
+  const pp = $('pp').value, states = $('states').value;
+  const words = new URLSearchParams(/** @type {any} */ ({
+    ...(!it ? { example: chosen } : isLong ? { kept: it.id } : { deck }), ...run,
+    ...(order && !isLong && { order }), ...(opened && { opened }), ...(pp !== '0' && { pp }),
+    ...(run.view === 'Endings' && { states }) }));
+  history.replaceState(null, '', isLong && it && !isStored ? '#' : `#${words}`);
+  $('kept').textContent = !isStored ? 'This browser does not keep the deck: save it.' : !isLong ? ''
+    : `Too long for the address: to share it, ${it ? 'save the deck' : 'copy the order'}.`;
 }
 
-function recall(/** @type {boolean} */ isFirst) {
+/** Shows what the address says, or else the first example. */
+function recall() {
   const given = Object.fromEntries(new URLSearchParams(location.hash.slice(1)));
   const example = Object.hasOwn(EXAMPLES, given.example) ? given.example : Object.keys(EXAMPLES)[0];
   const stored = own.find(it => it.id === given.kept);
-  $('views').elements.view.value = Object.hasOwn(VIEWS, given.view) ? given.view : 'State';
+  const run = /** @type {any} */ ({ processors: 10, turns: 200, ...given });
   $('opened').value = given.opened ?? '';
   if (given.states) $('states').value = given.states;
-  if (given.pp) $('pp').dataset.wanted = given.pp;
-  const from = { processors: 10, turns: 200, ...given };
-  if (stored) load(OWN + stored.id, { ...stored, ...given, deck: stored.deck }, isFirst);
-  else if ('deck' in given) load(OWN + newOwn(FIRST_NAME, { ...from, deck: given.deck }).id, { ...from, deck: given.deck }, isFirst);
-  else load(example, { ...EXAMPLES[example], ...given, deck: EXAMPLES[example].deck }, isFirst);
-  if (given.kept && !stored) say('The deck of this address is kept in another browser, or no longer: open its file.');
+  $('pp').value = given.pp ?? 0;
+  if (stored) load(OWN + stored.id, { ...stored, ...given, deck: stored.deck });
+  else if ('deck' in given) load(adopt(run), run);
+  else load(example, { ...EXAMPLES[example], ...given, deck: EXAMPLES[example].deck });
+  if (given.kept && !stored) say('The deck of this address is not in this browser: open its file.');
 }

@@ -1,34 +1,42 @@
 // ---- the drawing
 
 const MOST_DRAWN = 2000;
-/** @type {{ answer: Answer, from: number, to: number, width: number, names: Element[], legend: Element } | null} */
-let drawn = null;
+let /** @type {Drawn | null} */ drawn = null;
 
 /** The command that draws the part of the run in which the turn is. */
 function drawingWords() {
   const half = MOST_DRAWN / 2, near = Math.floor((turn() - half / 2) / half) * half;
   const from = Math.max(0, Math.min(near, last() - MOST_DRAWN));
-  return overRun('draw', last(), '--from', `${from}`, '--to', `${Math.min(last(), from + MOST_DRAWN)}`);
+  const to = Math.min(last(), from + MOST_DRAWN);
+  return overRun('draw', last(), '--from', `${from}`, '--to', `${to}`);
+}
+
+/** A drawing as an element. Its text is the only one that is read as markup: it is proved
+ * well-formed, and has no text of a deck in it. */
+function pictureOf(/** @type {string} */ text) {
+  const [element, style] = /<style>(.*?)<\/style>/s.exec(text) ?? ['', ''];
+  const parsed = new DOMParser().parseFromString(text.replace(element, ''), 'image/svg+xml');
+  const host = make('div', { role: 'img', ariaLabel: 'Drawing of the run' });
+  const sheet = new CSSStyleSheet();
+  sheet.replaceSync(`${style.replaceAll(':root', ':host')}
+    @media(prefers-color-scheme:light){:host{--held:#b8730b;--lost:#8e1b10}} /* as greys too */
+    svg{display:block} g>:last-child{paint-order:stroke;stroke:var(--ground);stroke-width:5px}
+    @media print{svg{width:100%;height:auto}}`);
+  host.attachShadow({ mode: 'open' }).append(document.adoptNode(parsed.documentElement));
+  host.shadowRoot.adoptedStyleSheets = [sheet];
+  return host;
 }
 
 /** Shows a drawing. Over a faulty deck the last one stays. */
 function draw(/** @type {string[]} */ words, /** @type {Answer} */ answer) {
-  const { status, output } = answer, root = $('picture').shadowRoot;
+  const { status, output } = answer;
   if (status >= 0) $('drawing').classList.toggle('old', status !== 0);
   if (status !== 0 || drawn?.answer === answer) return moveCursor();
-  // The one text that is read as markup: it is proved well-formed, and has no text of a deck in it.
-  const [element, style] = /** @type {RegExpExecArray} */ (/<style>(.*?)<\/style>/s.exec(output));
-  const parsed = new DOMParser().parseFromString(output.replace(element, ''), 'image/svg+xml');
-  const picture = document.adoptNode(parsed.documentElement);
-  root.adoptedStyleSheets = [new CSSStyleSheet()];
-  root.adoptedStyleSheets[0].replaceSync(`${style.replaceAll(':root', ':host')}
-    svg{display:block} g>:last-child{paint-order:stroke;stroke:var(--ground);stroke-width:5px}
-    @media print{svg{width:100%;height:auto}}`);
-  root.replaceChildren(picture);
-  const names = [...picture.querySelectorAll("text[x='-72']")];
-  const legend = /** @type {Element} */ (picture.querySelector('g'));
+  const host = pictureOf(output), picture = host.shadowRoot.firstChild;
+  $('picture').replaceWith(Object.assign(host, { id: 'picture' }));
+  const names = [...picture.querySelectorAll("text[x='-72']")], legend = picture.querySelector('g');
   for (const name of names) name.parentNode?.append(name); // over the bands
-  const at = words.indexOf('--from'), from = Number(words[at + 1]), to = Number(words[at + 3]);
+  const [from, to] = ['--from', '--to'].map(it => Number(words[words.indexOf(it) + 1]));
   drawn = { answer, from, to, width: to - from <= 100 ? 10 : 4, names, legend };
   keepNames();
   moveCursor();

@@ -2,7 +2,6 @@
 
 let library, idle = null;
 const NO_MEMORY = 4, TOO_LONG = 5; // statuses of an answer
-const bytesOf = text => new TextEncoder().encode(text);
 const aligned = n => Math.ceil(n / 16) * 16;
 
 /** What the program answers to these words: a status, its standard output, its standard error. An
@@ -14,7 +13,8 @@ function run(words, input, megabytes = 4) {
   const bytes = new Uint8Array(exports.memory.buffer), view = new DataView(bytes.buffer);
   // One after another: the answer, where the memory for the work is, the words, the input, the room
   // for the texts, the memory for the work.
-  const asked = bytesOf(words.join('\0')), answer = aligned(Number(exports.__heap_base.value));
+  const asked = new TextEncoder().encode(words.join('\0'));
+  const answer = aligned(Number(exports.__heap_base.value));
   const memory = answer + 32, place = memory + 16, start = place + asked.length;
   const room = aligned(start + input.length), size = aligned((bytes.length - room) / 2) - 16;
   if (size < 65536) return run(words, input, 4 * megabytes);
@@ -22,20 +22,19 @@ function run(words, input, megabytes = 4) {
   lent.forEach((it, n) => view.setBigUint64(memory + 8 * n, it, true));
   bytes.set(asked, place);
   bytes.set(input, start);
-  exports.ppsim_run(...[answer, memory, place, asked.length, start, input.length, room, size].map(BigInt));
+  const given = [answer, memory, place, asked.length, start, input.length, room, size];
+  exports.ppsim_run(...given.map(BigInt));
   const status = view.getUint32(answer, true), isCut = status === NO_MEMORY || status === TOO_LONG;
   const [output, error] = [8, 16].map(it => Number(view.getBigUint64(answer + it, true)));
   const isBack = lent.every((it, n) => view.getBigUint64(memory + 8 * n, true) === it);
   if (isBack && !isCut && megabytes === 4) idle = instance; // one that has grown does not shrink
   if (isCut && megabytes < 1024) return run(words, input, 4 * megabytes);
   if (isCut) return { status: NO_MEMORY, output: '', error: 'ppsim: out of memory\n' };
-  const textOf = (from, length) => new TextDecoder().decode(bytes.subarray(from, from + length));
-  return { status, output: textOf(room, output), error: textOf(room, error) };
+  const textOf = length => new TextDecoder().decode(bytes.subarray(room, room + length));
+  return { status, output: textOf(output), error: textOf(error) };
 }
 
-// ---- what the page asks
-
-onmessage = ({ data: { module, id, words, input } }) => {
+onmessage = ({ data: { module, words, input } }) => {
   if (module) library = module;
-  else postMessage({ id, ...run(words, input) });
+  else postMessage(run(words, input));
 };

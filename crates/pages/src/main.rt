@@ -19,11 +19,12 @@ use std::sync::Wait;
 use std::thread::Threads;
 
 /// The pages whose commands are run. Links at the top of the repository lead to the first four.
-const PAGES: [&str; 28] = [
+const PAGES: [&str; 29] = [
     "README.md",
     "TUTORIAL.md",
     "VIEWS.md",
     "examples/README.md",
+    "examples/exercises/README.md",
     "cases/barrel.md",
     "cases/dead_start.md",
     "cases/threads.md",
