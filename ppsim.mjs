@@ -1,7 +1,8 @@
 // node ppsim.mjs COMMAND [OPTION..] < DECK
 //
 // The simulator where only Node is there, by the module in ppsim.html beside this file. It prints
-// what the program prints, and ends with its status; it reads standard input only, and has no threads.
+// what the program prints, and ends with its status, its help too; it reads standard input only, and
+// has no threads.
 import { readFileSync } from 'node:fs';
 import { inflateSync } from 'node:zlib';
 
@@ -51,8 +52,11 @@ try { module = library(); } catch (fault) {
     + '(in older ones node --experimental-wasm-memory64, if they have it).');
   process.exit(3);
 }
-const words = Buffer.from(process.argv.slice(2).join('\0'));
-const { status, output, error } = answered(module, words, readFileSync(0));
+// An empty word alone is passed as two: an empty text has none.
+const asked = process.argv.slice(2), words = Buffer.from(asked.join('\0') || '\0'.repeat(asked.length));
+// Help and refusals wait for no input. This one is refused wherever it is read.
+const first = answered(module, words, Uint8Array.of(255));
+const { status, output, error } = first.status === 1 ? answered(module, words, readFileSync(0)) : first;
 process.stdout.on('error', () => process.exit(3)); // a reader that ended early
 process.stdout.write(output);
 process.stderr.write(error);

@@ -21,8 +21,8 @@ enum {
 };
 
 /* The status is one of these, but for the last the program's own. The room begins with the text for
-   the program's standard output, of `output` bytes; or, if there is none, with `error` bytes of the
-   line for its standard error, as many as there is room for. */
+   the program's standard output, of `output` bytes; or, if there is none, with `error` bytes of that
+   for its standard error, as many as there is room for. */
 typedef struct {
     uint32_t status;
     uint64_t output;
@@ -49,8 +49,9 @@ static inline ppsim_memory ppsim_memory_in(void *bytes, size_t size) {
 }
 
 /* The words are those that the program takes behind its own name, with a byte 0 between two of them:
-   "state\0--turns\0" "40", in two pieces since \040 is one byte. They name no file, and do not ask
-   for threads or help. The input is a deck, or a trace for `check`. */
+   "state\0--turns\0" "40", in two pieces since \040 is one byte; an empty text has no word. They may
+   ask for help, but neither name a file nor ask for threads. The input is a deck, or a trace for
+   `check`. */
 ppsim_answer ppsim_run(ppsim_memory *memory, const uint8_t *words, size_t words_length,
                        const uint8_t *input, size_t input_length, uint8_t *room, size_t room_length);
 

@@ -97,10 +97,12 @@ _ppsim_run = _load()
 
 def run(words: Sequence[str], deck: str | bytes = "") -> Result:
     """What the program answers to these words behind its own name, over a deck, or for `check` a
-    trace, as its standard input. No word may name a file or be `threads` or `--help` (status 2)."""
+    trace, as its standard input; its help too. They may neither name a file nor ask for threads
+    (status 2)."""
     if any("\0" in word for word in words):
         raise ValueError("a byte 0 in a word")
-    text = "\0".join(words).encode(errors="surrogateescape")
+    # An empty word alone is passed as two: an empty text has none.
+    text = ("\0".join(words) or "\0" * len(words)).encode(errors="surrogateescape")
     given = deck.encode() if isinstance(deck, str) else bytes(deck)
     while True:
         memory, room = _buffers.memory, _buffers.room

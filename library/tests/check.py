@@ -1,6 +1,5 @@
 """usage: check.py FOLDER PROGRAM: compares `run` of the module in the folder with the program: status
-and both texts, but of the line about refused words only that there is one, as the program's own is
-often clap's."""
+and both texts."""
 
 import pathlib
 import subprocess
@@ -27,7 +26,13 @@ REFUSED = ["", "barrels", "barrel", "list --turns 1", "barrel --turns", "barrel 
            "central --turns 1 --last 400000", "barrel --turns 1 --until CH5=3", "list - -",
            "barrel --turns 1 --times 2", "barrel --turns 1 --order 12", "barrel --turns 1 --order 0,",
            "barrel --turns 1 --order 0:1000000", "check --opened 1,99", "sessions --words=1 --turns 1"]
-OTHERS = ["threads --steps 1 --patience 1", "list handoff.deck", "help", "list --help", "--version"]
+SLIPS = ["bogus", "barel --turns 1", "te", "-- barrel", "-- barel", "--", "-x", "--hel", "--turns 1 barrel",
+         "--help=1", "barrel --tur 1", "barrel - --bogus=1", "barrel --turns -x", "barrel --turns --bogus",
+         "barrel --order 0 --order 1 --bogus", "barrel --turns 1 --turns 2 -- x", "list - --help=1",
+         "sessions --words --words", "sessions --order 0 --words=", "barrel -- --turns 1", "help bogus",
+         "help list x", "help help x"]
+HELP = ["help", "--help", "-h", "-hx", "--version", "-V", "help help"]
+OTHERS = ["threads --steps 1 --patience 1", "list handoff.deck", "list -- --help"]
 differ = same = 0
 
 
@@ -42,11 +47,8 @@ def expect(is_so, words, *shown):
 
 def compare(words, given):
     mine = ppsim.run(words, given)
-    it = subprocess.run([program, *words], input=given, capture_output=True)
+    it = subprocess.run(["ppsim", *words], executable=program, input=given, capture_output=True)
     its = ppsim.Result(it.returncode, it.stdout.decode(), it.stderr.decode())
-    if its.error.startswith("error: "):
-        expect(mine.error.startswith("ppsim: "), words, mine)
-        its = its._replace(error=mine.error)
     expect(mine == its, words, mine, its)
 
 
@@ -64,13 +66,17 @@ for path in sorted(EXAMPLES.glob("*.text")):
     for line in ["check", "check --opened 1,13"]:
         compare(line.split(), path.read_bytes())
 some = (EXAMPLES / "handoff.deck").read_bytes()
-for line in REFUSED:
+for line in REFUSED + SLIPS + HELP:
     compare(line.split(), some)
+for name in [*{line.split()[0] for line in PLAIN + RUNS}, "threads", "check"]:
+    for words in (["help", name], [name, "--help"], [name, "-h"], [name, "--processors", "20", "-h"]):
+        compare(words, some)
+compare([""], some)
 compare(["state", "--turns", "1", "--order", ""], some)
 compare(["list", "\udcff"], some)
 compare(["list"], "PP 0\n0100 \u00e9".encode())
 compare(["list"], b" " * 1048577)
-for line in OTHERS:  # the program's own: it has threads, files and help
+for line in OTHERS:  # the program's own: it has threads and files
     it = ppsim.run(line.split(), some)
     expect(it.status == 2 and not it.output and it.error.startswith("ppsim: "), line, it)
 print(f"module and program: {same} the same, {differ} differ")

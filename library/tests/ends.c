@@ -84,8 +84,8 @@ static void refused(void) {
         size_t length;
     } all[] = {
         {TEXT("")}, {TEXT("\0")}, {TEXT("barrels")}, {TEXT("barrel\0")}, {TEXT("barrel")},
-        {TEXT("list\0deck")}, {TEXT("list\0-\0-")}, {TEXT("help")}, {TEXT("list\0--help")},
-        {TEXT("--version")}, {TEXT("list\0--turns\0" "1")}, {TEXT("barrel\0--turns")},
+        {TEXT("list\0deck")}, {TEXT("list\0-\0-")}, {TEXT("help\0barrels")}, {TEXT("list\0--help=1")},
+        {TEXT("--versio")}, {TEXT("list\0--turns\0" "1")}, {TEXT("barrel\0--turns")},
         {TEXT("barrel\0--turns\0" "1\0--turns\0" "1")}, {TEXT("barrel\0--turns\0" "1\0")},
         {TEXT("barrel\0--turns\0" "1000000")}, {TEXT("barrel\0--turns\0" "-1")},
         {TEXT("barrel\0--turns\0" "1\0--processors\0" "11")}, {TEXT("orders\0--states\0" "0")},
@@ -95,11 +95,29 @@ static void refused(void) {
     for (size_t i = 0; i < sizeof all / sizeof *all; i++) {
         ppsim_answer it = run(all[i].words, all[i].length);
         expect(it.status == PPSIM_BAD_USAGE && it.output == 0 && it.error > 0, "refused words", i);
-        expect(!memcmp(text, "ppsim: ", 7) && text[it.error - 1] == '\n', "a line for words", i);
+        expect(text[it.error - 1] == '\n', "a line for words", i);
     }
-    expect(says(run(TEXT("list\0--turns")), "ppsim: unexpected: --turns\n"), "a line about words", 0);
+    expect(says(run(TEXT("barrel\0--turns")), "error: a value is required for '--turns <N>' but none was "
+                "supplied\n\nFor more information, try '--help'.\n"), "a line about words", 0);
     expect(says(run(TEXT("state\0--turns\0x")), "ppsim: number out of range\n"), "a number", 0);
     expect(run(TEXT("list\0-")).status == PPSIM_DONE, "the input by name", 0);
+}
+
+static void helps(void) {
+    static const char start[] = "Prints the listing of a deck, one instruction a line, which is itself a deck\n\n"
+                                "Usage: ppsim list [OPTIONS] [FILE]\n";
+    ppsim_answer whole = run(TEXT("list\0-h"));
+    expect(whole.status == PPSIM_DONE && !memcmp(text, start, sizeof start - 1), "help", whole.output);
+    for (size_t room = 0; room < whole.output; room++)
+        expect(run_in(MEMORY, room, TEXT("list\0-h"), TEXT("")).status == PPSIM_TOO_LONG, "help in", room);
+    expect(run(TEXT("help\0list")).status == PPSIM_DONE, "help by name", 0);
+    expect(run(TEXT("--version")).status == PPSIM_DONE, "the version", 0);
+    for (size_t size = 0; size < 65536; size += 16) {
+        ppsim_answer it = run_in(size, ROOM, TEXT("list\0-h"), TEXT(""));
+        expect(it.status == (it.output ? PPSIM_DONE : PPSIM_NO_MEMORY), "help in memory of", size);
+        it = run_in(size, ROOM, TEXT("list\0--turn"), TEXT(""));
+        expect(it.status == PPSIM_BAD_USAGE || it.status == PPSIM_NO_MEMORY, "a refusal in memory of", size);
+    }
 }
 
 static ppsim_answer run_in_order(size_t size, const char *order) {
@@ -150,6 +168,7 @@ int main(void) {
     rooms();
     memories();
     refused();
+    helps();
     orders();
     inputs();
     printf("ends: %s\n", wrong ? "not as they should be" : "as they should be");

@@ -1,8 +1,9 @@
 // node --experimental-wasm-memory64 compare.js LIBRARY.wasm [PROGRAM]
 //
-// Compares the library, called as the page calls it, with the program, byte for byte: on each case
-// of the pages, on decks and traces with bytes changed at random, and on words changed at random.
-// Then it calls with little memory and little room. The status is 1 if anything differs.
+// Compares the library, called as the page calls it, with the program: the status and both texts,
+// byte for byte. First it calls with little memory and little room; then it goes through each case of
+// the pages, decks and traces with bytes changed at random, and words with slips of every kind, help
+// and the version among them. The status is 1 if anything differs.
 'use strict';
 const fs = require('fs'), path = require('path');
 const { spawnSync } = require('child_process');
@@ -23,29 +24,22 @@ WebAssembly.Memory.prototype.grow = function (pages) {
   try { return grow.call(this, pages); } catch { return grow.call(this, Number(pages)); }
 };
 
-let same = 0, refused = 0, differ = 0, others = 0;
+let same = 0, refused = 0, asked = 0, differ = 0, others = 0;
 
-/** Whether the words ask for what the library has not: help, the version, threads. */
-const isOther = words => !words.length || ['help', 'threads'].includes(words[0])
-  || words.some(it => /^(-h|-V|--help|--version)/.test(it));
-
-/** Compares status and both texts; of words that are refused the status, as clap has its own texts
-    for them. */
+/** Compares status and both texts. The library refuses the name of a file, which the program reads or
+    does not find, and threads. An empty word alone is passed as two, as an empty text has none. */
 function compare(words, input) {
-  if (isOther(words)) return void others++;
-  const mine = run(words, input);
-  const its = spawnSync(program, words, { input, maxBuffer: 1 << 30 });
+  const mine = run(words.length === 1 && !words[0] ? ['', ''] : words, input);
+  if (/^ppsim: (no file is read|there are no threads) here/.test(mine.error)) return void others++;
+  const its = spawnSync(program, words, { argv0: 'ppsim', input, maxBuffer: 1 << 30 });
   if (its.error && its.error.code !== 'EPIPE') throw its.error; // it need not read its input
   const output = its.stdout.toString(), error = its.stderr.toString();
-  // A file that is named is read by the program, or is not there; the library refuses it.
-  if (mine.error.includes('no file is read here')) return void others++;
-  const isSame = mine.status === its.status
-    && (mine.status === 2 || (mine.output === output && mine.error === error));
-  if (isSame) {
+  if (mine.status === its.status && mine.output === output && mine.error === error) {
     same++;
-    refused += mine.status > 0;
+    refused += mine.status === 2;
+    asked += /^(Usage|Options):|^ppsim 1/m.test(output);
   } else if (differ++ < 10) {
-    console.log('differs:', words.join(' '), mine.status, mine.output.slice(0, 200), mine.error);
+    console.log('differs:', words, mine.status, mine.output.slice(0, 200), mine.error);
     console.log('program:', its.status, output.slice(0, 200), error);
   }
 }
@@ -132,33 +126,62 @@ const OPTIONS = {
   test: ['turns', 'order', 'until'],
   memory: ['turns', 'pp', 'first', 'last', 'order'], central: ['turns', 'first', 'last', 'order'],
   steps: ['turns', 'pps', 'ch', 'from', 'to', 'where', 'order', 'until'],
-  draw: ['turns', 'from', 'order'], check: ['opened'],
+  draw: ['turns', 'from', 'order'], check: ['opened'], threads: ['steps', 'patience'],
 };
-const NAMES = Object.keys(OPTIONS);
+const NAMES = Object.keys(OPTIONS).filter(it => it !== 'threads');
 const CONDITIONS = ['PP00 P=0103', 'PP01 (0302)', 'PP00 STOPPED', 'PP01 HELD', 'CM 20', 'CH05', 'CH05 DCN', 'LOST', 'QUIET', 'PP40 P=1', 'CH5', ''];
 const VALUES = {
   turns: () => random(400), states: () => 1 + random(300), order, until: () => CONDITIONS[random(CONDITIONS.length)],
   where: () => CONDITIONS[random(CONDITIONS.length)], pp: () => random(10).toString(8), pps: () => `${random(8)},1`,
   ch: () => '5,1', from: () => random(100), to: () => 100 + random(300), first: () => random(200).toString(8),
-  last: () => (200 + random(4000)).toString(8), opened: () => '1,5,13',
+  last: () => (200 + random(4000)).toString(8), opened: () => '1,5,13', steps: () => 5, patience: () => 5, times: () => 1, processors: () => 10,
 };
 
-/** The words of a command, now and then with a slip: a word twice, left out or changed. */
+/** The words of a command, with some of its options. */
 function wordsOf(name) {
   const words = [name];
   for (const option of OPTIONS[name]) {
-    if (!['turns', 'states'].includes(option) && !(option === 'pp') && random(2)) continue;
+    if (!['turns', 'states', 'steps', 'patience', 'pp'].includes(option) && random(2)) continue;
     if (option === 'words') { words.push('--words'); continue; }
     const value = String(VALUES[option]()), named = option === 'pps' ? '--pp' : `--${option}`;
     words.push(...(random(5) ? [named, value] : [`${named}=${value}`]));
   }
   if (name !== 'check' && !random(3)) words.push('--processors', random(9) ? '20' : '12');
   if (!random(12)) words.push('-');
-  const place = random(words.length), slip = random(24);
-  if (slip === 0) words.splice(place, 1);
-  if (slip === 1) words.splice(place, 0, words[place]);
-  if (slip === 2) words[place] = ['--', '-t', '--=', '--words=1', '-5', '1000000', '--turn', 'x', '--times', '--turns='][random(10)];
   return words;
+}
+
+const LETTERS = 'abcdefghijklmnopqrstuvwxyz-=';
+const WORDS = ['--help', '-h', '--version', '-V', '--', '-', '', 'help', '--help=1', '--version=', '-hx', '-xh',
+  '-Vh', '--words', '--words=', '--words=1', '--turns', '--turns=', '--order', '0:3', '-5', '-t', '--=', '---x',
+  '--é', '-é', 'x', '40', '1000000', 'barrel', 'state', '--times', '--no-such-option'];
+const any = list => list[random(list.length)];
+
+/** A word with a letter more, less or changed, or with two that are swapped. */
+function misspelt(word) {
+  const at = random(word.length + 1), rest = word.slice(at), letter = LETTERS[random(LETTERS.length)];
+  const swapped = (rest[1] ?? '') + (rest[0] ?? '') + rest.slice(2);
+  return word.slice(0, at) + [letter + rest, rest.slice(1), letter + rest.slice(1), swapped][random(4)];
+}
+
+/** Words with a slip: one left out, twice, misspelt or of another kind, or an option that may be one
+    of another command. */
+function slipped(words) {
+  const made = [...words], place = random(made.length + 1), kind = random(7);
+  if (kind === 0) made.splice(place, 1);
+  else if (kind === 1) made.splice(place, 0, made[random(made.length)] ?? '');
+  else if (kind === 2) made[place] = misspelt(made[place] ?? '');
+  else if (kind === 3) made.splice(place, 0, misspelt(`--${any(Object.keys(VALUES))}`));
+  else if (kind === 4) made.splice(place, 0, `--${any(Object.keys(VALUES))}`);
+  else made.splice(place, 0, any(WORDS));
+  return made;
+}
+
+/** Words that ask for help, or begin with no command. */
+function oddWords() {
+  const parts = [() => any(NAMES), () => misspelt(any(NAMES)), () => any(WORDS), () => 'help'];
+  const made = Array.from({ length: random(4) }, () => any(parts)());
+  return random(3) ? made : ['help', ...made];
 }
 
 function compareRandom() {
@@ -167,8 +190,14 @@ function compareRandom() {
     .map(it => fs.readFileSync(path.join(examples, it))).filter(it => it.length > 0);
   const decks = kept('.deck'), traces = kept('.text');
   for (let n = 0; n < RANDOM; n++) {
-    const words = wordsOf(NAMES[random(NAMES.length)]), all = words[0] === 'check' ? traces : decks;
-    compare(words, random(2) ? changed(all[random(all.length)]) : all[random(all.length)]);
+    const words = wordsOf(any(NAMES)), all = words[0] === 'check' ? traces : decks;
+    compare(words, random(2) ? changed(any(all)) : any(all));
+  }
+  const handoff = fs.readFileSync(path.join(examples, 'handoff.deck'));
+  for (let n = 0; n < RANDOM; n++) {
+    let words = random(8) ? wordsOf(any([...NAMES, 'threads'])) : oddWords();
+    for (let slips = 1 + random(3); slips > 0; slips--) words = slipped(words);
+    compare(words, handoff);
   }
 }
 
@@ -250,6 +279,6 @@ function squeeze() {
 squeeze();
 comparePages();
 compareRandom();
-console.log(`library and program: ${same} the same, of them ${refused} refused; ${differ} differ; `
-  + `${others} commands are not for the library`);
+console.log(`library and program: ${same} the same, of them ${refused} refused and ${asked} help; `
+  + `${differ} differ; ${others} name files or ask for threads`);
 process.exit(differ > 0 ? 1 : 0);

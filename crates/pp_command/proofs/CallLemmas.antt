@@ -1,22 +1,23 @@
 -- The options of a command, and the values given to them.
-use Rattle.std.proofs.Common.{◌≡◌, ◌∙◌, ℕ, ◌+◌, ◌<◌, List, [], ◌∷◌, Option, Some, None, add-one, ap, drop, drop-cons, length, map, option_map, refl, slice_index_or, sym, take}
+use Rattle.std.proofs.Common.{◌≡◌, ◌∙◌, inl, inr, subst, ℕ, ◌+◌, ◌<◌, List, [], ◌∷◌, Option, Some, None, add-one, ap, drop, drop-cons, length, map, option_map, refl, slice_index_or, sym, take}
 use Rattle.std.specs.Prelude.{◌-◌, slice_get}
 use Rattle.std.proofs.lemmas.List.{take_rest}
-use Rattle.std.specs.Option.{option_and_then, option_map_or}
+use Rattle.std.specs.Option.{option_map_or}
 use Rattle.clap.specs.Words.{Rule, Text}
-use Rattle.pp_command.specs.CallWords.{Given, IsRefusal, command_named, given_by, given_from, values_of_call, values_of_words, whole, with_word}
+use Rattle.pp_command.specs.CallWords.{Given, IsRefusal, IsReportedAs, Reading, command_named, given_by, given_from, reading_of_call, reading_of_words, reading_without_command, whole, with_given, with_word}
+use Rattle.pp_command.specs.CallWords.Reading.{given, help, refused}
 use Rattle.std.specs.Borrow.{Bor}
 use Rattle.pp_command.specs.CommandLine.{command_of_form, rule_of_form}
-use Rattle.pp_command.specs.declared.{call_fault.CallFault.CallFault, command.CommandForm.CommandForm, command.CommandHelp.CommandHelp, command.OptionForm.OptionForm, command.ValueForm.ValueForm}
+use Rattle.pp_command.specs.declared.{call_fault.CallFault.CallFault, command.CommandHelp.CommandHelp, command.OptionForm.OptionForm, command.ValueForm.ValueForm}
 
 -- the name of an option is that of its form
 pub id_of_form : (form : OptionForm) → (rule_of_form form).id ≡ form.name.now
 id_of_form form = by form.value
   where
     by : (value : ValueForm) → (rule_of_form (record form { value = value })).id ≡ form.name.now
-    by (ValueForm.Flag help) = refl
+    by (ValueForm.Flag text) = refl
     by (ValueForm.Number range) = refl
-    by (ValueForm.Text name help) = refl
+    by (ValueForm.Text name text) = refl
 
 -- a value and the name before it, as a list of values has them
 abbrev pub pair_of : Bor Text × Bor Text → Text × Text
@@ -26,58 +27,73 @@ pub same_name : (pair : Bor Text × Bor Text) → (pair_of pair).0 ≡ pair.0.no
 same_name pair = refl
 
 -- the name of a command is that of its form
-pub name_of_help : (help : CommandHelp) → (command_of_form help.form.now).0 ≡ help.form.now.name.now
-name_of_help help = refl
+pub name_of_help : (found : CommandHelp) → (command_of_form found.form.now).0 ≡ found.form.now.name.now
+name_of_help found = refl
 
--- what comes to nothing since something else does is refused for the same reason
-pub refused_alike : {X Y : Type 0} (a : Option X) (b : Option Y) (fault : CallFault) → (a ≡ None → b ≡ None) → IsRefusal a fault → IsRefusal b fault
-refused_alike a b CallFault.Memory then is = tt
-refused_alike a b CallFault.NoCommand then is = then is
-refused_alike a b (CallFault.Command name) then is = then is
-refused_alike a b (CallFault.Word word) then is = then is
-refused_alike a b (CallFault.Twice name) then is = then is
-refused_alike a b (CallFault.Value name) then is = then is
-refused_alike a b (CallFault.NoValue name) then is = then is
-refused_alike a b (CallFault.Missing name) then is = then is
-refused_alike a b CallFault.Number then is = absurd is
-refused_alike a b CallFault.Picture then is = absurd is
-refused_alike a b CallFault.Forms then is = absurd is
+-- what comes to a request or to nothing since something else does is refused for the same reason
+pub refused_alike : {X Y : Type 0} (a : Reading X) (b : Reading Y) (fault : CallFault) → (a ≡ help → b ≡ help) → (a ≡ refused → b ≡ refused) → IsRefusal a fault → IsRefusal b fault
+refused_alike a b CallFault.Memory asks then is = tt
+refused_alike a b CallFault.Help asks then is = asks is
+refused_alike a b CallFault.Refused asks then is = then is
+refused_alike a b CallFault.Number asks then is = absurd is
+refused_alike a b CallFault.Picture asks then is = absurd is
+refused_alike a b CallFault.Forms asks then is = absurd is
 
--- after a word that is refused nothing is given
-nothing_from : (options : List Rule) (words : List Text) → given_from options None words ≡ None
+-- what holds of a fault, and of want of memory, holds of the fault as it is reported
+pub as_reported : (Holds : CallFault → Type 0) (fault reported : CallFault) → IsReportedAs fault reported → Holds CallFault.Memory → Holds fault → Holds reported
+as_reported Holds fault reported (inl same) memory is = subst Holds (sym same) is
+as_reported Holds fault reported (inr same) memory is = subst Holds (sym same) memory
+
+-- after a request, and after a word that is refused, all stays so
+asked_from : (options : List Rule) (words : List Text) → given_from options help words ≡ help
+asked_from options [] = refl
+asked_from options (word ∷ words) = asked_from options words
+
+nothing_from : (options : List Rule) (words : List Text) → given_from options refused words ≡ refused
 nothing_from options [] = refl
 nothing_from options (word ∷ words) = nothing_from options words
 
-pub refused_word : (options : List Rule) (words : List (Bor Text)) (i : ℕ) (d : Bor Text) (given : Given) → i < length words → with_word options (slice_index_or words i d).now given ≡ None
-    → given_from options (Some given) (map (λ word. word.now) (drop i words)) ≡ given_by options (map (λ word. word.now) words)
-    → values_of_words options (map (λ word. word.now) words) ≡ None
-unfolding values_of_words
-refused_word options words i d given lt none so =
+-- what words come to of which one comes to a request or to nothing
+ended_by : (options : List Rule) (words : List (Bor Text)) (i : ℕ) (d : Bor Text) (so_far : Given) (end : Reading Given) → i < length words → with_word options (slice_index_or words i d).now so_far ≡ end
+    → given_from options end (map (λ word. word.now) (drop (i + 1) words)) ≡ end
+    → given_from options (given so_far) (map (λ word. word.now) (drop i words)) ≡ given_by options (map (λ word. word.now) words)
+    → reading_of_words options (map (λ word. word.now) words) ≡ with_given (whole options) end
+unfolding reading_of_words
+ended_by options words i d so_far end lt comes stays so =
     let here : map (λ word. word.now) (drop i words) ≡ (slice_index_or words i d).now ∷ map (λ word. word.now) (drop (i + 1) words) = rw (drop-cons words i d lt, add-one i) refl in
-    let gone : given_from options (Some given) (map (λ word. word.now) (drop i words)) ≡ None =
-    ap (given_from options (Some given)) here ∙ ap (λ next. given_from options next (map (λ word. word.now) (drop (i + 1) words))) none
-    ∙ nothing_from options (map (λ word. word.now) (drop (i + 1) words)) in
-    ap (option_and_then (whole options)) (sym so ∙ gone)
+    let gone : given_from options (given so_far) (map (λ word. word.now) (drop i words)) ≡ end =
+    ap (given_from options (given so_far)) here ∙ ap (λ next. given_from options next (map (λ word. word.now) (drop (i + 1) words))) comes ∙ stays in
+    ap (with_given (whole options)) (sym so ∙ gone)
+
+pub asking_word : (options : List Rule) (words : List (Bor Text)) (i : ℕ) (d : Bor Text) (so_far : Given) → i < length words → with_word options (slice_index_or words i d).now so_far ≡ help
+    → given_from options (given so_far) (map (λ word. word.now) (drop i words)) ≡ given_by options (map (λ word. word.now) words)
+    → reading_of_words options (map (λ word. word.now) words) ≡ help
+asking_word options words i d so_far lt comes so = ended_by options words i d so_far help lt comes (asked_from options (map (λ word. word.now) (drop (i + 1) words))) so
+
+pub refused_word : (options : List Rule) (words : List (Bor Text)) (i : ℕ) (d : Bor Text) (so_far : Given) → i < length words → with_word options (slice_index_or words i d).now so_far ≡ refused
+    → given_from options (given so_far) (map (λ word. word.now) (drop i words)) ≡ given_by options (map (λ word. word.now) words)
+    → reading_of_words options (map (λ word. word.now) words) ≡ refused
+refused_word options words i d so_far lt comes so = ended_by options words i d so_far refused lt comes (nothing_from options (map (λ word. word.now) (drop (i + 1) words))) so
 
 -- what the words of a call come to, by what its parts do
-pub called : (words : List (Bor Text)) (name : Bor Text) (got : Option (Bor CommandForm)) (form : Bor CommandForm) (outcome : Option (List (Text × Text))) → slice_get words 0 ≡ Some name
-    → option_map (λ form. command_of_form form.now) got ≡ command_named name.now → got ≡ Some form
-    → values_of_words (map rule_of_form form.now.options.now) (map (λ word. word.now) (take (length words - 1) (drop 1 words))) ≡ outcome
-    → values_of_call (map (λ word. word.now) words) ≡ option_map (λ values. (name.now, values)) outcome
-called [] name got form outcome at by is read = absurd cc
-called (word ∷ words) name got form outcome at by is read =
-    let named : command_named name.now ≡ Some (command_of_form form.now) = sym by ∙ ap (option_map (λ form. command_of_form form.now)) is in
-    ap (λ (o : Option (Bor Text)). option_map_or (λ x. values_of_call (x.now ∷ map (λ word. word.now) words)) o None) at
+pub called : (words : List (Bor Text)) (name : Bor Text) (got : Option CommandHelp) (found : CommandHelp) (reading : Reading (List (Text × Text))) → slice_get words 0 ≡ Some name
+    → option_map (λ found. command_of_form found.form.now) got ≡ command_named name.now → got ≡ Some found
+    → reading_of_words (map rule_of_form found.form.now.options.now) (map (λ word. word.now) (take (length words - 1) (drop 1 words))) ≡ reading
+    → reading_of_call (map (λ word. word.now) words) ≡ with_given (λ values. given (name.now, values)) reading
+called [] name got found reading at by is read = absurd cc
+called (word ∷ words) name got found reading at by is read =
+    let named : command_named name.now ≡ Some (command_of_form found.form.now) = sym by ∙ ap (option_map (λ found. command_of_form found.form.now)) is in
+    ap (λ (o : Option (Bor Text)). option_map_or (λ x. reading_of_call (x.now ∷ map (λ word. word.now) words)) o refused) at
     ∙ rw (named, rw (take_rest (word ∷ words) 1) at read) refl
 
-pub uncalled : (words : List (Bor Text)) (name : Bor Text) (got : Option (Bor CommandForm)) → slice_get words 0 ≡ Some name
-    → option_map (λ form. command_of_form form.now) got ≡ command_named name.now → got ≡ None → values_of_call (map (λ word. word.now) words) ≡ None
-uncalled [] name got at by is = refl
+pub uncalled : (words : List (Bor Text)) (name : Bor Text) (got : Option CommandHelp) → slice_get words 0 ≡ Some name
+    → option_map (λ found. command_of_form found.form.now) got ≡ command_named name.now → got ≡ None → reading_of_call (map (λ word. word.now) words) ≡ reading_without_command name.now (map (λ word. word.now) (drop 1 words))
+uncalled [] name got at by is = absurd cc
 uncalled (word ∷ words) name got at by is =
-    let named : command_named name.now ≡ None = sym by ∙ ap (option_map (λ form. command_of_form form.now)) is in
-    ap (λ (o : Option (Bor Text)). option_map_or (λ x. values_of_call (x.now ∷ map (λ word. word.now) words)) o None) at
+    let named : command_named name.now ≡ None = sym by ∙ ap (option_map (λ found. command_of_form found.form.now)) is in
+    ap (λ (o : Option (Bor Text)). option_map_or (λ x. reading_of_call (x.now ∷ map (λ word. word.now) words)) o refused) at
     ∙ rw named refl
 
-pub no_words : (words : List (Bor Text)) → slice_get words 0 ≡ None → values_of_call (map (λ word. word.now) words) ≡ None
+pub no_words : (words : List (Bor Text)) → slice_get words 0 ≡ None → reading_of_call (map (λ word. word.now) words) ≡ refused
 no_words [] at = refl
 no_words (word ∷ words) at = absurd cc

@@ -1,39 +1,26 @@
-use thiserror::Error;
+use std::alloc::Allocator;
 
-/// Why the words of a call are refused.
-#[derive(Clone, Copy, Debug, Error)]
-pub enum CallFault<'a> {
+/// Why the words of a call ask for no work.
+#[derive(Clone, Copy, PartialEq)]
+pub enum CallFault {
     /// A growth was refused.
-    #[error("out of memory")]
     Memory,
-    /// There is no word.
-    #[error("no command")]
-    NoCommand,
-    /// The first word names no command.
-    #[error("no such command: {0}")]
-    Command(&'a str),
-    /// A word is no option of the command, or stands where a value has to.
-    #[error("unexpected: {0}")]
-    Word(&'a str),
-    /// An option is given twice, or a second word for the input.
-    #[error("given twice: {0}")]
-    Twice(&'static str),
-    /// A value stands behind an option that takes none.
-    #[error("takes no value: --{0}")]
-    Value(&'static str),
-    /// The value of the last option is missing.
-    #[error("without a value: --{0}")]
-    NoValue(&'static str),
-    /// An option is missing.
-    #[error("not given: --{0}")]
-    Missing(&'static str),
+    /// They ask for help or for the version.
+    Help,
+    /// They are no words of a call.
+    Refused,
     /// The text of a number is no number, or is out of its range; or that of a list or a condition.
-    #[error("number out of range")]
     Number,
     /// More turns are to be drawn than a picture has.
-    #[error("a picture has at most 2000 turns: give --from and --to")]
     Picture,
     /// The options of `test` are of none of its two forms.
-    #[error("test takes --turns, or --every-order and --states alone")]
     Forms,
+}
+
+/// What words come to that ask for no work, and the text for it: of `Help` the one for standard
+/// output, else the one for standard error; as the program prints it, to the last newline.
+#[derive(Drop)]
+pub struct CallRefusal<A: Allocator> {
+    pub fault: CallFault,
+    pub text: String<A>,
 }

@@ -1,24 +1,29 @@
 //! Reading the words of a call.
 
-ghost use Rattle.std.specs.Prelude.{◌≡◌, IfNone, IfSome, Some, false, true, bytes_eq, find, map, option_map, IfErr, IfOk, OnOk};
-ghost use Rattle.clap.specs.Lexer.{long_of, name_and_value, strip_byte};
-ghost use Rattle.pp_command.specs.CallWords.{CallFor, IsCallRefused, IsRefusal, command_named, has_required, is_flag, is_option, option_named, value_among, values_of_words, with_option, with_plain_word, with_value, with_word};
+ghost use Rattle.std.specs.Prelude.{◌≡◌, Some, bytes_eq, drop, find, map, slice_get, option_map, IfErr, IfOk, OnOk};
+ghost use Rattle.pp_command.specs.CallWords.{AsksForNone, CallFor, IsAskRefused, IsCallRefused, IsRefusal, IsReportedAs, command_named, is_flag, is_topic, is_whole, option_named, reading_of_topics, reading_of_words, reading_without_command, value_among, with_end, with_option, with_plain_word, with_value, with_word};
+ghost use Rattle.pp_command.specs.CallWords.Reading.{given};
 ghost use Rattle.pp_command.specs.CommandLine.{command_of_form, rule_of_form};
 
-use crate::command::{CommandForm, CommandHelp, OptionForm, ValueForm};
+use crate::call_word::{asks_for_help, asks_for_version, is_option, long_of};
+use crate::command::{CommandHelp, OptionForm, ValueForm};
 use crate::command_words::{asked_of, asks_for_more, mixes_forms, named_file};
 use crate::commands::COMMANDS;
-use crate::{Asked, CallFault, Values};
-use std::alloc::Allocator;
+use crate::help_text::{command_help, program_help, topic_help, version_text};
+use crate::refusal_text::{command_refusal, program_refusal, topic_refusal};
+use crate::{Asked, CallFault, CallRefusal, Values};
+use std::alloc::{AllocError, Allocator};
 use std::marker::Model;
 
 /// What the words of a call have given so far.
 #[derive(Drop)]
-struct CallWords<'a, A: Allocator> {
+pub(crate) struct CallWords<'a, A: Allocator> {
     /// Values, each after the name of its option.
-    values: Vec<(&'static str, &'a str), A>,
+    pub(crate) values: Vec<(&'static str, &'a str), A>,
     /// The option whose value is the next word.
-    waiting: Option<&'static str>,
+    pub(crate) waiting: Option<&'static str>,
+    /// Whether `--` has ended the options.
+    pub(crate) ended: bool,
 }
 
 impl<'a, A: Allocator> Model for CallWords<'a, A> {
@@ -30,12 +35,13 @@ impl<'a, A: Allocator> Model for CallWords<'a, A> {
     ghost view = { λ words. record {
       values = map (λ pair. (pair.0.now, pair.1.now)) words.values.items;
       waiting = option_map (λ id. id.now) words.waiting;
+      ended = words.ended;
     } };
 }
 
 impl<'a, A: Allocator> CallWords<'a, A> {
     /// The value that the words have given to an option, if they have.
-    fn given(&self, id: &str) -> Option<&'a str>
+    pub(crate) fn given(&self, id: &str) -> Option<&'a str>
         ensures { option_map (λ value. value.now) result ≡ value_among self.now.values id.now }
     {
         for pair in &self.values {
@@ -47,14 +53,14 @@ impl<'a, A: Allocator> CallWords<'a, A> {
     }
 
     /// Takes the value of an option that has none yet.
-    fn take_value(&mut self, id: &'static str, value: &'a str) -> Result<(), CallFault<'a>>
+    fn take_value(&mut self, id: &'static str, value: &'a str) -> Result<(), CallFault>
         ensures taken { OnOk result (with_value self.old id.entry.now value.entry.now
-            ≡ Some self.new) }
+            ≡ given self.new) }
         ensures refused { IfErr result (IsRefusal
             (with_value self.old id.entry.now value.entry.now)) }
     {
         if self.given(id).is_some() {
-            return Err(CallFault::Twice(id));
+            return Err(CallFault::Refused);
         }
         if self.values.push((id, value)).is_err() {
             return Err(CallFault::Memory);
@@ -68,17 +74,17 @@ impl<'a, A: Allocator> CallWords<'a, A> {
         &mut self,
         option: &'static OptionForm,
         value: Option<&'a str>,
-    ) -> Result<(), CallFault<'a>>
+    ) -> Result<(), CallFault>
         ensures taken { OnOk result (with_option self.old option.entry.now.name.now
             (is_flag (rule_of_form option.entry.now).action)
-            (option_map (λ value. value.now) value.entry) ≡ Some self.new) }
+            (option_map (λ value. value.now) value.entry) ≡ given self.new) }
         ensures refused { IfErr result (IsRefusal (with_option self.old option.entry.now.name.now
             (is_flag (rule_of_form option.entry.now).action)
             (option_map (λ value. value.now) value.entry))) }
     {
         match (option.value, value) {
             (ValueForm::Flag(_), None) => self.take_value(option.name, "true"),
-            (ValueForm::Flag(_), Some(_)) => Err(CallFault::Value(option.name)),
+            (ValueForm::Flag(_), Some(_)) => Err(CallFault::Refused),
             (_, Some(value)) => self.take_value(option.name, value),
             (_, None) => {
                 self.waiting = Some(option.name);
@@ -88,55 +94,72 @@ impl<'a, A: Allocator> CallWords<'a, A> {
     }
 
     /// Takes a word that is a value, or stands for the input.
-    fn take_plain_word(&mut self, id: &'static str, word: &'a str) -> Result<(), CallFault<'a>>
+    fn take_plain_word(&mut self, id: &'static str, word: &'a str) -> Result<(), CallFault>
         ensures taken { OnOk result (with_plain_word self.old id.entry.now word.entry.now
-            ≡ Some self.new) }
+            ≡ given self.new) }
         ensures refused { IfErr result (IsRefusal
             (with_plain_word self.old id.entry.now word.entry.now)) }
     {
         if is_option(word) {
-            return Err(CallFault::Word(word));
+            return Err(CallFault::Refused);
         }
         self.take_value(id, word)
     }
 
+    /// Takes `--`: what follows is no option.
+    fn end_options(&mut self) -> Result<(), CallFault>
+        ensures taken { OnOk result (with_end self.old ≡ given self.new) }
+        ensures refused { IfErr result (IsRefusal (with_end self.old)) }
+    {
+        if self.waiting.is_some() {
+            return Err(CallFault::Refused);
+        }
+        self.ended = true;
+        Ok(())
+    }
+
     /// Takes a word.
     #[tactic(auto, unfolding(crate::specs::CallWords::with_word))]
-    fn take_word(
-        &mut self,
-        options: &'static [OptionForm],
-        word: &'a str,
-    ) -> Result<(), CallFault<'a>>
+    fn take_word(&mut self, options: &'static [OptionForm], word: &'a str) -> Result<(), CallFault>
         ensures taken { OnOk result (with_word (map rule_of_form options.entry.now) word.entry.now
-            self.old ≡ Some self.new) }
+            self.old ≡ given self.new) }
         ensures refused { IfErr result (IsRefusal (with_word (map rule_of_form options.entry.now)
             word.entry.now self.old)) }
     {
+        if self.ended {
+            return self.take_value("file", word);
+        }
+        if word == "--" {
+            return self.end_options();
+        }
         if let Some(id) = self.waiting {
             return self.take_plain_word(id, word);
+        }
+        if asks_for_help(word) {
+            return Err(CallFault::Help);
         }
         let Some((name, value)) = long_of(word) else {
             return self.take_plain_word("file", word);
         };
         match option_named(options, name) {
             Some(option) => self.take_option(option, value),
-            None => Err(CallFault::Word(word)),
+            None => Err(CallFault::Refused),
         }
     }
 
-    /// An option of these that has to be given, and is not.
-    fn missing(&self, options: &'static [OptionForm]) -> Option<&'static OptionForm>
-        ensures missing { IfSome result (λ option. has_required
-            (map rule_of_form options.entry.now) self.now.values ≡ false) }
-        ensures all { IfNone result (has_required (map rule_of_form options.entry.now)
-            self.now.values ≡ true) }
+    /// Whether no value is to come, and all options of these are given that have to be.
+    fn is_whole(&self, options: &'static [OptionForm]) -> bool
+        ensures { result ≡ is_whole (map rule_of_form options.entry.now) self.now }
     {
+        if self.waiting.is_some() {
+            return false;
+        }
         for option in options {
             if option.required && self.given(option.name).is_none() {
-                return Some(option);
+                return false;
             }
         }
-        None
+        true
     }
 }
 
@@ -148,50 +171,11 @@ impl<'a, A: Allocator> Values for CallWords<'a, A> {
     }
 }
 
-/// What follows a first hyphen.
-fn after_hyphen(word: &str) -> Option<&str>
-    ensures { option_map (λ rest. rest.now) result ≡ strip_byte 45 word.now }
-{
-    word.strip_prefix('-')
-}
-
-/// The name of an option, and the value that stands in its word, if it is one with two hyphens.
-fn long_of(word: &str) -> Option<(&str, Option<&str>)>
-    ensures { option_map (λ p. (p.0.now, option_map (λ value. value.now) p.1)) result
-        ≡ long_of word.now }
-{
-    let rest = after_hyphen(after_hyphen(word)?)?;
-    if rest.is_empty() {
-        return None;
-    }
-    Some(name_and_value(rest))
-}
-
-/// What stands before the first `=`, and what stands after it, if there is one.
-fn name_and_value(text: &str) -> (&str, Option<&str>)
-    ensures { (result.0.now, option_map (λ value. value.now) result.1) ≡ name_and_value text.now }
-{
-    match text.split_once('=') {
-        Some((name, value)) => (name, Some(value)),
-        None => (text, None),
-    }
-}
-
-/// Whether a word looks like an option: it begins with a hyphen, and is neither `-` nor `--`.
-fn is_option(word: &str) -> bool
-    ensures { result ≡ is_option word.now }
-{
-    if long_of(word).is_some() {
-        return true;
-    }
-    match after_hyphen(word) {
-        Some(rest) => !rest.is_empty() && after_hyphen(rest).is_none(),
-        None => false,
-    }
-}
-
 /// The option of these that has this name.
-fn option_named(options: &'static [OptionForm], name: &str) -> Option<&'static OptionForm>
+pub(crate) fn option_named(
+    options: &'static [OptionForm],
+    name: &str,
+) -> Option<&'static OptionForm>
     ensures { option_map (λ option. rule_of_form option.now) result
         ≡ option_named (map rule_of_form options.entry.now) name.now }
 {
@@ -203,45 +187,68 @@ fn option_named(options: &'static [OptionForm], name: &str) -> Option<&'static O
     None
 }
 
-/// The values that words give to these options.
-#[tactic(auto, unfolding(crate::specs::CallWords::values_of_words))]
-fn values_of_words<'a, A: Allocator>(
+/// What words come to, and the text for it; or that memory was refused.
+fn reported<A: Allocator + Copy>(
     alloc: A,
-    options: &'static [OptionForm],
-    words: &[&'a str],
-) -> Result<CallWords<'a, A>, CallFault<'a>>
-    ensures values { IfOk result (λ values. values_of_words (map rule_of_form options.entry.now)
-        (map (λ word. word.now) words.now) ≡ Some values.values) }
-    ensures refused { IfErr result (IsRefusal (values_of_words
-        (map rule_of_form options.entry.now) (map (λ word. word.now) words.now))) }
+    fault: CallFault,
+    text: Result<String<A>, AllocError>,
+) -> CallRefusal<A>
+    ensures { IsReportedAs fault result.fault }
 {
+    match text {
+        Ok(text) => CallRefusal { fault, text },
+        Err(_) => CallRefusal {
+            fault: CallFault::Memory,
+            text: String::new(alloc),
+        },
+    }
+}
+
+/// The values that words give to the options of a command.
+#[tactic(auto, unfolding(crate::specs::CallWords::reading_of_words))]
+fn values_of_words<'a, A: Allocator + Copy>(
+    alloc: A,
+    help: &CommandHelp,
+    words: &[&'a str],
+) -> Result<CallWords<'a, A>, CallRefusal<A>>
+    ensures values { IfOk result (λ values. reading_of_words
+        (map rule_of_form help.now.form.now.options.now)
+        (map (λ word. word.now) words.now) ≡ given values.values) }
+    ensures refused { IfErr result (λ refusal. IsRefusal (reading_of_words
+        (map rule_of_form help.now.form.now.options.now)
+        (map (λ word. word.now) words.now)) refusal.fault) }
+{
+    let form = help.form;
     let mut given = CallWords {
         values: Vec::new(alloc),
         waiting: None,
+        ended: false,
     };
-    for word in words {
-        if let Err(fault) = given.take_word(options, word) {
-            return Err(fault);
+    for (place, word) in words.iter().enumerate() {
+        if let Err(fault) = given.take_word(form.options, word) {
+            let text = match fault {
+                CallFault::Help => command_help(alloc, help, *word == "--help"),
+                _ => command_refusal(alloc, form, &given, words, place),
+            };
+            return Err(reported(alloc, fault, text));
         }
     }
-    if let Some(id) = given.waiting {
-        return Err(CallFault::NoValue(id));
-    }
-    if let Some(option) = given.missing(options) {
-        return Err(CallFault::Missing(option.name));
+    if !given.is_whole(form.options) {
+        let text = command_refusal(alloc, form, &given, words, words.len());
+        return Err(reported(alloc, CallFault::Refused, text));
     }
     Ok(given)
 }
 
 /// The command of this name, among these.
-fn command_among(helps: &[CommandHelp], name: &str) -> Option<&'static CommandForm>
-    ensures { option_map (λ form. command_of_form form.now) result
+fn command_among(helps: &[CommandHelp], name: &str) -> Option<CommandHelp>
+    ensures { option_map (λ help. command_of_form help.form.now) result
         ≡ find (λ command. bytes_eq command.0 name.now)
         (map (λ help. command_of_form help.form.now) helps.now) }
 {
     for help in helps {
         if help.form.name == name {
-            return Some(help.form);
+            return Some(*help);
         }
     }
     None
@@ -249,40 +256,98 @@ fn command_among(helps: &[CommandHelp], name: &str) -> Option<&'static CommandFo
 
 /// The command of this name.
 #[tactic(auto, unfolding(crate::specs::CallWords::command_named))]
-fn command_named(name: &str) -> Option<&'static CommandForm>
-    ensures { option_map (λ form. command_of_form form.now) result ≡ command_named name.now }
+pub(crate) fn command_named(name: &str) -> Option<CommandHelp>
+    ensures { option_map (λ help. command_of_form help.form.now) result ≡ command_named name.now }
 {
     command_among(&COMMANDS, name)
 }
 
+/// Whether help has a page of this name.
+pub(crate) fn is_topic(name: &str) -> bool
+    ensures { result ≡ is_topic name.now }
+{
+    name == "help" || command_named(name).is_some()
+}
+
+/// What words come to that begin with no command.
+fn without_command<A: Allocator + Copy>(alloc: A, words: &[&str], name: &str) -> CallRefusal<A>
+    requires { slice_get words.now 0 ≡ Some name }
+    ensures { IsRefusal (reading_without_command name.now
+        (map (λ word. word.now) (drop 1 words.now))) result.fault }
+{
+    if name == "help" {
+        return on_topics(alloc, &words[1..]);
+    }
+    if asks_for_help(name) {
+        return reported(
+            alloc,
+            CallFault::Help,
+            program_help(alloc, name == "--help"),
+        );
+    }
+    if asks_for_version(name) {
+        return reported(alloc, CallFault::Help, version_text(alloc));
+    }
+    reported(alloc, CallFault::Refused, program_refusal(alloc, words))
+}
+
+/// What words come to after `help`.
+fn on_topics<A: Allocator + Copy>(alloc: A, topics: &[&str]) -> CallRefusal<A>
+    ensures { IsRefusal (reading_of_topics (map (λ word. word.now) topics.now)) result.fault }
+{
+    let Some((topic, more)) = topics.split_first() else {
+        return reported(alloc, CallFault::Help, program_help(alloc, true));
+    };
+    if !more.is_empty() || !is_topic(topic) {
+        return reported(alloc, CallFault::Refused, topic_refusal(alloc, topics));
+    }
+    reported(alloc, CallFault::Help, topic_help(alloc, topic))
+}
+
+/// Why a command asks for no work.
+fn without_work<V: Values, A: Allocator + Copy>(alloc: A, name: &str, values: &V) -> CallRefusal<A>
+    ensures { AsksForNone name.now (V.value values.now)
+        → IsAskRefused name.now (V.value values.now) result.fault }
+{
+    if asks_for_more(name, values) {
+        let text = "ppsim: a picture has at most 2000 turns: give --from and --to\n";
+        return reported(alloc, CallFault::Picture, String::from_str(alloc, text));
+    }
+    if mixes_forms(name, values) {
+        let text = "ppsim: test takes --turns, or --every-order and --states alone\n";
+        return reported(alloc, CallFault::Forms, String::from_str(alloc, text));
+    }
+    let text = "ppsim: number out of range\n";
+    reported(alloc, CallFault::Number, String::from_str(alloc, text))
+}
+
 /// What the words of a call ask for, and the file to read, if one is named: a command, and in any
 /// order its options, each once; a word for the input may stand among them, and is `-` or the name
-/// of a file.
+/// of a file, and behind `--` whatever it is.
 pub fn read_call<'a, A: Allocator + Copy>(
     alloc: A,
     words: &[&'a str],
-) -> Result<(Asked<A>, Option<&'a str>), CallFault<'a>>
+) -> Result<(Asked<A>, Option<&'a str>), CallRefusal<A>>
     ensures asked { IfOk result (λ read. CallFor (map (λ word. word.now) words.now)
         read.0.work read.0.first.items read.0.until (option_map (λ file. file.now) read.1)) }
-    ensures refused { IfErr result (IsCallRefused (map (λ word. word.now) words.now)) }
+    ensures refused { IfErr result (λ refusal.
+        IsCallRefused (map (λ word. word.now) words.now) refusal.fault) }
 {
     let Some(name) = words.first().copied() else {
-        return Err(CallFault::NoCommand);
+        return Err(reported(alloc, CallFault::Refused, program_refusal(alloc, words)));
     };
-    let Some(form) = command_named(name) else {
-        return Err(CallFault::Command(name));
+    let Some(help) = command_named(name) else {
+        return Err(without_command(alloc, words, name));
     };
-    let values = match values_of_words(alloc, form.options, &words[1..]) {
+    let values = match values_of_words(alloc, &help, &words[1..]) {
         Ok(values) => values,
-        Err(fault) => return Err(fault),
+        Err(refusal) => return Err(refusal),
     };
     let Ok(found) = asked_of(alloc, name, &values) else {
-        return Err(CallFault::Memory);
+        return Err(reported(alloc, CallFault::Memory, Ok(String::new(alloc))));
     };
     match found {
         Some(asked) => Ok((asked, named_file(values.given("file")))),
-        None if asks_for_more(name, &values) => Err(CallFault::Picture),
-        None if mixes_forms(name, &values) => Err(CallFault::Forms),
-        None => Err(CallFault::Number),
+        None => Err(without_work(alloc, name, &values)),
     }
 }

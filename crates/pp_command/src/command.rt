@@ -12,7 +12,7 @@ use clap::{Arg, ArgAction, Command};
 use std::alloc::{AllocError, Global};
 
 /// The version of the program, and the toolchain with which it is proved and built.
-const VERSION: &str = "1.0 (rattle-kit-13f logic dac8208d650f15bf)";
+pub(crate) const VERSION: &str = "1.0 (rattle-kit-13f logic dac8208d650f15bf)";
 
 /// An option.
 #[derive(Clone, Copy)]

@@ -2,23 +2,29 @@
 #![tactic(auto)]
 
 mod call_fault;
+mod call_word;
 mod call_words;
 mod channel_list;
 mod command;
 mod command_macros;
 mod command_words;
 mod commands;
+mod help_text;
 mod line_fault;
 mod number_range;
 mod option_values;
 mod order_list;
 mod processor_list;
+mod refusal_text;
 mod run_options;
+mod similar;
 mod text_of;
+mod usage;
 mod values;
+mod why;
 mod work;
 
-pub use call_fault::CallFault;
+pub use call_fault::{CallFault, CallRefusal};
 pub use call_words::read_call;
 pub use channel_list::listed_channels;
 pub use command_words::read_words;

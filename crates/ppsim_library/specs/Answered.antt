@@ -1,5 +1,5 @@
 -- What a host learns of a call, and what stands in its room then.
-use Rattle.std.specs.Prelude.{◌≡◌, ◌≢◌, ◌≤◌, ◌<◌, ℕ, ◌==◌, List, [], ◌++◌, length, drop, Option, None, Some, Result, Ok, Err, ◌⊎◌}
+use Rattle.std.specs.Prelude.{◌≡◌, ◌≤◌, ◌<◌, ℕ, ◌==◌, List, [], ◌∷◌, ◌++◌, length, drop, Option, None, Some, Result, Ok, Err, ◌⊎◌}
 use Rattle.std.specs.List.{slice_split}
 use Rattle.std.specs.Str.{IsUtf8}
 use Rattle.pp_command.specs.CallWords.{CallFor, IsCallRefused}
@@ -9,9 +9,13 @@ use Rattle.pp_sim.specs.Program.{IsDone}
 use Rattle.pp_sim.specs.declared.text_fault.TextFault.{TextFault}
 use Rattle.ppsim_library.specs.declared.answer.Answer.{Answer}
 
--- the words of a text: there is a byte 0 between two of them
-unfoldable pub words_of : List ℕ → List (List ℕ)
-words_of text = slice_split (λ byte. byte == 0) text
+-- the words of a text: there is a byte 0 between two of them; an empty text has none
+unfoldable pub parts_of : List ℕ → List (List ℕ)
+parts_of text = slice_split (λ byte. byte == 0) text
+
+abbrev pub words_of : List ℕ → List (List ℕ)
+words_of [] = []
+words_of (byte ∷ bytes) = parts_of (byte ∷ bytes)
 
 -- every work but that with one thread per processor
 abbrev pub NeedsNoThreads : Work → Type 0
@@ -89,13 +93,24 @@ pub record NamesFile (words : List (List ℕ)) : Type 0 where
   pub file : List ℕ
   pub asked : CallFor words work first until (Some file)
 
--- why words are refused that name no file: they are no call, or one for nothing within the ranges
-abbrev pub CantBeTaken : List (List ℕ) → Type 0
-CantBeTaken words = (fault : CallFault) × IsCallRefused words fault × (fault ≢ CallFault.Memory)
+-- how words are answered that ask for no work, by the reason: those that ask for help or the
+-- version by some text (which one is not said), and no others so
+abbrev pub IsDeclinedFor : CallFault → Answer → (old new : List ℕ) → Type 0
+IsDeclinedFor CallFault.Memory a old new = IsFailed 4 a old new
+IsDeclinedFor CallFault.Help a old new = (text : List ℕ) × IsWritten 0 text a old new
+IsDeclinedFor CallFault.Refused a old new = IsFailed 2 a old new
+IsDeclinedFor CallFault.Number a old new = IsFailed 2 a old new
+IsDeclinedFor CallFault.Picture a old new = IsFailed 2 a old new
 
--- THE PROMISE of a call: what its words ask for is answered; or they are not text, no words of a
--- call, or name a file, and are refused; or memory for them was refused
+-- the words ask for no work, and are answered so: they ask for help or the version, are no call, or
+-- are one for nothing within the ranges
+abbrev pub IsDeclined : List (List ℕ) → Answer → (old new : List ℕ) → Type 0
+IsDeclined words a old new =
+    (fault : CallFault) × IsCallRefused words fault × IsDeclinedFor fault a old new
+
+-- THE PROMISE of a call: what its words ask for is answered; or they ask for no work; or they are
+-- not text, or name a file, and are refused; or memory for them was refused
 abbrev pub Answers : List ℕ → List ℕ → Answer → (old new : List ℕ) → Type 0
 Answers text input a old new = HasAnswered (words_of text) input a old new
-    ⊎ (((¬ IsUtf8 text ⊎ (CantBeTaken (words_of text) ⊎ NamesFile (words_of text)))
-    × IsFailed 2 a old new) ⊎ IsFailed 4 a old new)
+    ⊎ (IsDeclined (words_of text) a old new
+    ⊎ (((¬ IsUtf8 text ⊎ NamesFile (words_of text)) × IsFailed 2 a old new) ⊎ IsFailed 4 a old new))

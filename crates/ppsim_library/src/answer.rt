@@ -51,6 +51,24 @@ pub(crate) fn answer_of<A: Allocator>(
     }
 }
 
+/// The answer to words that ask for help or the version, which is this text.
+pub(crate) fn helped(text: &[u8], room: &mut [u8]) -> Answer
+    ensures { IsWritten 0 text.now result room.old room.new }
+{
+    written(DONE, text, room)
+}
+
+/// The answer to words that are refused, as this text says.
+pub(crate) fn refused_as(text: &[u8], room: &mut [u8]) -> Answer
+    ensures { IsFailed 2 result room.old room.new }
+{
+    Answer {
+        status: BAD_USAGE,
+        output: 0,
+        error: put(text, room),
+    }
+}
+
 /// The answer to words that are refused.
 pub(crate) fn refused<A: Allocator, D: Display>(alloc: A, why: &D, room: &mut [u8]) -> Answer
     ensures { IsFailed 2 result room.old room.new }
@@ -114,11 +132,18 @@ fn show<A: Allocator, D: Display>(alloc: A, why: &D, room: &mut [u8]) -> u64
     ensures within { result ≤ length room.old }
     ensures rest { drop result room.new ≡ drop result room.old }
 {
-    let Ok(words) = format!(in alloc; "ppsim: {why}\n") else {
-        return 0;
-    };
-    let bytes = words.as_bytes();
-    let count = bytes.len().min(room.len());
-    room[..count].copy_from_slice(&bytes[..count]);
+    match format!(in alloc; "ppsim: {why}\n") {
+        Ok(line) => put(line.as_bytes(), room),
+        Err(_) => 0,
+    }
+}
+
+/// Puts a text into the room, as far as it fits; returns how many bytes.
+fn put(text: &[u8], room: &mut [u8]) -> u64
+    ensures within { result ≤ length room.old }
+    ensures rest { drop result room.new ≡ drop result room.old }
+{
+    let count = text.len().min(room.len());
+    room[..count].copy_from_slice(&text[..count]);
     count as u64
 }

@@ -2,16 +2,16 @@
 
 ghost use Rattle.std.specs.Prelude.{◌≡◌, IfOk, Some, map};
 ghost use Rattle.pp_sim.specs.Program.{IsDone};
-ghost use Rattle.ppsim_library.specs.Answered.{Answers, IsAnswered, NeedsNoThreads, words_of};
+ghost use Rattle.ppsim_library.specs.Answered.{Answers, IsAnswered, IsDeclinedFor, NeedsNoThreads, parts_of, words_of};
 
-use crate::answer::{Answer, answer_of, refused, without_memory};
+use crate::answer::{Answer, answer_of, helped, refused, refused_as, without_memory};
 use crate::refusal::Refusal;
 use pp_command::{Asked, CallFault, read_call};
 use pp_sim::{TextFault, Work, check_text, deck_text, lint_text, test_text};
 use std::alloc::{AllocError, Allocator};
 use std::str;
 
-/// Answers a call: does what its words ask for, or says why they are refused.
+/// Answers a call: does what its words ask for, help included, or says why they are refused.
 pub(crate) fn answer_call<A: Allocator + Copy>(
     alloc: A,
     words: &[u8],
@@ -29,14 +29,34 @@ pub(crate) fn answer_call<A: Allocator + Copy>(
     match read_call(alloc, listed.as_slice()) {
         Ok((_, Some(_))) => refused(alloc, &Refusal::File, room),
         Ok((asked, None)) => answer_work(alloc, &asked, input, room),
-        Err(CallFault::Memory) => without_memory(alloc, room),
-        Err(fault) => refused(alloc, &fault, room),
+        Err(refusal) => decline(alloc, refusal.fault, refusal.text.as_bytes(), room),
     }
 }
 
-/// The words of a text, between bytes 0.
+/// The answer to words that ask for no work, for this reason, which this text says.
+fn decline<A: Allocator>(alloc: A, fault: CallFault, text: &[u8], room: &mut [u8]) -> Answer
+    ensures { IsDeclinedFor fault result room.old room.new }
+{
+    match fault {
+        CallFault::Memory => without_memory(alloc, room),
+        CallFault::Help => helped(text, room),
+        CallFault::Refused | CallFault::Number | CallFault::Picture => refused_as(text, room),
+    }
+}
+
+/// The words of a text, between bytes 0; none, if it is empty.
 fn words_of<A: Allocator>(alloc: A, text: &str) -> Result<Vec<&str, A>, AllocError>
     ensures { IfOk result (λ words. map (λ word. word.now) words.items ≡ words_of text.now) }
+{
+    if text.is_empty() {
+        return Ok(Vec::new(alloc));
+    }
+    parts_of(alloc, text)
+}
+
+/// What stands in a text between bytes 0.
+fn parts_of<A: Allocator>(alloc: A, text: &str) -> Result<Vec<&str, A>, AllocError>
+    ensures { IfOk result (λ parts. map (λ part. part.now) parts.items ≡ parts_of text.now) }
 {
     let mut words = Vec::new(alloc);
     let mut rest = text;

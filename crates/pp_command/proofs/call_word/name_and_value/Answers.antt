@@ -2,7 +2,7 @@ use Rattle.std.proofs.Common.{Some, None, arith, ap, sym, ◌∙◌}
 use Rattle.std.proofs.lemmas.Str.Pattern.{split_parts}
 use Rattle.clap.specs.Lexer.{name_and_value}
 use Rattle.clap.proofs.LexerLemmas.{name_and_value-at, name_and_value-without}
-use Rattle.pp_command.proofs.call_words.name_and_value.Goals as goal
+use Rattle.pp_command.proofs.call_word.name_and_value.Goals as goal
 
 pub returns-in-Some : goal.returns-in-Some
 returns-in-Some c =

@@ -1,0 +1,271 @@
+//! What is said of words that are refused, as clap says it.
+
+use crate::call_word::long_of;
+use crate::call_words::{CallWords, command_named, is_topic, option_named};
+use crate::command::CommandForm;
+use crate::commands::COMMANDS;
+use crate::help_text::HELP_USAGE;
+use crate::similar::{similar_commands, similar_option};
+use crate::usage::{push_option, push_usage};
+use crate::why::{Why, is_plain, why_refused};
+use std::alloc::{AllocError, Allocator};
+
+const TRY_HELP: &str = "\n\nFor more information, try '--help'.\n";
+
+/// What is said of the words after a command's name, of which the one at this place is refused
+/// after what was given, or of which too few are there.
+pub(crate) fn command_refusal<'a, A: Allocator + Copy>(
+    alloc: A,
+    form: &'static CommandForm,
+    given: &CallWords<'a, A>,
+    words: &[&'a str],
+    place: usize,
+) -> Result<String<A>, AllocError> {
+    let why = why_refused(given, form.options, words.get(place..).unwrap_or(&[]));
+    let mut used = used_options(alloc, form, given, why, words, place)?;
+    let mut text = String::from_str(alloc, "error: ")?;
+    if let Why::Unknown(name) = why {
+        push_unknown(alloc, &mut text, form, name, &mut used)?;
+    } else {
+        push_why(&mut text, form, given, why)?;
+    }
+    if !matches!(why, Why::NoValue(_)) {
+        text.push_str("\n\n")?;
+        push_usage(&mut text, form, used.as_slice())?;
+    }
+    text.push_str(TRY_HELP)?;
+    Ok(text)
+}
+
+/// The options that the usage names beside those that a command needs.
+fn used_options<'a, A: Allocator>(
+    alloc: A,
+    form: &'static CommandForm,
+    given: &CallWords<'a, A>,
+    why: Why<'a>,
+    words: &[&'a str],
+    place: usize,
+) -> Result<Vec<&'static str, A>, AllocError> {
+    let word_before = place.checked_sub(1).and_then(|before| words.get(before));
+    let mut used = Vec::new(alloc);
+    for pair in &given.values {
+        used.push(pair.0)?;
+    }
+    match why {
+        // A second value of an option takes away the first.
+        Why::Unknown(_) if words.get(place).is_some_and(|word| is_plain(word)) => {
+            used.retain(|name| Some(*name) != given.waiting);
+        }
+        // A value that is a word of its own counts once the next word has been read.
+        Why::Value(name, _) => {
+            if given.waiting.is_none() && word_before.is_some_and(|word| is_plain(word)) {
+                used.pop();
+            }
+            used.push(name)?;
+        }
+        Why::Unknown(_) => {}
+        Why::Missing => {
+            for option in form.options {
+                if option.required {
+                    used.push(option.name)?;
+                }
+            }
+        }
+        _ => used.clear(),
+    }
+    Ok(used)
+}
+
+/// Says that a command has no option of this name, and which one is like it.
+fn push_unknown<A: Allocator + Copy>(
+    alloc: A,
+    text: &mut String<A>,
+    form: &'static CommandForm,
+    name: &str,
+    used: &mut Vec<&'static str, A>,
+) -> Result<(), AllocError> {
+    write!(text, "unexpected argument '--{name}' found\n\n  tip: ")?;
+    let Some(similar) = similar_option(alloc, name, form.options, &["help"])? else {
+        return write!(text, "to pass '--{name}' as a value, use '-- --{name}'");
+    };
+    used.push(similar)?;
+    write!(text, "a similar argument exists: '--{similar}'")
+}
+
+fn push_why<'a, A: Allocator>(
+    text: &mut String<A>,
+    form: &'static CommandForm,
+    given: &CallWords<'a, A>,
+    why: Why<'a>,
+) -> Result<(), AllocError> {
+    match why {
+        Why::Unknown(_) => Ok(()),
+        Why::UnknownLetter(letter) => write!(
+            text,
+            "unexpected argument '-{letter}' found\n\n  \
+             tip: to pass '-{letter}' as a value, use '-- -{letter}'"
+        ),
+        Why::Value(name, value) => {
+            write!(text, "unexpected value '{value}' for '")?;
+            push_named(text, form, name)?;
+            text.push_str("' found; no more were expected")
+        }
+        Why::NoValue(name) => {
+            text.push_str("a value is required for '")?;
+            push_named(text, form, name)?;
+            text.push_str("' but none was supplied")
+        }
+        Why::Twice(name) => {
+            text.push_str("the argument '")?;
+            push_named(text, form, name)?;
+            text.push_str("' cannot be used multiple times")
+        }
+        Why::Surplus(word) => write!(text, "unexpected argument '{word}' found"),
+        Why::Missing => {
+            text.push_str("the following required arguments were not provided:")?;
+            for option in form.options {
+                if option.required && given.given(option.name).is_none() {
+                    text.push_str("\n  ")?;
+                    push_option(text, option)?;
+                }
+            }
+            Ok(())
+        }
+    }
+}
+
+/// Adds the option of this name, or the one that asks for help.
+fn push_named<A: Allocator>(
+    text: &mut String<A>,
+    form: &'static CommandForm,
+    name: &str,
+) -> Result<(), AllocError> {
+    match option_named(form.options, name) {
+        Some(option) => push_option(text, option),
+        None => write!(text, "--{name}"),
+    }
+}
+
+/// What is said of words that begin with no command, and ask for nothing.
+pub(crate) fn program_refusal<A: Allocator + Copy>(
+    alloc: A,
+    words: &[&str],
+) -> Result<String<A>, AllocError> {
+    let mut text = String::from_str(alloc, "error: ")?;
+    let mut used = None;
+    let after_dashes = words.get(1).copied();
+    match words.first().copied() {
+        Some("--") => match after_dashes {
+            Some(word) if is_topic(word) => write!(
+                text,
+                "unexpected argument '{word}' found\n\n  \
+                 tip: subcommand '{word}' exists; to use it, remove the '--' before it"
+            )?,
+            Some(word) => push_unknown_command(alloc, &mut text, word)?,
+            None => push_missing_command(&mut text)?,
+        },
+        Some(word) if is_plain(word) => push_unknown_command(alloc, &mut text, word)?,
+        Some(word) => used = push_unknown_request(alloc, &mut text, word, words)?,
+        None => push_missing_command(&mut text)?,
+    }
+    text.push_str("\n\nUsage: ppsim ")?;
+    if let Some(name) = used {
+        write!(text, "--{name} ")?;
+    }
+    write!(text, "<COMMAND>{TRY_HELP}")?;
+    Ok(text)
+}
+
+fn push_missing_command<A: Allocator>(text: &mut String<A>) -> Result<(), AllocError> {
+    text.push_str("'ppsim' requires a subcommand but one was not provided\n  [subcommands: ")?;
+    for help in &COMMANDS {
+        write!(text, "{}, ", help.form.name)?;
+    }
+    text.push_str("help]")
+}
+
+/// Says that there is no such command, and which are like it.
+fn push_unknown_command<A: Allocator + Copy>(
+    alloc: A,
+    text: &mut String<A>,
+    word: &str,
+) -> Result<(), AllocError> {
+    write!(text, "unrecognized subcommand '{word}'")?;
+    let similar = similar_commands(alloc, word)?;
+    if similar.is_empty() {
+        return Ok(());
+    }
+    text.push_str(if similar.len() == 1 {
+        "\n\n  tip: a similar subcommand exists: "
+    } else {
+        "\n\n  tip: some similar subcommands exist: "
+    })?;
+    for (place, found) in similar.iter().enumerate() {
+        text.push_str(if place == 0 { "'" } else { ", '" })?;
+        write!(text, "{}'", found.1)?;
+    }
+    Ok(())
+}
+
+/// Says that the program takes no such option before a command, and which one is like it; returns
+/// the one for the usage to name.
+fn push_unknown_request<A: Allocator + Copy>(
+    alloc: A,
+    text: &mut String<A>,
+    word: &str,
+    words: &[&str],
+) -> Result<Option<&'static str>, AllocError> {
+    let Some((name, value)) = long_of(word) else {
+        let letter = word.chars().nth(1).unwrap_or('-');
+        write!(text, "unexpected argument '-{letter}' found")?;
+        return Ok(None);
+    };
+    for request in ["help", "version"] {
+        if name == request {
+            let value = value.unwrap_or("");
+            write!(
+                text,
+                "unexpected value '{value}' for '--{name}' found; no more were expected"
+            )?;
+            return Ok(Some(request));
+        }
+    }
+    write!(text, "unexpected argument '--{name}' found")?;
+    let similar = similar_option(alloc, name, &[], &["help", "version"])?;
+    if let Some(similar) = similar {
+        write!(text, "\n\n  tip: a similar argument exists: '--{similar}'")?;
+        return Ok(Some(similar));
+    }
+    for word in words {
+        if let Some(help) = command_named(word) {
+            if let Some(option) = similar_option(alloc, name, help.form.options, &[])? {
+                write!(text, "\n\n  tip: '{word} --{option}' exists")?;
+                return Ok(None);
+            }
+        }
+    }
+    Ok(None)
+}
+
+/// What is said of words after `help`, of which one is no topic.
+pub(crate) fn topic_refusal<A: Allocator>(
+    alloc: A,
+    topics: &[&str],
+) -> Result<String<A>, AllocError> {
+    let topic = topics.first().copied().unwrap_or("");
+    let after = topics.get(1).copied().unwrap_or("");
+    if topic == "help" {
+        let said = "error: unrecognized subcommand";
+        return format!(in alloc; "{said} '{after}'\n\n{HELP_USAGE}\n");
+    }
+    let mut text = String::from_str(alloc, "error: unrecognized subcommand '")?;
+    match command_named(topic) {
+        Some(help) => {
+            write!(text, "{after}'\n\n")?;
+            push_usage(&mut text, help.form, &[])?;
+        }
+        None => write!(text, "{topic}'\n\nUsage: ppsim <COMMAND>")?,
+    }
+    text.push_str(TRY_HELP)?;
+    Ok(text)
+}

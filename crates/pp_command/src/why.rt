@@ -1,0 +1,104 @@
+//! Which fault of refused words is named, if they have several: the one that clap names.
+
+use crate::call_word::{after_hyphen, long_of};
+use crate::call_words::{CallWords, option_named};
+use crate::command::{OptionForm, ValueForm};
+use std::alloc::Allocator;
+
+/// Why the words after a command's name are refused. An option is given by its name.
+#[derive(Clone, Copy)]
+pub(crate) enum Why<'a> {
+    /// There is no option of this name.
+    Unknown(&'a str),
+    /// There is none of this one letter.
+    UnknownLetter(char),
+    /// An option that takes no value has this one.
+    Value(&'static str, &'a str),
+    /// An option lacks its value.
+    NoValue(&'static str),
+    /// An option is given twice.
+    Twice(&'static str),
+    /// A word is one too many.
+    Surplus(&'a str),
+    /// An option is not given that has to be.
+    Missing,
+}
+
+/// Whether a word does not look like an option, and is not `--`.
+pub(crate) fn is_plain(word: &str) -> bool {
+    !word.starts_with('-') || word == "-"
+}
+
+/// What is wrong with a word that looks like an option, whatever stands before it.
+fn why_never<'a>(options: &'static [OptionForm], word: &'a str) -> Option<Why<'a>> {
+    if let Some((name, value)) = long_of(word) {
+        if name == "help" {
+            return Some(Why::Value("help", value?));
+        }
+        let Some(option) = option_named(options, name) else {
+            return Some(Why::Unknown(name));
+        };
+        return match option.value {
+            ValueForm::Flag(_) => Some(Why::Value(option.name, value?)),
+            _ => None,
+        };
+    }
+    let letter = after_hyphen(word)?.chars().next()?;
+    if letter == 'h' || letter == '-' {
+        return None;
+    }
+    Some(Why::UnknownLetter(letter))
+}
+
+/// Why the first of these words is refused after what was given, or why none of them may follow.
+pub(crate) fn why_refused<'a, A: Allocator>(
+    given: &CallWords<'a, A>,
+    options: &'static [OptionForm],
+    words: &[&'a str],
+) -> Why<'a> {
+    let Some((word, rest)) = words.split_first() else {
+        return match given.waiting {
+            Some(name) => Why::NoValue(name),
+            None => Why::Missing,
+        };
+    };
+    if given.ended {
+        return Why::Surplus(word);
+    }
+    if let Some(why) = why_never(options, word) {
+        return why;
+    }
+    match given.waiting {
+        Some(name) if is_plain(word) => why_later(given, options, rest).unwrap_or(Why::Twice(name)),
+        Some(name) if *word == "--" => surplus_of(given, rest).unwrap_or(Why::NoValue(name)),
+        Some(name) => Why::NoValue(name),
+        None if is_plain(word) => Why::Surplus(word),
+        None => match long_of(word).and_then(|parts| option_named(options, parts.0)) {
+            Some(option) => Why::Twice(option.name),
+            None => Why::Missing,
+        },
+    }
+}
+
+/// What is wrong with the words after a second value of an option, if that is named in its place.
+fn why_later<'a, A: Allocator>(
+    given: &CallWords<'a, A>,
+    options: &'static [OptionForm],
+    words: &[&'a str],
+) -> Option<Why<'a>> {
+    let (word, rest) = words.split_first()?;
+    if *word == "--" {
+        return surplus_of(given, rest);
+    }
+    if is_plain(word) {
+        return surplus_of(given, words);
+    }
+    why_never(options, word)
+}
+
+/// The first of these words, if it is plain, as one too many.
+fn surplus_of<'a, A: Allocator>(given: &CallWords<'a, A>, words: &[&'a str]) -> Option<Why<'a>> {
+    let word = words.first()?;
+    given.given("file")?;
+    Some(Why::Surplus(word))
+}
