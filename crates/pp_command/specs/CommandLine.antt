@@ -1,6 +1,5 @@
 -- What a command line asks for, by the words that stand in it.
-use Rattle.std.specs.Prelude.{◌≡◌, ◌≢◌, ℕ, ◌-◌, ◌<◌, ◌≤◌, Bool, true, false, IsSomeAnd, IsTrue, if◌then◌else◌, List, [], ◌∷◌, ◌++◌, fold, map, replicate, Option, Some, None, Ok, bytes_eq, codes}
-use Rattle.std.specs.List.{list_any}
+use Rattle.std.specs.Prelude.{◌≡◌, ◌≢◌, ℕ, ◌-◌, ◌<◌, ◌≤◌, Bool, true, false, IsSomeAnd, IsTrue, List, [], ◌∷◌, ◌++◌, fold, map, replicate, Option, Some, None, Ok, codes}
 use Rattle.std.specs.Str.Parse.{ParsesUnsigned}
 use Rattle.clap.specs.Words.{App, IsAmong, Kinds, Row, Rule, Text, fault_of, first_of, found_of, is_simple, is_simple_and_free, kind_of, new_app, new_rule, rows_of, subcommand_of, with_rule, with_subcommand}
 use Rattle.clap.specs.declared.builder.action.ArgAction.TheVariants.{Set, SetTrue}
@@ -372,14 +371,6 @@ rule_of_form form = record (rule_by form.value form.name.now) { required = form.
 -- a command of this form
 abbrev pub command_of_form : CommandForm → Command
 command_of_form form = (form.name.now, map rule_of_form form.options.now)
-
--- whether this is one of the words
-abbrev pub is_word : List Text → Text → Bool
-is_word words name = list_any (λ word. bytes_eq word name) words
-
--- the app of a command: without options and file, if no word names it
-abbrev pub app_by : List Text → Command → App
-app_by words command = if is_word words command.0 then app_of_command command else new_app command.0
 
 -- a parse makes the same of these words by this app and by `ppsim`
 pub record ReadsAlike (words : List Text) (app : App) : Type 0 where

@@ -4,8 +4,9 @@ ghost use Rattle.std.specs.Prelude.{◌≡◌, false, fold, map, IfOk};
 ghost use Rattle.clap.specs.Words.{app_of, rule_of, with_rule};
 ghost use Rattle.clap.specs.declared.builder.command.Command.TheViews.{out-Command as fields_of};
 ghost use Rattle.pp_command.specs.CommandLine.{ReadsAlike, bare, with_commands};
-ghost use Rattle.pp_command.specs.CommandLine.{app_by, command_of_form, file_argument, rule_of_form};
+ghost use Rattle.pp_command.specs.CommandLine.{app_of_command, command_of_form, file_argument, rule_of_form};
 
+use crate::call_words::command_named;
 use crate::commands::{ABOUT, COMMANDS, EXAMPLE, FILE_HELP, MANUAL};
 use crate::number_range::NumberRange;
 use clap::{Arg, ArgAction, Command};
@@ -99,15 +100,10 @@ fn with_arguments<'a>(
     command.arg(file_argument(alloc))
 }
 
-/// A command of this form. It has its options and its file only if a word names it: a parse of the
-/// words looks at no others.
-fn command_of<'a>(
-    alloc: Global,
-    help: &CommandHelp,
-    words: &[&str],
-) -> Result<Command<'a>, AllocError>
+/// A command of this form.
+fn command_of<'a>(alloc: Global, help: &CommandHelp) -> Result<Command<'a>, AllocError>
     ensures app { IfOk result (λ c. app_of c
-        ≡ app_by (map (λ s. s.now) words.now) (command_of_form help.now.form.now)) }
+        ≡ app_of_command (command_of_form help.now.form.now)) }
     ensures local { IfOk result (λ c. (fields_of c).has_globals ≡ false) }
 {
     let form = help.form;
@@ -115,11 +111,7 @@ fn command_of<'a>(
         .about(form.about)
         .long_about(help.long_about)
         .after_help(form.example);
-    if words.contains(&form.name) {
-        with_arguments(alloc, command, form.options)
-    } else {
-        Ok(command)
-    }
+    with_arguments(alloc, command, form.options)
 }
 
 /// An app with these commands as well.
@@ -127,19 +119,18 @@ fn with_commands<'a>(
     alloc: Global,
     mut app: Command<'a>,
     helps: &[CommandHelp],
-    words: &[&str],
 ) -> Result<Command<'a>, AllocError>
     ensures { IfOk result (λ c. app_of c ≡ with_commands (app_of app.entry)
-        (map (λ help. app_by (map (λ s. s.now) words.now) (command_of_form help.form.now))
-        helps.now)) }
+        (map (λ help. app_of_command (command_of_form help.form.now)) helps.now)) }
 {
     for help in helps {
-        app = app.subcommand(command_of(alloc, help, words)?)?;
+        app = app.subcommand(command_of(alloc, help)?)?;
     }
     Ok(app)
 }
 
-/// The command line, for these words.
+/// The command line, for these words. If the first of them after the program's name is that of a
+/// command, it has this command alone: a parse looks at no other.
 pub(crate) fn command<'a>(alloc: Global, words: &[&str]) -> Result<Command<'a>, AllocError>
     ensures { IfOk result (λ c. ReadsAlike (map (λ s. s.now) words.now) (app_of c)) }
 {
@@ -149,5 +140,11 @@ pub(crate) fn command<'a>(alloc: Global, words: &[&str]) -> Result<Command<'a>, 
         .after_help(EXAMPLE)
         .after_long_help(MANUAL)
         .subcommand_required(true);
-    with_commands(alloc, bare, &COMMANDS, words)
+    let Some(name) = words.get(1) else {
+        return with_commands(alloc, bare, &COMMANDS);
+    };
+    match command_named(name) {
+        Some(help) => with_commands(alloc, bare, &[help]),
+        None => with_commands(alloc, bare, &COMMANDS),
+    }
 }
