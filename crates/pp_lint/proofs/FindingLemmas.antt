@@ -1,17 +1,20 @@
 -- What is found in a line, and line by line.
 use Rattle.std.proofs.Common.{◌≡◌, ℕ, ◌+◌, ◌-◌, ◌<◌, ◌≤◌, Bool, true, false, List, [], ◌∷◌, ◌++◌, length, take, drop, get_or, map, Option, Some, None, refl, subst, sym, ap, ◌∙◌, arith}
-use Rattle.std.specs.Prelude.{◌||◌, ◌&&◌, ◌==◌, bytes_eq, codes, filter, find, if◌then◌else◌, nat_le, not, position, slice_index}
-use Rattle.std.specs.List.{flat_map, list_any, prefix_len, range_with_len, slice_split}
+use Rattle.std.specs.Prelude.{◌||◌, ◌&&◌, ◌==◌, bytes_eq, codes, filter, filter_map, find, if◌then◌else◌, nat_le, not, position, slice_index, unwrap_or}
+use Rattle.std.specs.List.{cons_option, flat_map, last_or, list_any, prefix_len, range_with_len, slice_split}
 use Rattle.std.specs.Str.Lines.{strip_carriage_return}
 use Rattle.std.proofs.lemmas.List.{append-nil, drop_more, get_or-map, length-drop, length-map, length-take, take_more}
+use Rattle.std.proofs.lemmas.List.Elements.{filter_map-append}
 use Rattle.std.proofs.lemmas.List.Folds.{list_any-append}
 use Rattle.std.proofs.lemmas.List.Sums.{count_by-le-length, length-filter}
 use Rattle.std.proofs.lemmas.Bool.{le-ltb, lt-ltb}
 use Rattle.std.proofs.lemmas.Slice.Eq.{bytes_eq-Decides}
 use Rattle.std.proofs.lemmas.List.Splits.{length-slice_split}
+use Rattle.pp_numbers.proofs.GrowingLists.{range_more}
+use Rattle.pp_numbers.proofs.LastElements.{last_or-push}
 use Rattle.pp_numbers.specs.declared.profile.Profile.{Profile}
 use Rattle.pp_deck.specs.OctalNumber.{number}
-use Rattle.pp_deck.specs.DeckLine.{Line, central_line, keyword_of}
+use Rattle.pp_deck.specs.DeckLine.{central_line, keyword_of}
 use Rattle.pp_deck.specs.DeckMeaning.{begins_section, has_fields, is_foreign, size_by, size_in, size_of, stated_size}
 use Rattle.pp_deck.specs.DeckText.{Fields, fields_in, fields_of, is_blank, is_comment, is_line_feed, is_nonempty, lines_of}
 use Rattle.pp_deck.specs.declared.deck_fault.DeckCode.{DeckCode}
@@ -19,10 +22,10 @@ use Rattle.pp_text.proofs.PrintingLemmas.{prints_on, range_flat}
 use Rattle.pp_text.specs.PrintedText.{line_end}
 use Rattle.pp_text.specs.TextWriter.{Prints}
 use Rattle.pp_text.specs.declared.text_writer.TextWriter.{TextWriter}
-use Rattle.pp_lint.specs.CommentFindings.{comment_findings}
 use Rattle.pp_lint.specs.FaultWords.{fault_words}
 use Rattle.pp_lint.specs.Finding.{Finding}
-use Rattle.pp_lint.specs.Findings.{fault_found, findings, findings_at, findings_in, line_findings, mark}
+use Rattle.pp_lint.specs.Findings.{fault_found, findings, findings_at, findings_in, found_without_fault, line_findings, mark}
+use Rattle.pp_lint.specs.Given.{named_by, notes, said_at, section_at, section_begun}
 use Rattle.pp_lint.specs.LineFault.{HasFault, after_fields, before_line, fault_after, lone_number, said_after}
 use Rattle.pp_lint.specs.LintText.{finding_line, is_something_found, lint_text}
 use Rattle.pp_lint.specs.declared.{line_fault.Before.Before, line_fault.Fault.Fault}
@@ -47,20 +50,20 @@ few_fields line =
 
 -- ---- a line
 
-pub foreign_found : (k : ℕ) (line : List ℕ) (fault_of : Fields → Option DeckCode) (said : Option Line) (i : ℕ) → Some i ≡ position is_foreign line
-    → line_findings k line fault_of said ≡ record { line = k + 1; column = i + 1; words = fault_words DeckCode.NotAscii [] } ∷ []
+pub foreign_found : (k : ℕ) (line : List ℕ) (fault_of : Fields → Option DeckCode) (others : List Finding) (i : ℕ) → Some i ≡ position is_foreign line
+    → line_findings k line fault_of others ≡ record { line = k + 1; column = i + 1; words = fault_words DeckCode.NotAscii [] } ∷ []
 unfolding line_findings
-foreign_found k line fault_of said i is = rw (← is) refl
+foreign_found k line fault_of others i is = rw (← is) refl
 
-pub fault_is_found : (k : ℕ) (line : List ℕ) (fault_of : Fields → Option DeckCode) (said : Option Line) (fault : Fault) → None ≡ position is_foreign line
-    → HasFault fault_of (fields_of line) 0 fault → line_findings k line fault_of said ≡ fault_found k line fault.code fault.field ∷ []
+pub fault_is_found : (k : ℕ) (line : List ℕ) (fault_of : Fields → Option DeckCode) (others : List Finding) (fault : Fault) → None ≡ position is_foreign line
+    → HasFault fault_of (fields_of line) 0 fault → line_findings k line fault_of others ≡ fault_found k line fault.code fault.field ∷ []
 unfolding line_findings
-fault_is_found k line fault_of said fault ascii has = rw (← ascii, code_is fault_of (fields_of line) fault has, field_is fault_of (fields_of line) fault has) refl
+fault_is_found k line fault_of others fault ascii has = rw (← ascii, code_is fault_of (fields_of line) fault has, field_is fault_of (fields_of line) fault has) refl
 
-pub comment_is_found : (k : ℕ) (line : List ℕ) (fault_of : Fields → Option DeckCode) (said : Option Line) → None ≡ position is_foreign line → fault_of (fields_of line) ≡ None
-    → line_findings k line fault_of said ≡ comment_findings k line said
+pub others_are_found : (k : ℕ) (line : List ℕ) (fault_of : Fields → Option DeckCode) (others : List Finding) → None ≡ position is_foreign line → fault_of (fields_of line) ≡ None
+    → line_findings k line fault_of others ≡ others
 unfolding line_findings
-comment_is_found k line fault_of said ascii none = rw (← ascii, none) refl
+others_are_found k line fault_of others ascii none = rw (← ascii, none) refl
 
 pub one_line : (finding : Finding) → finding_line finding ≡ flat_map finding_line (finding ∷ [])
 one_line finding = sym (append-nil (finding_line finding))
@@ -78,8 +81,27 @@ any_more p lines k within = sym (ap (list_any p) (take_more lines k [] within) �
     one true = refl
     one false = refl
 
+unless_last : (o : Option (Option ℕ)) (xs : List (Option ℕ)) → unwrap_or (last_or None (xs ++ cons_option o [])) None ≡ unwrap_or o (unwrap_or (last_or None xs) None)
+unless_last None xs = ap (λ ys. unwrap_or (last_or None ys) None) (append-nil xs)
+unless_last (Some x) xs = ap (λ o. unwrap_or o None) (last_or-push None xs x)
+
+if_begun : (b : Bool) (n s : Option ℕ) → unwrap_or (if b then Some n else None) s ≡ (if b then n else s)
+if_begun true n s = refl
+if_begun false n s = refl
+
+section_more : (profile : Profile) (lines : List Fields) (k : ℕ)
+    → (if begins_section (get_or lines k []) then named_by (said_at profile lines k) else section_at profile lines k) ≡ section_at profile lines (k + 1)
+unfolding section_at
+section_more profile lines k =
+    let begun = section_begun profile lines in
+    sym (ap (λ ks. unwrap_or (last_or None (filter_map begun ks)) None) (range_more 0 k ∙ ap (λ j. range_with_len 0 k ++ j ∷ []) (omega arith))
+    ∙ ap (λ xs. unwrap_or (last_or None xs) None) (filter_map-append begun (range_with_len 0 k) (k ∷ []))
+    ∙ unless_last (begun k) (filter_map begun (range_with_len 0 k))
+    ∙ if_begun (begins_section (get_or lines k [])) (named_by (said_at profile lines k)) (section_at profile lines k))
+
 pub before_more : (profile : Profile) (lines : List Fields) (k : ℕ) → k < length lines → after_fields (before_line profile lines k) (get_or lines k []) ≡ before_line profile lines (k + 1)
-before_more profile lines k within = rw (← any_more has_fields lines k within, ← any_more begins_section lines k within) refl
+before_more profile lines k within =
+    rw (← any_more has_fields lines k within, ← any_more begins_section lines k within, ← section_more profile lines k) refl
 
 -- ---- sections
 
@@ -195,7 +217,7 @@ before_next profile lines k line before is within here =
     ∙ before_more profile (map fields_of lines) k (omega (arith, within, length-map lines fields_of))
 
 pub findings_here : (profile : Profile) (lines : List (List ℕ)) (k : ℕ) (line : List ℕ) (before : Before) → before ≡ before_line profile (map fields_of lines) k → get_or lines k [] ≡ line
-    → line_findings k line (fault_after before) (said_after before (fields_of line)) ≡ findings_at profile lines k
+    → line_findings k line (fault_after before) (found_without_fault k line (notes profile (map fields_of lines)) before.section (said_after before (fields_of line))) ≡ findings_at profile lines k
 findings_here profile lines k line before is here = rw (is, ← here) refl
 
 pub found_at : (profile : Profile) (lines : List (List ℕ)) (k : ℕ) (found here : Bool) → found ≡ is_something_found (flat_map (findings_at profile lines) (range_with_len 0 k))
@@ -223,11 +245,12 @@ pub prints_finding : {W : Type 0} (contents : W → Option (List ℕ)) (old new 
     → Prints contents old new (finding_line finding) → Prints contents old new (flat_map finding_line found)
 prints_finding contents old new finding found is printed = rw is (subst (Prints contents old new) (one_line finding) printed)
 
-pub after_some : (before : Before) (fields : Fields) (first : List ℕ) (rest : Fields) (inside : Bool) → fields ≡ first ∷ rest → inside ≡ (before.is_in_section || bytes_eq first (codes "PP"))
-    → record before { is_after_fields = true; is_in_section = inside } ≡ after_fields before fields
-after_some before fields first rest inside is in_section =
+pub after_some : (before : Before) (fields : Fields) (first : List ℕ) (rest : Fields) (inside : Bool) (processor : Option ℕ) → fields ≡ first ∷ rest → inside ≡ (before.is_in_section || bytes_eq first (codes "PP"))
+    → processor ≡ (if bytes_eq first (codes "PP") then named_by (said_after before fields) else before.section)
+    → record before { is_after_fields = true; is_in_section = inside; section = processor } ≡ after_fields before fields
+after_some before fields first rest inside processor is in_section of =
     let some : (before.is_after_fields || has_fields (first ∷ rest)) ≡ true = grind arith in
-    rw (is, some, begins_is first rest, in_section) refl
+    rw (of, is, some, begins_is first rest, in_section) refl
 
 pub prints_something : {W : Type 0} (contents : W → Option (List ℕ)) (old new : TextWriter W) (profile : Profile) (deck : List ℕ) → is_something_found (findings profile deck) ≡ true
     → Prints contents old new (flat_map finding_line (findings profile deck)) → Prints contents old new (lint_text profile deck)

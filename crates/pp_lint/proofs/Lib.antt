@@ -3,7 +3,10 @@ mod ColumnLemmas
 mod CommentLemmas
 mod FaultLemmas
 mod FaultOfLineLemmas
+mod FirstLinesLemmas
+mod GivenLemmas
 mod LoadLemmas
+mod WarningLemmas
 mod WordsLemmas
 -- facts of the definitions, which proofs of other crates cite
 pub mod FindingLemmas

@@ -17,6 +17,7 @@ use Rattle.pp_deck.specs.Flaw.{code_of}
 use Rattle.pp_deck.specs.declared.deck_fault.DeckCode.{DeckCode}
 use Rattle.pp_deck.specs.DeckText.{Fields, fields_of, is_line_feed, lines_of}
 use Rattle.pp_lint.specs.FieldAtFault.{fault_in as of_read}
+use Rattle.pp_lint.specs.Finding.{Finding}
 use Rattle.pp_lint.specs.Findings.{fault_as_line, findings, findings_at, findings_in, line_findings, mark}
 use Rattle.pp_lint.specs.LintText.{is_something_found}
 use Rattle.pp_lint.proofs.FindingLemmas.{fields_at, lines_are, long_deck, marked_deck, none_of, plain_deck}
@@ -75,12 +76,12 @@ record IsClean (line : List ℕ) (fault : Option DeckCode) : Type 0 where
   ascii : position is_foreign line ≡ None
   right : fault ≡ None
 
-clean_by : (k : ℕ) (line : List ℕ) (fault_of : Fields → Option DeckCode) (said : Option Line) (o : Option ℕ) (fault : Option DeckCode) → position is_foreign line ≡ o → fault_of (fields_of line) ≡ fault
-    → line_findings k line fault_of said ≡ [] → IsClean line (fault_of (fields_of line))
+clean_by : (k : ℕ) (line : List ℕ) (fault_of : Fields → Option DeckCode) (others : List Finding) (o : Option ℕ) (fault : Option DeckCode) → position is_foreign line ≡ o → fault_of (fields_of line) ≡ fault
+    → line_findings k line fault_of others ≡ [] → IsClean line (fault_of (fields_of line))
 unfolding line_findings
-clean_by k line fault_of said None None at is none = record { ascii = at; right = is }
-clean_by k line fault_of said None (Some code) at is none = let found = rw (at, is) at none in absurd (cc)
-clean_by k line fault_of said (Some i) fault at is none = let found = rw at at none in absurd (cc)
+clean_by k line fault_of others None None at is none = record { ascii = at; right = is }
+clean_by k line fault_of others None (Some code) at is none = let found = rw (at, is) at none in absurd (cc)
+clean_by k line fault_of others (Some i) fault at is none = let found = rw at at none in absurd (cc)
 
 -- each line of a text in which nothing is found
 clean_at : (profile : Profile) (text : List ℕ) → findings_in profile text ≡ [] → (k : ℕ) → k < length (slice_split is_line_feed text)

@@ -1,9 +1,10 @@
 -- What a line of words says, by its fields.
-use Rattle.std.proofs.Common.{◌≡◌, ℕ, ◌+◌, Bool, true, false, List, [], ◌∷◌, Option, Some, None, Result, Ok, Err, refl, sym, ap, ◌∙◌}
+use Rattle.std.proofs.Common.{◌≡◌, ℕ, ◌+◌, ◌-◌, ◌<◌, Bool, true, false, List, [], ◌∷◌, Option, Some, None, Result, Ok, Err, refl, sym, ap, ◌∙◌, arith, inl, inr, length}
 use Rattle.std.specs.Prelude.{◌&&◌, bytes_eq, codes, nat_le, nat_lt, if◌then◌else◌, IfNone, IfSome, drop, is_some, not, slice_get, slice_index, unwrap_or}
 use Rattle.std.specs.Char.{is_ascii_digit}
 use Rattle.std.specs.Option.{ok_or}
 use Rattle.std.specs.Result.{result_ok}
+use Rattle.std.proofs.lemmas.Bool.{cases_lt, ltb-true}
 use Rattle.std.proofs.lemmas.Slice.Eq.{bytes_eq-Decides}
 use Rattle.pp_word.specs.Address.{next_place, place_count}
 use Rattle.pp_word.specs.Numeral.{numeral}
@@ -26,19 +27,41 @@ use Rattle.pp_lint.specs.declared.{instruction.Instruction.Instruction, line_fau
 
 -- ---- the words
 
-record Taken {F : Type 0} (o : Option ℕ) (read : Result (List ℕ) F) (ws : List ℕ) : Type 0 where
-  word : ℕ
-  more : List ℕ
-  first : o ≡ Some word
-  later : read ≡ Ok more
-  all : ws ≡ word ∷ more
+pub record Taken {F : Type 0} (o : Option ℕ) (within : Bool) (read : Result (List ℕ) F) (ws : List ℕ) : Type 0 where
+  pub word : ℕ
+  pub more : List ℕ
+  pub first : o ≡ Some word
+  pub here : within ≡ true
+  pub later : read ≡ Ok more
+  pub all : ws ≡ word ∷ more
 
-taken : (o : Option ℕ) (within : Bool) (bad past : _) (read : Result (List ℕ) _) (ws : List ℕ)
-    → (ok_or o bad >>= λ word. (if within then read else Err past) >>= λ more. Ok (word ∷ more)) ≡ Ok ws → Taken o read ws
+pub taken : (o : Option ℕ) (within : Bool) (bad past : _) (read : Result (List ℕ) _) (ws : List ℕ)
+    → (ok_or o bad >>= λ word. (if within then read else Err past) >>= λ more. Ok (word ∷ more)) ≡ Ok ws → Taken o within read ws
 taken None within bad past read ws is = absurd (cc)
 taken (Some word) false bad past read ws is = absurd (cc)
 taken (Some word) true bad past (Err flaw) ws is = absurd (cc)
-taken (Some word) true bad past (Ok more) ws is = record { word = word; more = more; first = refl; later = refl; all = cc }
+taken (Some word) true bad past (Ok more) ws is = record { word = word; more = more; first = refl; here = refl; later = refl; all = cc }
+
+-- as many words as fields, each below the end
+pub record HasRoom (place end : ℕ) (fields : Fields) (ws : List ℕ) : Type 0 where
+  pub each : length ws ≡ length fields
+  pub within : (i : ℕ) → i < length fields → place + i < end
+
+room_more : (place end : ℕ) (field : Field) (fields : Fields) (ws more : List ℕ) (word : ℕ) → HasRoom (place + 1) end fields more → place < end → ws ≡ word ∷ more → HasRoom place end (field ∷ fields) ws
+room_more place end field fields ws more word room here is = record {
+  each = let more_is = ap length is in omega (arith, more_is, room.each);
+  within = λ i below. elim (cases_lt 0 i) [
+    | inl later ↦ let next = room.within (i - 1) (omega (arith, later, below)) in omega (arith, next, later)
+    | inr first ↦ omega (arith, first, here)
+  ];
+}
+
+pub words_have_room : (most place end : ℕ) (past : _) (fields : Fields) (ws : List ℕ) → words_in most place end past fields ≡ Ok ws → HasRoom place end fields ws
+unfolding words_in number
+words_have_room most place end past [] ws is = record { each = cc; within = λ i below. absurd (omega (arith, below)) }
+words_have_room most place end past (field ∷ fields) ws is =
+    let t = taken (numeral 8 most field) (nat_lt place end) _ past (words_in most (place + 1) end past fields) ws is in
+    room_more place end field fields ws t.more t.word (words_have_room most (place + 1) end past fields t.more t.later) (ltb-true place end t.here) t.all
 
 words_are : (place : ℕ) (past : _) (fields : Fields) (ws : List ℕ) → words_in 4 place place_count past fields ≡ Ok ws → ws ≡ words_in_fields fields
 unfolding words_in number
@@ -53,6 +76,7 @@ pub record IsWordsLine (first : Field) (rest : Fields) (said : Option Line) : Ty
   pub place : ℕ
   pub at : numeral 8 4 first ≡ Some place
   pub is : said ≡ Some (words place (words_in_fields rest))
+  pub room : (i : ℕ) → i < length rest → place + i < place_count
 
 -- what is read of a line without a fault
 made_of : (x : ℕ) (past : _) (rest : Fields) (read : Result (List ℕ) _) → words_in 4 x place_count past rest ≡ read → fault_in code_of (read >>= λ ws. Ok (words x ws)) ≡ None
@@ -60,11 +84,16 @@ made_of : (x : ℕ) (past : _) (rest : Fields) (read : Result (List ℕ) _) → 
 made_of x past rest (Err flaw) read none = absurd (cc)
 made_of x past rest (Ok ws) read none = ap (λ more. Some (words x more)) (words_are x past rest ws read)
 
+room_of : (x : ℕ) (past : _) (rest : Fields) (read : Result (List ℕ) _) → words_in 4 x place_count past rest ≡ read → fault_in code_of (read >>= λ ws. Ok (words x ws)) ≡ None
+    → (i : ℕ) → i < length rest → x + i < place_count
+room_of x past rest (Err flaw) read none = absurd (cc)
+room_of x past rest (Ok ws) read none = (words_have_room 4 x place_count past rest ws read).within
+
 placed : (o : Option ℕ) (bad past : _) (first : Field) (rest : Fields) → numeral 8 4 first ≡ o
     → fault_in code_of (ok_or o bad >>= λ x. words_in 4 x place_count past rest >>= λ ws. Ok (words x ws)) ≡ None
     → IsWordsLine first rest (result_ok (ok_or o bad >>= λ x. words_in 4 x place_count past rest >>= λ ws. Ok (words x ws)))
 placed None bad past first rest at none = absurd (cc)
-placed (Some x) bad past first rest at none = record { place = x; at = at; is = made_of x past rest _ refl none }
+placed (Some x) bad past first rest at none = record { place = x; at = at; is = made_of x past rest _ refl none; room = room_of x past rest _ refl none }
 
 words_line_says : (first : Field) (rest : Fields) → fault_in code_of (words_line first rest) ≡ None → IsWordsLine first rest (result_ok (words_line first rest))
 unfolding words_line number

@@ -1,7 +1,6 @@
 -- What is found in a deck, in the order of its lines.
-use Rattle.std.specs.Prelude.{ℕ, ◌+◌, Bool, true, false, List, [], ◌∷◌, length, take, drop, map, Option, None, Some, position, bytes_eq, codes, slice_index_or, nat_lt, if◌then◌else◌}
+use Rattle.std.specs.Prelude.{ℕ, ◌+◌, Bool, true, false, List, [], ◌∷◌, ◌++◌, length, take, drop, map, Option, None, Some, position, bytes_eq, codes, slice_index_or, nat_lt, if◌then◌else◌}
 use Rattle.std.specs.List.{flat_map, list_any, range_with_len, slice_split}
-use Rattle.std.specs.Result.{result_ok}
 use Rattle.pp_numbers.specs.declared.profile.Profile.{Profile}
 use Rattle.pp_deck.specs.DeckLine.{Line, line_after}
 use Rattle.pp_deck.specs.DeckMeaning.{begins_section, has_fields, is_foreign, size_of}
@@ -14,13 +13,10 @@ use Rattle.pp_lint.specs.CommentFindings.{comment_findings}
 use Rattle.pp_lint.specs.FaultWords.{fault_words}
 use Rattle.pp_lint.specs.FieldAtFault.{fault_in, field_at_fault}
 use Rattle.pp_lint.specs.Finding.{Finding}
+use Rattle.pp_lint.specs.Given.{Note, notes, said_as_line, section_at}
+use Rattle.pp_lint.specs.Warnings.{warnings}
 
--- what fields say as line k of these lines, and the fault that they have if they say nothing
-abbrev pub said_as_line : Profile → List Fields → ℕ → Fields → Option Line
-said_as_line profile lines k fields =
-    result_ok (line_after profile (size_of lines) (list_any has_fields (take k lines))
-    (list_any begins_section (take k lines)) fields)
-
+-- the fault that fields have as line k of these lines, if they say nothing
 abbrev pub fault_as_line : Profile → List Fields → ℕ → Fields → Option DeckCode
 fault_as_line profile lines k fields =
     fault_in code_of (line_after profile (size_of lines) (list_any has_fields (take k lines))
@@ -34,30 +30,38 @@ fault_found k line code i = record {
   words = fault_words code (slice_index_or (fields_of line) i []);
 }
 
--- the fault that the fields of line k have; if they have none, what is found in its comment
-abbrev pub found_in : ℕ → List ℕ → (Fields → Option DeckCode) → Option Line → Option DeckCode
+-- the fault that the fields of line k have; if they have none, what else is found in it
+abbrev pub found_in : ℕ → List ℕ → (Fields → Option DeckCode) → List Finding → Option DeckCode
     → List Finding
-found_in k line fault_of said None = comment_findings k line said
-found_in k line fault_of said (Some code) =
+found_in k line fault_of else_found None = else_found
+found_in k line fault_of else_found (Some code) =
     fault_found k line code (field_at_fault fault_of (fields_of line)) ∷ []
 
 -- the first byte of line k that is not ASCII; if all are, what is found in it by its fields
-abbrev pub found_unless_foreign : ℕ → List ℕ → (Fields → Option DeckCode) → Option Line → Option ℕ
+abbrev pub found_unless_foreign : ℕ → List ℕ → (Fields → Option DeckCode) → List Finding → Option ℕ
     → List Finding
-found_unless_foreign k line fault_of said (Some i) =
+found_unless_foreign k line fault_of else_found (Some i) =
     record { line = k + 1; column = i + 1; words = fault_words NotAscii [] } ∷ []
-found_unless_foreign k line fault_of said None =
-    found_in k line fault_of said (fault_of (fields_of line))
+found_unless_foreign k line fault_of else_found None =
+    found_in k line fault_of else_found (fault_of (fields_of line))
 
-unfoldable pub line_findings : ℕ → List ℕ → (Fields → Option DeckCode) → Option Line → List Finding
-line_findings k line fault_of said =
-    found_unless_foreign k line fault_of said (position is_foreign line)
+unfoldable pub line_findings : ℕ → List ℕ → (Fields → Option DeckCode) → List Finding → List Finding
+line_findings k line fault_of else_found =
+    found_unless_foreign k line fault_of else_found (position is_foreign line)
+
+-- what is found in line k if it has no fault: by what all lines give, and in its comment
+abbrev pub found_without_fault : ℕ → List ℕ → List Note → Option ℕ → Option Line → List Finding
+found_without_fault k line notes processor said =
+    warnings k line notes processor said ++ comment_findings k line said
 
 -- what is found in line k of these lines
 abbrev pub findings_at : Profile → List (List ℕ) → ℕ → List Finding
-findings_at profile lines k = let line = slice_index_or lines k [] in
-    line_findings k line (fault_as_line profile (map fields_of lines) k)
-    (said_as_line profile (map fields_of lines) k (fields_of line))
+findings_at profile lines k =
+    let line = slice_index_or lines k [] in
+    let fields = map fields_of lines in
+    line_findings k line (fault_as_line profile fields k)
+    (found_without_fault k line (notes profile fields) (section_at profile fields k)
+    (said_as_line profile fields k (fields_of line)))
 
 -- what is found in the lines of a text
 unfoldable pub findings_in : Profile → List ℕ → List Finding

@@ -5,9 +5,13 @@ pub mod Instruction
 pub mod CommentFindings
 pub mod FieldAtFault
 pub mod FaultWords
+pub mod Given
+pub mod Warnings
 pub mod Findings
 pub mod LintText
 -- cited only by private contracts: nobody has to read these to believe what the crate promises
 pub mod LineFault
 pub mod FieldsBefore
 pub mod WordsOfLine
+pub mod FirstLines
+pub mod RowOfLine

@@ -1,5 +1,5 @@
 -- A fault of a line as it is met, field by field.
-use Rattle.std.specs.Prelude.{◌≡◌, ◌≢◌, ℕ, ◌+◌, ◌-◌, ◌<◌, ◌≤◌, ◌||◌, List, [], ◌∷◌, length, take, Bool, true, false, nat_lt, Option, None, Some}
+use Rattle.std.specs.Prelude.{◌≡◌, ◌≢◌, ℕ, ◌+◌, ◌-◌, ◌<◌, ◌≤◌, ◌||◌, List, [], ◌∷◌, length, take, Bool, true, false, nat_lt, Option, None, Some, if◌then◌else◌}
 use Rattle.std.specs.List.{list_any}
 use Rattle.std.specs.Result.{result_ok}
 use Rattle.pp_word.specs.Numeral.{numeral}
@@ -10,6 +10,7 @@ use Rattle.pp_deck.specs.DeckText.{Field, Fields}
 use Rattle.pp_deck.specs.Flaw.{code_of}
 use Rattle.pp_deck.specs.declared.deck_fault.DeckCode.{DeckCode}
 use Rattle.pp_lint.specs.FieldAtFault.{fault_in, fault_number}
+use Rattle.pp_lint.specs.Given.{named_by, section_at}
 use Rattle.pp_lint.specs.declared.{line_fault.Before.Before, line_fault.Fault.Fault}
 
 -- what fields say as a line after others, and the fault that they have if they say nothing
@@ -65,6 +66,7 @@ abbrev pub after_fields : Before → Fields → Before
 after_fields before fields = record before {
   is_after_fields = before.is_after_fields || has_fields fields;
   is_in_section = before.is_in_section || begins_section fields;
+  section = if begins_section fields then named_by (said_after before fields) else before.section;
 }
 
 -- what stands before line k
@@ -74,6 +76,7 @@ before_line profile lines k = record {
   size = size_of lines;
   is_after_fields = list_any has_fields (take k lines);
   is_in_section = list_any begins_section (take k lines);
+  section = section_at profile lines k;
 }
 
 -- the number of at most six digits in fields of which there is one alone

@@ -6,12 +6,15 @@ mod claim;
 mod column;
 mod comment_findings;
 mod fault_words;
+mod first_lines;
 mod instruction;
 mod law;
 mod line_fault;
 mod line_findings;
 mod lint_text;
+mod row;
 mod text_lines;
+mod warnings;
 
 pub use fault_words::print_bytes;
 pub use law::lint_law;

@@ -11,7 +11,7 @@ ghost use Rattle.pp_lint.specs.FieldAtFault.{fault_in};
 ghost use Rattle.pp_lint.specs.LineFault.{BeginWithNumber, IsFaultOf, IsFaultOfLine, fault_after, fault_of_words};
 
 use pp_deck::{DeckCode, Fields};
-use pp_numbers::Profile;
+use pp_numbers::{PpNo, Profile};
 use pp_word::numeral;
 
 /// What a line depends on besides its fields.
@@ -24,6 +24,8 @@ pub(crate) struct Before {
     pub(crate) is_after_fields: bool,
     /// Whether a `PP` line does.
     pub(crate) is_in_section: bool,
+    /// The processor that the last `PP` line before it names; none if that line has a fault.
+    pub(crate) section: Option<PpNo>,
 }
 
 /// A fault, and the number of the field at fault; the first field is 0.

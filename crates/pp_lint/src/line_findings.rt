@@ -1,13 +1,15 @@
 //! What is found in a line.
 
-ghost use Rattle.std.specs.Prelude.{ℕ, ◌≡◌, ◌+◌, ◌++◌, [], codes, position, slice_index_or};
+ghost use Rattle.std.specs.Prelude.{ℕ, ◌≡◌, ◌+◌, ◌≤◌, ◌^◌, ◌++◌, [], List, codes, position, slice_index_or};
 ghost use Rattle.std.specs.List.{flat_map};
 ghost use Rattle.pp_word.specs.Numeral.{short_decimal};
 ghost use Rattle.pp_deck.specs.DeckMeaning.{is_foreign};
 ghost use Rattle.pp_deck.specs.DeckText.{fields_of};
 ghost use Rattle.pp_lint.specs.Column.{column_of};
 ghost use Rattle.pp_lint.specs.FaultWords.{fault_words};
-ghost use Rattle.pp_lint.specs.Findings.{line_findings};
+ghost use Rattle.pp_lint.specs.Findings.{found_without_fault, line_findings};
+ghost use Rattle.pp_lint.specs.FirstLines.{Shows};
+ghost use Rattle.pp_lint.specs.Given.{Note};
 ghost use Rattle.pp_lint.specs.LineFault.{fault_after, said_after};
 ghost use Rattle.pp_lint.specs.LintText.{finding_line, is_something_found};
 ghost use Rattle.pp_text.specs.TextWriter.{Prints};
@@ -15,24 +17,31 @@ ghost use Rattle.pp_text.specs.TextWriter.{Prints};
 use crate::column::Columns;
 use crate::comment_findings::print_comment_findings;
 use crate::fault_words::print_fault_words;
+use crate::first_lines::FirstLines;
 use crate::line_fault::{Before, Fault, fault_of};
+use crate::warnings::print_warnings;
 use pp_deck::{DeckCode, Fields};
 use pp_text::{TextWriter, print_short_decimal};
+use std::alloc::Allocator;
 use std::io::Write;
 
 /// Prints what is found in a line of this number, and returns whether something is.
-pub(crate) fn print_line_findings<W: Write>(
+pub(crate) fn print_line_findings<A: Allocator, W: Write>(
     text: &mut TextWriter<W>,
+    firsts: &FirstLines<A>,
     before: &Before,
     number: u64,
     line: &[u8],
 ) -> bool
-    ensures prints { (k : ℕ) → number ≡ k + 1 → Prints W.contents text.old text.new
-        (flat_map finding_line (line_findings k line.now (fault_after before.now)
-        (said_after before.now (fields_of line.now)))) }
-    ensures found { (k : ℕ)
-        → result ≡ is_something_found (line_findings k line.now (fault_after before.now)
-        (said_after before.now (fields_of line.now))) }
+    requires { before.now.size ≤ 2 ^ 17 }
+    ensures prints { (k : ℕ) (notes : List Note) → Shows firsts.now notes → number ≡ k + 1
+        → Prints W.contents text.old text.new (flat_map finding_line
+        (line_findings k line.now (fault_after before.now) (found_without_fault k line.now notes
+        before.now.section (said_after before.now (fields_of line.now))))) }
+    ensures found { (k : ℕ) (notes : List Note) → Shows firsts.now notes → number ≡ k + 1
+        → result ≡ is_something_found
+        (line_findings k line.now (fault_after before.now) (found_without_fault k line.now notes
+        before.now.section (said_after before.now (fields_of line.now)))) }
 {
     if let Some(place) = first_foreign(line) {
         print_finding(text, number, place as u64 + 1, DeckCode::NotAscii, &[]);
@@ -43,7 +52,11 @@ pub(crate) fn print_line_findings<W: Write>(
             print_fault(text, number, line, &fault);
             true
         }
-        None => print_comment_findings(text, number, line),
+        None => {
+            let is_warned = print_warnings(text, firsts, before, number, line);
+            let is_otherwise = print_comment_findings(text, number, line);
+            is_warned || is_otherwise
+        }
     }
 }
 

@@ -1,24 +1,32 @@
 //! What is found in a deck.
 
-ghost use Rattle.std.specs.Prelude.{◌≡◌, ◌≤◌, IfErr, IfOk, codes, length};
+ghost use Rattle.std.specs.Prelude.{◌≡◌, ◌≤◌, ◌^◌, if◌then◌else◌, Err, IfErr, IfOk, codes, length};
 ghost use Rattle.std.specs.Io.KnownBytes.{Appends};
 ghost use Rattle.std.specs.List.{flat_map};
-ghost use Rattle.pp_deck.specs.DeckLine.{central_line};
+ghost use Rattle.std.specs.Result.{result_ok};
+ghost use Rattle.pp_deck.specs.DeckLine.{central_line, section_line};
 ghost use Rattle.pp_deck.specs.DeckMeaning.{size_of, stated_size};
 ghost use Rattle.pp_deck.specs.DeckText.{fields_of, lines_of};
 ghost use Rattle.pp_lint.specs.Findings.{findings, findings_in};
-ghost use Rattle.pp_lint.specs.LineFault.{after_fields, lone_number};
+ghost use Rattle.pp_lint.specs.FirstLines.{IsRow, Shows};
+ghost use Rattle.pp_lint.specs.Given.{given, named_by, notes};
+ghost use Rattle.pp_lint.specs.LineFault.{after_fields, before_line, lone_number, said_after};
 ghost use Rattle.pp_lint.specs.LintText.{finding_line, is_something_found, lint_text};
+ghost use Rattle.pp_lint.specs.RowOfLine.{text_in};
 ghost use Rattle.pp_text.specs.TextWriter.{Prints};
-ghost use Rattle.pp_text.specs.Written.{AppendsFront};
+ghost use Rattle.pp_text.specs.Written.{IsReportWritten};
 
-use crate::line_fault::{Before, is};
+use crate::first_lines::FirstLines;
+use crate::line_fault::{Before, fault_of, is};
 use crate::line_findings::{print_finding, print_line_findings, print_place};
+use crate::row::{Kind, Row, one, processor_in, row_of};
 use crate::text_lines::TextLines;
+use pp_channel::Memory;
 use pp_deck::{DeckCode, Fields};
-use pp_numbers::Profile;
-use pp_text::{TextWriter, WriteFault, print_short_decimal};
+use pp_numbers::{PpNo, Profile};
+use pp_text::{ReportFault, TextWriter, print_short_decimal};
 use pp_word::numeral;
+use std::alloc::Allocator;
 use std::io::Write;
 
 /// The longest deck, in bytes (decimal).
@@ -28,34 +36,77 @@ const LONGEST_DECK: usize = 1_048_576;
 const DEFAULT_SIZE: u32 = 0o10000;
 
 /// Writes what is found in a deck for a machine of this profile: a line for each finding, with line
-/// and column (decimal, from 1), or `nothing found`. Returns whether something is found. It takes
-/// no memory.
-pub fn write_lint<W: Write>(
+/// and column (decimal, from 1), or `nothing found`. Returns whether something is found. Memory is
+/// asked for before the first byte is written.
+pub fn write_lint<A: Allocator, W: Write>(
+    alloc: A,
     writer: &mut W,
     profile: Profile,
     deck: &[u8],
-) -> Result<bool, WriteFault>
+) -> Result<bool, ReportFault>
     ensures written { IfOk result (λ is_found. Appends (W.contents writer.old)
         (W.contents writer.new) (lint_text profile deck.now)) }
     ensures found { IfOk result (λ is_found.
         is_found ≡ is_something_found (findings profile deck.now)) }
-    ensures fault { IfErr result (λ fault. AppendsFront (W.contents writer.old)
-        (W.contents writer.new) (lint_text profile deck.now)) }
+    ensures fault { IfErr result (λ fault. IsReportWritten (lint_text profile deck.now)
+        (Err fault) (W.contents writer.old) (W.contents writer.new)) }
 {
+    let Ok(firsts) = first_lines(alloc, profile, text_in(deck)) else {
+        return Err(ReportFault::Memory);
+    };
     let mut text = TextWriter::new(writer);
-    let is_found = print_text(&mut text, profile, deck);
+    let is_found = print_text(&mut text, &firsts, profile, deck);
     match text.finish() {
         Ok(()) => Ok(is_found),
-        Err(fault) => Err(fault),
+        Err(_) => Err(ReportFault::Write),
     }
 }
 
+/// The text of a deck, behind a byte order mark; nothing if it is too long.
+fn text_in(deck: &[u8]) -> &[u8]
+    ensures value { length deck.now ≤ LONGEST_DECK → result.now ≡ text_in deck.now }
+    ensures short { length result.now ≤ LONGEST_DECK }
+{
+    if deck.len() > LONGEST_DECK {
+        return &[];
+    }
+    deck.strip_prefix(b"\xEF\xBB\xBF").unwrap_or(deck)
+}
+
+/// The first line of a text that gives each thing.
+fn first_lines<A: Allocator>(
+    alloc: A,
+    profile: Profile,
+    deck: &[u8],
+) -> Result<FirstLines<A>, Memory>
+    requires { length deck.now ≤ LONGEST_DECK }
+    ensures { IfOk result (λ firsts. Shows firsts (notes profile (lines_of deck.now))) }
+{
+    let mut firsts = FirstLines::none(alloc)?;
+    let mut before = before_first(profile, deck);
+    let mut number = 0;
+    let mut lines = TextLines::of(deck);
+    while let Some(line) = lines.next_line() {
+        number += 1;
+        firsts.note(&row_after(&before, line), number);
+        before = after_line(&before, line);
+    }
+    Ok(firsts)
+}
+
 /// Prints the text of what is found in a deck, and returns whether something is.
-fn print_text<W: Write>(text: &mut TextWriter<W>, profile: Profile, deck: &[u8]) -> bool
+fn print_text<A: Allocator, W: Write>(
+    text: &mut TextWriter<W>,
+    firsts: &FirstLines<A>,
+    profile: Profile,
+    deck: &[u8],
+) -> bool
+    requires { length deck.now ≤ LONGEST_DECK
+        → Shows firsts.now (notes profile (lines_of (text_in deck.now))) }
     ensures prints { Prints W.contents text.old text.new (lint_text profile deck.now) }
     ensures found { result ≡ is_something_found (findings profile deck.now) }
 {
-    if print_findings(text, profile, deck) {
+    if print_findings(text, firsts, profile, deck) {
         return true;
     }
     text.print(b"nothing found\n");
@@ -63,7 +114,14 @@ fn print_text<W: Write>(text: &mut TextWriter<W>, profile: Profile, deck: &[u8])
 }
 
 /// Prints a line for each finding of a deck, and returns whether there is one.
-fn print_findings<W: Write>(text: &mut TextWriter<W>, profile: Profile, deck: &[u8]) -> bool
+fn print_findings<A: Allocator, W: Write>(
+    text: &mut TextWriter<W>,
+    firsts: &FirstLines<A>,
+    profile: Profile,
+    deck: &[u8],
+) -> bool
+    requires { length deck.now ≤ LONGEST_DECK
+        → Shows firsts.now (notes profile (lines_of (text_in deck.now))) }
     ensures prints { Prints W.contents text.old text.new
         (flat_map finding_line (findings profile deck.now)) }
     ensures found { result ≡ is_something_found (findings profile deck.now) }
@@ -75,10 +133,10 @@ fn print_findings<W: Write>(text: &mut TextWriter<W>, profile: Profile, deck: &[
     match deck.strip_prefix(b"\xEF\xBB\xBF") {
         Some(rest) => {
             print_mark(text);
-            print_lines(text, profile, rest);
+            print_lines(text, firsts, profile, rest);
             true
         }
-        None => print_lines(text, profile, deck),
+        None => print_lines(text, firsts, profile, deck),
     }
 }
 
@@ -93,41 +151,83 @@ fn print_mark<W: Write>(text: &mut TextWriter<W>)
 }
 
 /// Prints what is found in the lines of a text, and returns whether something is.
-fn print_lines<W: Write>(text: &mut TextWriter<W>, profile: Profile, deck: &[u8]) -> bool
-    requires { length deck.now ≤ LONGEST_DECK }
+fn print_lines<A: Allocator, W: Write>(
+    text: &mut TextWriter<W>,
+    firsts: &FirstLines<A>,
+    profile: Profile,
+    deck: &[u8],
+) -> bool
+    requires short { length deck.now ≤ LONGEST_DECK }
+    requires shows { Shows firsts.now (notes profile (lines_of deck.now)) }
     ensures prints { Prints W.contents text.old text.new
         (flat_map finding_line (findings_in profile deck.now)) }
     ensures found { result ≡ is_something_found (findings_in profile deck.now) }
 {
-    let mut before = Before {
-        profile,
-        size: size_of(deck),
-        is_after_fields: false,
-        is_in_section: false,
-    };
+    let mut before = before_first(profile, deck);
     let mut number = 0;
     let mut is_found = false;
     let mut lines = TextLines::of(deck);
     while let Some(line) = lines.next_line() {
         number += 1;
-        let found = print_line_findings(text, &before, number, line);
+        let found = print_line_findings(text, firsts, &before, number, line);
         is_found = is_found || found;
         before = after_line(&before, line);
     }
     is_found
 }
 
+/// What stands before the first line of a text.
+fn before_first(profile: Profile, deck: &[u8]) -> Before
+    ensures { result ≡ before_line profile (lines_of deck.now) 0 }
+{
+    Before {
+        profile,
+        size: size_of(deck),
+        is_after_fields: false,
+        is_in_section: false,
+        section: None,
+    }
+}
+
 /// What a line leaves for the next one.
 fn after_line(before: &Before, line: &[u8]) -> Before
     ensures { result ≡ after_fields before.now (fields_of line.now) }
 {
-    match Fields::of(line).next_field() {
+    let mut fields = Fields::of(line);
+    match fields.next_field() {
         Some(first) => Before {
             is_after_fields: true,
             is_in_section: before.is_in_section || is(first, b"PP"),
+            section: section_after(before, is(first, b"PP"), &mut fields),
             ..*before
         },
         None => *before,
+    }
+}
+
+/// The processor that lines after a line are for: that which it names if it begins with `PP`, by
+/// the fields after its keyword.
+fn section_after(before: &Before, is_section: bool, fields: &mut Fields) -> Option<PpNo>
+    ensures { result ≡ (if is_section
+        then named_by (result_ok (section_line before.now.profile fields.old))
+        else before.now.section) }
+{
+    if is_section {
+        processor_in(before.profile, fields)
+    } else {
+        before.section
+    }
+}
+
+/// What a line gives: a fault, if it has one.
+fn row_after(before: &Before, line: &[u8]) -> Row
+    requires { before.now.size ≤ 2 ^ 17 }
+    ensures value { result ≡ given before.now.section (said_after before.now (fields_of line.now)) }
+    ensures room { IsRow result }
+{
+    match fault_of(before, &mut Fields::of(line)) {
+        Some(_) => one(Kind::Fault),
+        None => row_of(before, &mut Fields::of(line)),
     }
 }
 

@@ -53,8 +53,8 @@ pub(crate) const CASES: [Case; 29] = [
     (&["ppsim", "orders", "--states", "100"], HANDOFF, 5),
     (&["ppsim", "races", "--turns", "100"], LOST_AND_WAITING, 5),
     (&["ppsim", "draw", "--turns", "30"], LOST_AND_WAITING, 4),
-    (&["ppsim", "lint"], HANDOFF, 1),
-    (&["ppsim", "lint"], TRACE, 1),
+    (&["ppsim", "lint"], HANDOFF, 2),
+    (&["ppsim", "lint"], TRACE, 2),
     (&["ppsim", "test", "--turns", "40"], EXPECTED, 6),
     (
         &[

@@ -8,6 +8,7 @@ use Rattle.pp_text.proofs.PrintingLemmas.{prints_all, prints_more, prints_nothin
 use Rattle.pp_lint.specs.Findings.{findings_at, findings_in}
 use Rattle.pp_lint.specs.LintText.{finding_line, is_something_found}
 use Rattle.pp_lint.proofs.FindingLemmas.{before_next, findings_here, found_at, lines_are, next_is, none_left}
+use Rattle.pp_lint.proofs.GivenLemmas.{small_size}
 use Rattle.pp_lint.proofs.lint_text.print_lines.Goals.{then-is_found, else-is_found}
 use Rattle.pp_lint.proofs.lint_text.print_lines.Goals as goal
 
@@ -15,7 +16,7 @@ pub loop-line-init : goal.loop-line-init
 loop-line-init g c = record {
   most = omega arith;
   left = c.of-lines.ensures;
-  before = rw (c.size_of.ensures, lines_are c.args.deck.now) refl;
+  before = rw (← lines_are c.args.deck.now) c.before_first-before.ensures;
   printed = prints_nothing _ _;
   found = refl;
 }
@@ -23,14 +24,18 @@ loop-line-init g c = record {
 pub overflow_add-number : goal.overflow_add-number
 overflow_add-number g c =
     let next = next_is _ _ _ c.loop-line.number c.in-Some.line.now c.loop-line.invariant.left c.in-Some.ensures.taken in
-    omega (arith, next.within, c.requires, length-slice_split is_line_feed c.args.deck.now, count_by-le-length is_line_feed c.args.deck.now)
+    omega (arith, next.within, c.requires.short, length-slice_split is_line_feed c.args.deck.now, count_by-le-length is_line_feed c.args.deck.now)
+
+pub print_line_findings-found-requires : goal.print_line_findings-found-requires
+print_line_findings-found-requires g c = small_size c.args.profile _ c.loop-line.number c.loop-line.before c.loop-line.invariant.before
 
 pub loop-line-preserved : goal.loop-line-preserved
 loop-line-preserved g c =
     let lines = slice_split is_line_feed c.args.deck.now in
     let next = next_is _ _ _ c.loop-line.number c.in-Some.line.now c.loop-line.invariant.left c.in-Some.ensures.taken in
+    let shows = rw (lines_are c.args.deck.now) at c.requires.shows in
     let here = findings_here c.args.profile lines c.loop-line.number c.in-Some.line.now c.loop-line.before c.loop-line.invariant.before next.here in
-    let also : c.print_line_findings-found.result ≡ is_something_found (findings_at c.args.profile lines c.loop-line.number) = c.print_line_findings-found.ensures.found c.loop-line.number ∙ ap is_something_found here in
+    let also : c.print_line_findings-found.result ≡ is_something_found (findings_at c.args.profile lines c.loop-line.number) = c.print_line_findings-found.ensures.found c.loop-line.number _ shows refl ∙ ap is_something_found here in
     let either : c.if-is_found.is_found ≡ (c.loop-line.is_found || c.print_line_findings-found.result) = elim c.if-is_found.branch [
       | then-is_found w ↦ rw w.if-is_found.true (w.is_found-is ∙ w.if-is_found.true)
       | else-is_found w ↦ rw w.if-is_found.false w.is_found-is
@@ -39,7 +44,7 @@ loop-line-preserved g c =
       most = omega (arith, next.within);
       left = next.left;
       before = c.after_line-before.ensures ∙ before_next c.args.profile lines c.loop-line.number c.in-Some.line.now c.loop-line.before c.loop-line.invariant.before next.within next.here;
-      printed = prints_more _ _ _ _ finding_line (findings_at c.args.profile lines) c.loop-line.number c.loop-line.invariant.printed (rw here at (c.print_line_findings-found.ensures.prints c.loop-line.number refl));
+      printed = prints_more _ _ _ _ finding_line (findings_at c.args.profile lines) c.loop-line.number c.loop-line.invariant.printed (rw here at (c.print_line_findings-found.ensures.prints c.loop-line.number _ shows refl));
       found = either ∙ found_at c.args.profile lines c.loop-line.number c.loop-line.is_found c.print_line_findings-found.result c.loop-line.invariant.found also;
     }
 

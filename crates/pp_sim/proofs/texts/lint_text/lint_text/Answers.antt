@@ -1,5 +1,5 @@
 use Rattle.std.proofs.Common.{Ok, Err, sym, ◌∙◌}
-use Rattle.pp_sim.specs.declared.text_fault.TextFault.TheVariants.{Findings, Write}
+use Rattle.pp_sim.specs.declared.text_fault.TextFault.TheVariants.{Findings, Memory, Write}
 use Rattle.pp_sim.proofs.AnswerLemmas.{answered_lint}
 use Rattle.pp_sim.proofs.texts.lint_text.lint_text.Goals as goal
 
@@ -17,8 +17,14 @@ returns-in-Ok-false g c =
     (rw c.as_slice.ensures.value at found, rw c.as_slice.ensures.value at c.in-Ok-false.ensures.written)
     c.in_ok-front.ensures.read c.in_ok-front.ensures.bounded c.in_ok-front.ensures.end
 
-pub returns : goal.returns
-returns g c =
+pub returns-in-Err-Memory : goal.returns-in-Err-Memory
+returns-in-Err-Memory g c =
+    answered_lint c.args.profile _ _ _ _ c.in_ok-front.front.items (Err Memory)
+    (rw c.in-Err-Memory.field-0-is at c.in-Err-Memory.ensures.fault)
+    c.in_ok-front.ensures.read c.in_ok-front.ensures.bounded c.in_ok-front.ensures.end
+
+pub returns-in-Err-Write : goal.returns-in-Err-Write
+returns-in-Err-Write g c =
     answered_lint c.args.profile _ _ _ _ c.in_ok-front.front.items (Err Write)
-    (rw c.as_slice.ensures.value at c.in-Err.ensures.fault)
+    (rw c.as_slice.ensures.value at (rw c.in-Err-Write.field-0-is at c.in-Err-Write.ensures.fault))
     c.in_ok-front.ensures.read c.in_ok-front.ensures.bounded c.in_ok-front.ensures.end
