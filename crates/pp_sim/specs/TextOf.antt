@@ -101,8 +101,9 @@ pub record IsEndsText (turns : ℕ) (deck : LoadedDeck) (text : List ℕ) : Type
   pub looped : AreLoops loops ending deck.machine
   pub text_is : text ≡ ends_text_of (in_use deck) ending turns deck.machine loops
 
--- the text of a loaded deck that has run for N steps; its machine is a whole one; if nothing is found
--- the run is determinate, and if nothing but processors that go on, no step of it races so far
+-- the text of a loaded deck that has run for N steps; its machine is a whole one; if nothing is
+-- found the run is determinate, and if nothing but processors that go on, no step of it races so
+-- far
 pub record IsRacesText (first : List ℕ) (turns : ℕ) (deck : LoadedDeck) (text : List ℕ) : Type 0
   where
     pub text_is : text ≡ races_text (run_of first turns deck) deck.machine
