@@ -59,8 +59,8 @@ pub record Note : Type 0 where
   pub place : ℕ
 
 abbrev pub notes_of : ℕ → Row → List Note
-notes_of number given = map
-    (λ i. record { line = number; kind = given.kind; place = given.first + i })
+notes_of number given =
+    map (λ i. record { line = number; kind = given.kind; place = given.first + i })
     (range_with_len 0 given.count)
 
 -- what lines give, from the first line on; lines are counted from 1

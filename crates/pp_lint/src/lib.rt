@@ -1,5 +1,5 @@
-//! What is found in a deck: each fault, with its line, its column and the field at fault, and what
-//! comments say of instructions that are others.
+//! What is found in a deck: each fault, with its line, its column and the field at fault; what is
+//! set twice, or lacking; and what comments say of instructions that are others.
 #![tactic(auto)]
 
 mod claim;

@@ -23,8 +23,8 @@ returns-in-Err-Memory g c =
     (rw c.in-Err-Memory.field-0-is at c.in-Err-Memory.ensures.fault)
     c.in_ok-front.ensures.read c.in_ok-front.ensures.bounded c.in_ok-front.ensures.end
 
-pub returns-in-Err-Write : goal.returns-in-Err-Write
-returns-in-Err-Write g c =
+pub returns : goal.returns
+returns g c =
     answered_lint c.args.profile _ _ _ _ c.in_ok-front.front.items (Err Write)
     (rw c.as_slice.ensures.value at (rw c.in-Err-Write.field-0-is at c.in-Err-Write.ensures.fault))
     c.in_ok-front.ensures.read c.in_ok-front.ensures.bounded c.in_ok-front.ensures.end
