@@ -14,17 +14,18 @@ function noteFound(/** @type {string} */ id, /** @type {Iterable<string[]>} */ f
 }
 
 /** Finds what is wrong in the deck, and what its lines do, but those at fault. */
-async function explain(/** @type {Answer} */ state, /** @type {Answer} */ { output }) {
+async function explain(/** @type {Answer} */ state, /** @type {Answer} */ { status, output }) {
   const isFaulty = state.status !== 0, findings = [...output.matchAll(/^(\d+):\d+ .*$/gm)];
   const words = findings.map(([words]) => words).join('\n').slice(0, MOST_FOUND);
   $('fault').textContent = words || (state.status > 0 ? faultOf(state) : '');
+  if (explained === deck || status === STOPPED) return;
   noteFound('deck', findings);
-  if (explained === deck) return;
-  explained = deck;
   const lines = /** @type {string[]} */ ($('deck').value.split('\n'));
   const sound = lines.map((it, n) => (isFaulty && found.deck.has(n) ? '' : it));
-  const input = isFaulty ? bytesOf(sound.join('\n')) : deck, lineOf = placesOf(sound);
+  const input = isFaulty ? bytesOf(sound.join('\n')) : deck, lineOf = placesOf(sound), asked = deck;
   const listing = await ask(['list', ...machineWords()], front, input);
+  if (listing.status === STOPPED || deck !== asked) return;
+  explained = deck;
   instructions.clear();
   for (const it of linesOf(listing.output)) {
     const line = lineOf.get(it.place), does = it.text.split('* ')[1]?.trimEnd();

@@ -92,9 +92,8 @@ function showHand(/** @type {Answer} */ { status, output }) {
     button.title = `One step, key ${button.ariaKeyShortcuts}\n${line}`;
     button.className = isHeld(line) ? 'held' : isRunning(line) ? '' : 'rest';
   }
-  const length = Math.min(turn(), list.length), after = list.length - length;
-  const turns = turn() - length;
-  const more = after ? `${after} more after the cursor` : '';
+  const length = Math.min(turn(), list.length), left = list.length - length, turns = turn() - length;
+  const more = left ? `${left} more after the cursor` : '';
   $('then').textContent = turns ? `then ${turns} turns` : more;
   if (document.activeElement === $('order')) return;
   $('order').value = orderText(list, length);
