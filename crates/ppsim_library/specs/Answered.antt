@@ -101,6 +101,7 @@ IsDeclinedFor CallFault.Help a old new = (text : List ℕ) × IsWritten 0 text a
 IsDeclinedFor CallFault.Refused a old new = IsFailed 2 a old new
 IsDeclinedFor CallFault.Number a old new = IsFailed 2 a old new
 IsDeclinedFor CallFault.Picture a old new = IsFailed 2 a old new
+IsDeclinedFor CallFault.Forms a old new = IsFailed 2 a old new
 
 -- the words ask for no work, and are answered so: they ask for help or the version, are no call, or
 -- are one for nothing within the ranges

@@ -40,7 +40,9 @@ fn decline<A: Allocator>(alloc: A, fault: CallFault, text: &[u8], room: &mut [u8
     match fault {
         CallFault::Memory => without_memory(alloc, room),
         CallFault::Help => helped(text, room),
-        CallFault::Refused | CallFault::Number | CallFault::Picture => refused_as(text, room),
+        CallFault::Refused | CallFault::Number | CallFault::Picture | CallFault::Forms => {
+            refused_as(text, room)
+        }
     }
 }
 
