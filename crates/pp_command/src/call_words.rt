@@ -314,7 +314,7 @@ fn without_work<V: Values, A: Allocator + Copy>(alloc: A, name: &str, values: &V
         return reported(alloc, CallFault::Picture, String::from_str(alloc, text));
     }
     if mixes_forms(name, values) {
-        let text = "ppsim: test takes --turns, or --every-order and --states alone\n";
+        let text = "ppsim: give --turns, or --every-order and --states alone\n";
         return reported(alloc, CallFault::Forms, String::from_str(alloc, text));
     }
     let text = "ppsim: number out of range\n";

@@ -17,6 +17,6 @@ pub enum LineFault {
     #[error("a picture has at most 2000 turns: give --from and --to")]
     Picture,
     /// The options of `test` are of none of its two forms.
-    #[error("test takes --turns, or --every-order and --states alone")]
+    #[error("give --turns, or --every-order and --states alone")]
     Forms,
 }

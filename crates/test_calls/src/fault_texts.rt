@@ -41,7 +41,7 @@ fn deck_faults(rt: HostRuntime) {
 /// What a drawing of too many turns is answered.
 const PICTURE: &str = "a picture has at most 2000 turns: give --from and --to";
 
-const FORMS: &str = "test takes --turns, or --every-order and --states alone";
+const FORMS: &str = "give --turns, or --every-order and --states alone";
 
 #[test]
 fn other_faults(rt: HostRuntime) {
