@@ -15,7 +15,7 @@ const RANDOM = 3000;
 // ---- the library, by the part of the page's worker that calls it
 
 const script = fs.readFileSync(path.join(__dirname, '../worker.js'), 'utf8');
-const calling = script.slice(0, script.indexOf('// ---- what the page asks'));
+const calling = script.slice(0, script.indexOf('onmessage ='));
 const library = new WebAssembly.Module(fs.readFileSync(file));
 const run = new Function('it', `'use strict';${calling}library = it; return run;`)(library);
 
