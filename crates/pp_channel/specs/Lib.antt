@@ -1,4 +1,5 @@
 pub mod Session
 pub mod History
 pub mod Answer
+pub mod ChannelText
 pub mod Law

@@ -117,9 +117,14 @@ fn operation_of(event: &Event) -> ChanOp
 }
 
 impl Display for ChannelState {
+    ghost use Rattle.std.specs.Prelude.{Some};
+    ghost use Rattle.pp_channel.specs.ChannelText.{channel_text};
+
+    ghost output = { λ state. Some (channel_text state.flags.active state.register) };
+
     fn fmt<W: Write>(&self, f: &mut Formatter<W>) -> fmt::Result {
         match self.register {
-            Some(word) => write!(f, "ACTIVE FULL {:04o}", word.get()),
+            Some(word) => write!(f, "ACTIVE FULL {word}"),
             None if self.flags.active => write!(f, "ACTIVE EMPTY"),
             None => write!(f, "INACTIVE"),
         }

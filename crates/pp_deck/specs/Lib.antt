@@ -1,4 +1,5 @@
 pub mod Flaw
+pub mod FaultText
 pub mod DeckText
 pub mod OctalNumber
 pub mod DeckLine

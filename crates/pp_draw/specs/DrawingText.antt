@@ -8,7 +8,8 @@ use Rattle.pp_numbers.specs.PpNo.{processor_count, processor_index, processor_nu
 use Rattle.pp_machine.specs.Run.{run}
 use Rattle.pp_deck.specs.DeckMeaning.{LoadedDeck}
 use Rattle.pp_deck.specs.InUse.{in_use}
-use Rattle.pp_text.specs.PrintedText.{channel_text, each_below, state_text}
+use Rattle.pp_channel.specs.ChannelText.{channel_text}
+use Rattle.pp_text.specs.PrintedText.{each_below, state_text}
 use Rattle.pp_word.specs.Numeral.{octal}
 use Rattle.pp_numbers.specs.declared.window.Window.{Window}
 use Rattle.pp_draw.specs.Condition.{channel_phases, own_earlier, phases_from, processor_phases}

@@ -19,7 +19,8 @@ use Rattle.pp_machine.specs.declared.{pp_state.PpState.PpState, trace.Trace.Trac
 use Rattle.pp_machine.specs.declared.pp_state.PpState.TheVariants.{Fault}
 use Rattle.pp_word.specs.Numeral.{decimal, is_digit, numeral, octal}
 use Rattle.pp_word.proofs.NumeralLemmas.{decimal_are, decimal_read, octal_read}
-use Rattle.pp_text.specs.PrintedText.{channel_line as printed_channel_line, channel_text, event_line, event_text, line_end, processor_line, state_text}
+use Rattle.pp_channel.specs.ChannelText.{channel_text}
+use Rattle.pp_text.specs.PrintedText.{channel_line as printed_channel_line, event_line, event_text, line_end, processor_line, state_text}
 use Rattle.pp_text.specs.TextLaw.{EventFits}
 use Rattle.pp_check.specs.TraceLine.{channel_in, channel_line, empty, parsed_event, full_with, inactive, is_processor, parsed_line, number_after, numbered_line, parsed_state, turn_line}
 use Rattle.pp_check.specs.declared.trace_line.TraceLine.TheVariants.{AtTurn, Numbered, Other, Standing}

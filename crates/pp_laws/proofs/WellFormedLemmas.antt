@@ -15,7 +15,8 @@ use Rattle.pp_machine.specs.MachineState.{MachineState, history_of, processor_of
 use Rattle.pp_numbers.specs.PpNo.{processor_index}
 use Rattle.pp_machine.specs.declared.pp_state.PpState.{PpState}
 use Rattle.pp_machine.specs.declared.pp_state.PpState.TheVariants.{Fault}
-use Rattle.pp_text.specs.PrintedText.{channel_text, each_below, state_text}
+use Rattle.pp_channel.specs.ChannelText.{channel_text}
+use Rattle.pp_text.specs.PrintedText.{each_below, state_text}
 use Rattle.pp_numbers.specs.declared.window.Window.{Window}
 use Rattle.pp_draw.specs.Condition.{channel_phases, face_of, own_earlier, processor_phases}
 use Rattle.pp_draw.specs.DrawingText.{channel_lane, drawing, is_flagged, is_used, lane_text, lanes_above, processor_lane, used_among}

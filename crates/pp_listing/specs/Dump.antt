@@ -7,6 +7,7 @@ use Rattle.pp_machine.specs.MachineState.{MachineState, new_machine, processor_o
 use Rattle.pp_machine.specs.Processor.{Processor, new_processor}
 use Rattle.pp_numbers.specs.PpNo.{all_processors}
 use Rattle.pp_machine.specs.Run.{run}
+use Rattle.pp_word.specs.Numeral.{octal}
 use Rattle.pp_machine.specs.declared.{block.Block.Block, pp_state.PpState.PpState}
 use Rattle.pp_machine.specs.declared.pp_state.PpState.TheVariants.{Running, Fault}
 use Rattle.pp_deck.specs.DeckMeaning.{LoadedDeck, deck_meaning}
@@ -43,6 +44,12 @@ all_busy m =
 -- the first reason: a machine is between programs if there is none
 abbrev pub first_busy : MachineState → Option Busy
 first_busy m = slice_get (all_busy m) 0
+
+-- `PP01 within a block`, `PP01 at fault`, `CH05 active`
+abbrev pub busy_text : Busy → List ℕ
+busy_text (WithinBlock n) = codes "PP" ++ octal 2 n ++ codes " within a block"
+busy_text (AtFault n) = codes "PP" ++ octal 2 n ++ codes " at fault"
+busy_text (Active c) = codes "CH" ++ octal 2 c ++ codes " active"
 
 -- ---- what is left between programs
 

@@ -5,22 +5,39 @@ ghost use Rattle.pp_listing.specs.Dump.{first_busy, busy_processor, busy_channel
 
 use pp_channel::{CHANNELS, ChannelNo};
 use pp_machine::{Machine, PROCESSORS, Pp, PpNo, PpState};
+use pp_word::Word6;
 use std::alloc::Allocator;
-use thiserror::Error;
+use std::error::Error;
+use std::fmt::{self, Display, Formatter, Write};
 
 /// Why a machine is not between programs. Numbers are printed in two octal digits.
-#[derive(Clone, Copy, Debug, PartialEq, Eq, Error)]
+#[derive(Clone, Copy, Debug, PartialEq, Eq)]
 pub enum Busy {
     /// A block transfer is in progress.
-    #[error("PP{:02o} within a block", .0.get())]
     WithinBlock(PpNo),
     /// A numbered fault ended the processor.
-    #[error("PP{:02o} at fault", .0.get())]
     AtFault(PpNo),
     /// The channel is active.
-    #[error("CH{:02o} active", .0.get())]
     Active(ChannelNo),
 }
+
+/// As `PP01 within a block`, `PP01 at fault` or `CH05 active`.
+impl Display for Busy {
+    ghost use Rattle.std.specs.Prelude.{Some};
+    ghost use Rattle.pp_listing.specs.Dump.{busy_text};
+
+    ghost output = { λ busy. Some (busy_text busy) };
+
+    fn fmt<W: Write>(&self, f: &mut Formatter<W>) -> fmt::Result {
+        match self {
+            Busy::WithinBlock(n) => write!(f, "PP{} within a block", Word6::truncated(n.get())),
+            Busy::AtFault(n) => write!(f, "PP{} at fault", Word6::truncated(n.get())),
+            Busy::Active(c) => write!(f, "CH{} active", Word6::truncated(c.get())),
+        }
+    }
+}
+
+impl Error for Busy {}
 
 /// The first reason: in a processor, by number, or else on a channel, by number.
 pub(crate) fn first_busy<A: Allocator>(machine: &Machine<A>) -> Option<Busy>

@@ -1,4 +1,5 @@
 pub mod TextAnswer
+pub mod FaultText
 pub mod ThreadsText
 pub mod CheckText
 pub mod LintAnswer

@@ -7,35 +7,51 @@ use pp_deck::DeckFault;
 use pp_listing::Busy;
 use pp_machine::Cut;
 use pp_text::{ReportFault, WriteFault};
-use thiserror::Error;
+use std::error::Error;
+use std::fmt::{self, Display, Formatter};
 
 /// Why a text of a deck or of a trace was not written, or that it says what was found. Every fault
 /// but `Write` and `Findings` comes before the first byte is written.
-#[derive(Clone, Copy, Debug, Error)]
+#[derive(Clone, Copy, Debug)]
 pub enum TextFault {
     /// The reader failed.
-    #[error("read fault")]
     Read,
     /// The deck was refused, for another cause than memory.
-    #[error(transparent)]
     Deck(DeckFault),
     /// The run left a machine that a dump can't show, since this goes on in it.
-    #[error("not between programs: {0}")]
     NotBetweenPrograms(Busy),
     /// The text was written, and says what was found in the deck, or that its run is not as the
     /// deck expects.
-    #[error("something is found")]
     Findings,
     /// A trace is not lawful.
-    #[error(transparent)]
     Trace(TraceFault),
     /// A growth was refused.
-    #[error("out of memory")]
     Memory,
     /// The writer failed, or took nothing.
-    #[error("write fault")]
     Write,
 }
+
+/// As `deck fault 4 at line 3` or `out of memory`.
+impl Display for TextFault {
+    ghost use Rattle.std.specs.Prelude.{Some};
+    ghost use Rattle.pp_sim.specs.FaultText.{fault_text};
+
+    ghost output = { λ fault. Some (fault_text fault) };
+
+    fn fmt<W: fmt::Write>(&self, f: &mut Formatter<W>) -> fmt::Result {
+        match self {
+            TextFault::Read => write!(f, "read fault"),
+            TextFault::Deck(fault) => write!(f, "{fault}"),
+            TextFault::NotBetweenPrograms(busy) => write!(f, "not between programs: {busy}"),
+            TextFault::Findings => write!(f, "something is found"),
+            TextFault::Trace(fault) => write!(f, "{fault}"),
+            TextFault::Memory => write!(f, "out of memory"),
+            TextFault::Write => write!(f, "write fault"),
+        }
+    }
+}
+
+impl Error for TextFault {}
 
 impl From<Cut> for TextFault {
     ghost use Rattle.std.specs.Prelude.{◌≡◌};

@@ -20,7 +20,8 @@ use Rattle.pp_word.proofs.NumeralLemmas.{decimal_are, decimal_long}
 use Rattle.pp_text.specs.TextLaw.{EventFits, ProcessorFits, HistoryFits, ShowSameProcessor, ShowSameChannel, FitsItsText, AgreeOnText}
 use Rattle.pp_text.proofs.PrintingLemmas.{channels_by_number, numbered_channel_line}
 use Rattle.pp_text.proofs.Telling.{Keyed, Tells, decimal_tells, list_tells, other_key, numbers_tell, octal_tells}
-use Rattle.pp_text.specs.PrintedText.{channel_line, channel_text, event_line, event_text, line_end, named_processor_line, printed, processor_line, state_text, used_channel_line}
+use Rattle.pp_channel.specs.ChannelText.{channel_text}
+use Rattle.pp_text.specs.PrintedText.{channel_line, event_line, event_text, line_end, named_processor_line, printed, processor_line, state_text, used_channel_line}
 
 -- ---- what a line tells
 

@@ -1,7 +1,8 @@
 -- The text of a run: a line for each event, each processor named, and each channel with a history.
 -- A text is a list of ASCII codes, and every line ends with a line feed.
-use Rattle.std.specs.Prelude.{ℕ, zero, suc, ◌-◌, Bool, List, [], ◌∷◌, ◌++◌, Option, Some, None, codes, length, replicate, if◌then◌else◌, flat_map}
+use Rattle.std.specs.Prelude.{ℕ, zero, suc, ◌-◌, Bool, List, [], ◌∷◌, ◌++◌, Option, codes, length, replicate, if◌then◌else◌, flat_map}
 use Rattle.pp_numbers.specs.ChannelNo.{all_channels}
+use Rattle.pp_channel.specs.ChannelText.{channel_text}
 use Rattle.pp_channel.specs.History.{active, waiting, history_on}
 use Rattle.pp_channel.specs.declared.event.Event.{Event}
 use Rattle.pp_machine.specs.MachineState.{MachineState, processor_of}
@@ -39,11 +40,6 @@ state_text (PpState.Fault number) = codes "FAULT " ++ octal 1 number
 unfoldable pub processor_line : ℕ → Processor → List ℕ → List ℕ
 processor_line n pp said = codes "PP" ++ octal 2 n ++ codes " P=" ++ octal 4 pp.p
     ++ codes " A=" ++ octal 6 pp.a ++ codes " " ++ said ++ line_end
-
--- `ACTIVE FULL 0007`, by whether the channel is active and by the word that waits
-abbrev pub channel_text : Bool → Option ℕ → List ℕ
-channel_text is_active (Some word) = codes "ACTIVE FULL " ++ octal 4 word
-channel_text is_active None = if is_active then codes "ACTIVE EMPTY" else codes "INACTIVE"
 
 -- `CH05 ACTIVE FULL 0007`, for a channel with a history
 abbrev pub channel_line : ℕ → List Event → List ℕ

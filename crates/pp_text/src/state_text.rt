@@ -3,7 +3,8 @@
 ghost use Rattle.std.specs.Prelude.{◌≡◌, ◌<◌, ◌^◌, ◌++◌, codes};
 ghost use Rattle.pp_channel.specs.History.{active, waiting};
 ghost use Rattle.pp_word.specs.Numeral.{octal};
-ghost use Rattle.pp_text.specs.PrintedText.{channel_line, channel_text, state_text};
+ghost use Rattle.pp_channel.specs.ChannelText.{channel_text};
+ghost use Rattle.pp_text.specs.PrintedText.{channel_line, state_text};
 ghost use Rattle.pp_text.specs.TextLaw.{HistoryFits};
 ghost use Rattle.pp_text.specs.TextWriter.{Prints};
 

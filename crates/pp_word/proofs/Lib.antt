@@ -3,4 +3,5 @@ mod LogicLemmas
 mod ShiftLemmas
 -- facts of the definitions, which proofs of other crates cite
 pub mod BitsLemmas
+pub mod DisplayLemmas
 pub mod NumeralLemmas

@@ -1,6 +1,7 @@
 ghost use Rattle.std.specs.Prelude.{ℕ, ◌≡◌, ◌%◌, ◌^◌, ◌<◌, ◌↔◌, IsSome, IfSome};
 
 use crate::Word6;
+use std::fmt::{self, Display, Formatter, Write};
 use std::marker::Model;
 
 /// A word of 12 bits, 0 to 7777 (octal). Contracts see it as that number.
@@ -59,5 +60,25 @@ impl From<Word6> for Word12 {
     fn from(word: Word6) -> Word12 {
         let value = u16::from(word.get());
         Word12 { value }
+    }
+}
+
+/// In four octal digits.
+impl Display for Word12 {
+    ghost use Rattle.std.specs.Prelude.{Some};
+    ghost use Rattle.pp_word.specs.Numeral.{octal};
+
+    ghost output = { λ w. Some (octal 4 w) };
+
+    fn fmt<W: Write>(&self, f: &mut Formatter<W>) -> fmt::Result {
+        let n = self.get();
+        write!(
+            f,
+            "{}{}{}{}",
+            n / 8 / 8 / 8 % 8,
+            n / 8 / 8 % 8,
+            n / 8 % 8,
+            n % 8
+        )
     }
 }

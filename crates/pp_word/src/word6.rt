@@ -1,5 +1,6 @@
 ghost use Rattle.std.specs.Prelude.{ℕ, ◌≡◌, ◌%◌, ◌^◌, ◌<◌, ◌↔◌, IsSome, IfSome};
 
+use std::fmt::{self, Display, Formatter, Write};
 use std::marker::Model;
 
 /// A word of 6 bits, 0 to 77 (octal). Contracts see it as that number.
@@ -41,5 +42,18 @@ impl Word6 {
     {
         let value = number & 0o77;
         Word6 { value }
+    }
+}
+
+/// In two octal digits.
+impl Display for Word6 {
+    ghost use Rattle.std.specs.Prelude.{Some};
+    ghost use Rattle.pp_word.specs.Numeral.{octal};
+
+    ghost output = { λ w. Some (octal 2 w) };
+
+    fn fmt<W: Write>(&self, f: &mut Formatter<W>) -> fmt::Result {
+        let n = self.get();
+        write!(f, "{}{}", n / 8 % 8, n % 8)
     }
 }

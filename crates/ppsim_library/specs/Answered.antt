@@ -1,11 +1,13 @@
 -- What a host learns of a call, and what stands in its room then.
-use Rattle.std.specs.Prelude.{◌≡◌, ◌≤◌, ◌<◌, ℕ, ◌==◌, List, [], ◌∷◌, ◌++◌, length, drop, Option, None, Some, Result, Ok, Err, ◌⊎◌}
+use Rattle.std.specs.Prelude.{◌≡◌, ◌≤◌, ◌<◌, ℕ, ◌==◌, List, [], ◌∷◌, ◌++◌, codes, length, take, drop, min, Option, None, Some, Result, Ok, Err, ◌⊎◌}
 use Rattle.std.specs.List.{slice_split}
 use Rattle.std.specs.Str.{IsUtf8}
 use Rattle.pp_command.specs.CallWords.{CallFor, IsCallRefused}
 use Rattle.pp_command.specs.declared.{call_fault.CallFault.CallFault, work.Work.Work}
 use Rattle.pp_condition.specs.declared.until.Until.{Until}
+use Rattle.pp_sim.specs.FaultText.{fault_text}
 use Rattle.pp_sim.specs.Program.{IsDone}
+use Rattle.pp_text.specs.PrintedText.{line_end}
 use Rattle.pp_sim.specs.declared.text_fault.TextFault.{TextFault}
 use Rattle.ppsim_library.specs.declared.answer.Answer.{Answer}
 
@@ -45,20 +47,29 @@ pub record IsWritten (status : ℕ) (text : List ℕ) (a : Answer) (old new : Li
       → (a.status ≡ status) × (new ≡ text ++ drop (length text) old)
   pub exceeds : length old < length text → (a.status ≡ 5) × (new ≡ old)
 
--- the status is this one, and there is no text; some words stand at the front of the room (which
--- ones is not said), and what is not written is as it was
-pub record IsFailed (status : ℕ) (a : Answer) (old new : List ℕ) : Type 0 where
+-- the status is this one, and there is no text; this is said at the front of the room, as far as it
+-- fits, and what is not written is as it was
+pub record IsFailed (status : ℕ) (said : List ℕ) (a : Answer) (old new : List ℕ) : Type 0 where
   pub status_is : a.status ≡ status
   pub nothing : a.output ≡ 0
-  pub within : a.error ≤ length old
-  pub rest : drop a.error new ≡ drop a.error old
+  pub counted : a.error ≡ min (length said) (length old)
+  pub room : new ≡ take a.error said ++ drop a.error old
+
+-- `ppsim: out of memory`
+abbrev pub line_of : List ℕ → List ℕ
+line_of why = codes "ppsim: " ++ why ++ line_end
+
+-- it is said which fault it was; or nothing is, if memory for the words is refused
+abbrev pub IsFailedFor : TextFault → Answer → (old new : List ℕ) → Type 0
+IsFailedFor f a old new = IsFailed (status_of f) (line_of (fault_text f)) a old new
+    ⊎ IsFailed (status_of f) [] a old new
 
 -- how the outcome of a work that wrote this text shows in the answer and in the room: what is found
 -- is a text as any other
 abbrev pub Shows : Result (Unit {0}) TextFault → List ℕ → Answer → (old new : List ℕ) → Type 0
 Shows (Ok done) text a old new = IsWritten 0 text a old new
 Shows (Err TextFault.Findings) text a old new = IsWritten 1 text a old new
-Shows (Err f) text a old new = IsFailed (status_of f) a old new
+Shows (Err f) text a old new = IsFailedFor f a old new
 
 -- the work was done over these bytes, as the program does it over its input, onto an empty output;
 -- its outcome and its text show in the answer and in the room
@@ -74,7 +85,7 @@ pub record Tells (work : Work) (first : List ℕ) (until : Option Until) (input 
 -- a work is done, or refused since it needs threads
 abbrev pub IsAnswered : Work → List ℕ → Option Until → List ℕ → Answer → (old new : List ℕ) → Type 0
 IsAnswered work first until input a old new = Tells work first until input a old new
-    ⊎ (¬ NeedsNoThreads work × IsFailed 2 a old new)
+    ⊎ (¬ NeedsNoThreads work × IsFailed 2 (line_of (codes "there are no threads here")) a old new)
 
 -- the words ask for this work, which is answered
 pub record HasAnswered (words : List (List ℕ)) (input : List ℕ) (a : Answer) (old new : List ℕ) :
@@ -93,15 +104,22 @@ pub record NamesFile (words : List (List ℕ)) : Type 0 where
   pub file : List ℕ
   pub asked : CallFor words work first until (Some file)
 
+-- the words are refused, and something is said (what it is only tests see)
+abbrev pub IsRefused : Answer → (old new : List ℕ) → Type 0
+IsRefused a old new = (said : List ℕ) × IsFailed 2 said a old new
+
+abbrev pub IsWithoutMemory : Answer → (old new : List ℕ) → Type 0
+IsWithoutMemory a old new = IsFailed 4 (line_of (codes "out of memory")) a old new
+
 -- how words are answered that ask for no work, by the reason: those that ask for help or the
 -- version by some text (which one is not said), and no others so
 abbrev pub IsDeclinedFor : CallFault → Answer → (old new : List ℕ) → Type 0
-IsDeclinedFor CallFault.Memory a old new = IsFailed 4 a old new
+IsDeclinedFor CallFault.Memory a old new = IsWithoutMemory a old new
 IsDeclinedFor CallFault.Help a old new = (text : List ℕ) × IsWritten 0 text a old new
-IsDeclinedFor CallFault.Refused a old new = IsFailed 2 a old new
-IsDeclinedFor CallFault.Number a old new = IsFailed 2 a old new
-IsDeclinedFor CallFault.Picture a old new = IsFailed 2 a old new
-IsDeclinedFor CallFault.Forms a old new = IsFailed 2 a old new
+IsDeclinedFor CallFault.Refused a old new = IsRefused a old new
+IsDeclinedFor CallFault.Number a old new = IsRefused a old new
+IsDeclinedFor CallFault.Picture a old new = IsRefused a old new
+IsDeclinedFor CallFault.Forms a old new = IsRefused a old new
 
 -- the words ask for no work, and are answered so: they ask for help or the version, are no call, or
 -- are one for nothing within the ranges
@@ -114,4 +132,7 @@ IsDeclined words a old new =
 abbrev pub Answers : List ℕ → List ℕ → Answer → (old new : List ℕ) → Type 0
 Answers text input a old new = HasAnswered (words_of text) input a old new
     ⊎ (IsDeclined (words_of text) a old new
-    ⊎ (((¬ IsUtf8 text ⊎ NamesFile (words_of text)) × IsFailed 2 a old new) ⊎ IsFailed 4 a old new))
+    ⊎ ((¬ IsUtf8 text × IsFailed 2 (line_of (codes "a word is not UTF-8")) a old new)
+    ⊎ ((NamesFile (words_of text)
+    × IsFailed 2 (line_of (codes "no file is read here: pass its bytes")) a old new)
+    ⊎ IsWithoutMemory a old new)))

@@ -1,11 +1,10 @@
 //! What a host learns of a call.
 
-ghost use Rattle.std.specs.Prelude.{◌≡◌, ◌≤◌, drop, length};
-ghost use Rattle.ppsim_library.specs.Answered.{IsFailed, IsWritten, Shows, status_of};
+ghost use Rattle.std.specs.Prelude.{◌≡◌};
+ghost use Rattle.ppsim_library.specs.Answered.{IsFailed, IsFailedFor, IsWithoutMemory, IsWritten, Shows, status_of};
 
 use pp_sim::TextFault;
 use std::alloc::Allocator;
-use std::fmt::Display;
 
 /// The outcome of a call.
 #[repr(C)]
@@ -47,7 +46,7 @@ pub(crate) fn answer_of<A: Allocator>(
     match outcome {
         Ok(()) => written(DONE, text, room),
         Err(TextFault::Findings) => written(BAD_INPUT, text, room),
-        Err(fault) => failed(alloc, status_of(&fault), &fault, room),
+        Err(fault) => failed_for(alloc, &fault, room),
     }
 }
 
@@ -58,29 +57,18 @@ pub(crate) fn helped(text: &[u8], room: &mut [u8]) -> Answer
     written(DONE, text, room)
 }
 
-/// The answer to words that are refused, as this text says.
-pub(crate) fn refused_as(text: &[u8], room: &mut [u8]) -> Answer
-    ensures { IsFailed 2 result room.old room.new }
+/// The answer to words that are refused, as this says.
+pub(crate) fn refused(said: &[u8], room: &mut [u8]) -> Answer
+    ensures { IsFailed 2 said.now result room.old room.new }
 {
-    Answer {
-        status: BAD_USAGE,
-        output: 0,
-        error: put(text, room),
-    }
-}
-
-/// The answer to words that are refused.
-pub(crate) fn refused<A: Allocator, D: Display>(alloc: A, why: &D, room: &mut [u8]) -> Answer
-    ensures { IsFailed 2 result room.old room.new }
-{
-    failed(alloc, BAD_USAGE, why, room)
+    failed(BAD_USAGE, said, room)
 }
 
 /// The answer if memory for the words was refused.
-pub(crate) fn without_memory<A: Allocator>(alloc: A, room: &mut [u8]) -> Answer
-    ensures { IsFailed 4 result room.old room.new }
+pub(crate) fn without_memory(room: &mut [u8]) -> Answer
+    ensures { IsWithoutMemory result room.old room.new }
 {
-    failed(alloc, NO_MEMORY, &TextFault::Memory, room)
+    failed(NO_MEMORY, b"ppsim: out of memory\n", room)
 }
 
 /// Puts a text into the room, if it fits.
@@ -103,14 +91,26 @@ fn written(status: u32, text: &[u8], room: &mut [u8]) -> Answer
     }
 }
 
-/// Says in the room why a call failed, as the program does on standard error.
-fn failed<A: Allocator, D: Display>(alloc: A, status: u32, why: &D, room: &mut [u8]) -> Answer
-    ensures { IsFailed status result room.old room.new }
+/// Says in the room which fault it was, as the program does on standard error.
+fn failed_for<A: Allocator>(alloc: A, fault: &TextFault, room: &mut [u8]) -> Answer
+    ensures { IsFailedFor fault.now result room.old room.new }
 {
+    match format!(in alloc; "ppsim: {fault}\n") {
+        Ok(line) => failed(status_of(fault), line.as_bytes(), room),
+        Err(_) => failed(status_of(fault), b"", room),
+    }
+}
+
+/// Says in the room why a call failed, as far as it fits.
+fn failed(status: u32, said: &[u8], room: &mut [u8]) -> Answer
+    ensures { IsFailed status said.now result room.old room.new }
+{
+    let count = said.len().min(room.len());
+    room[..count].copy_from_slice(&said[..count]);
     Answer {
         status,
         output: 0,
-        error: show(alloc, why, room),
+        error: count as u64,
     }
 }
 
@@ -125,25 +125,4 @@ fn status_of(fault: &TextFault) -> u32
         // A reader of bytes does not fail, and a writer of bytes only for lack of memory.
         TextFault::Memory | TextFault::Read | TextFault::Write => NO_MEMORY,
     }
-}
-
-/// Puts a line that says why into the room, as far as it fits; returns how many bytes.
-fn show<A: Allocator, D: Display>(alloc: A, why: &D, room: &mut [u8]) -> u64
-    ensures within { result ≤ length room.old }
-    ensures rest { drop result room.new ≡ drop result room.old }
-{
-    match format!(in alloc; "ppsim: {why}\n") {
-        Ok(line) => put(line.as_bytes(), room),
-        Err(_) => 0,
-    }
-}
-
-/// Puts a text into the room, as far as it fits; returns how many bytes.
-fn put(text: &[u8], room: &mut [u8]) -> u64
-    ensures within { result ≤ length room.old }
-    ensures rest { drop result room.new ≡ drop result room.old }
-{
-    let count = text.len().min(room.len());
-    room[..count].copy_from_slice(&text[..count]);
-    count as u64
 }

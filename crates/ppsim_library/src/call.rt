@@ -4,8 +4,7 @@ ghost use Rattle.std.specs.Prelude.{◌≡◌, IfOk, Some, map};
 ghost use Rattle.pp_sim.specs.Program.{IsDone};
 ghost use Rattle.ppsim_library.specs.Answered.{Answers, IsAnswered, IsDeclinedFor, NeedsNoThreads, parts_of, words_of};
 
-use crate::answer::{Answer, answer_of, helped, refused, refused_as, without_memory};
-use crate::refusal::Refusal;
+use crate::answer::{Answer, answer_of, helped, refused, without_memory};
 use pp_command::{Asked, CallFault, read_call};
 use pp_sim::{TextFault, Work, check_text, deck_text, lint_text, test_text};
 use std::alloc::{AllocError, Allocator};
@@ -21,27 +20,27 @@ pub(crate) fn answer_call<A: Allocator + Copy>(
     ensures { Answers words.now input.now result room.old room.new }
 {
     let Ok(text) = str::from_utf8(words) else {
-        return refused(alloc, &Refusal::NotText, room);
+        return refused(b"ppsim: a word is not UTF-8\n", room);
     };
     let Ok(listed) = words_of(alloc, text) else {
-        return without_memory(alloc, room);
+        return without_memory(room);
     };
     match read_call(alloc, listed.as_slice()) {
-        Ok((_, Some(_))) => refused(alloc, &Refusal::File, room),
+        Ok((_, Some(_))) => refused(b"ppsim: no file is read here: pass its bytes\n", room),
         Ok((asked, None)) => answer_work(alloc, &asked, input, room),
-        Err(refusal) => decline(alloc, refusal.fault, refusal.text.as_bytes(), room),
+        Err(refusal) => decline(refusal.fault, refusal.text.as_bytes(), room),
     }
 }
 
 /// The answer to words that ask for no work, for this reason, which this text says.
-fn decline<A: Allocator>(alloc: A, fault: CallFault, text: &[u8], room: &mut [u8]) -> Answer
+fn decline(fault: CallFault, text: &[u8], room: &mut [u8]) -> Answer
     ensures { IsDeclinedFor fault result room.old room.new }
 {
     match fault {
-        CallFault::Memory => without_memory(alloc, room),
+        CallFault::Memory => without_memory(room),
         CallFault::Help => helped(text, room),
         CallFault::Refused | CallFault::Number | CallFault::Picture | CallFault::Forms => {
-            refused_as(text, room)
+            refused(text, room)
         }
     }
 }
@@ -81,7 +80,7 @@ fn answer_work<A: Allocator + Copy>(
         result room.old room.new }
 {
     if let Work::Threads { .. } = asked.work {
-        return refused(alloc, &Refusal::Threads, room);
+        return refused(b"ppsim: there are no threads here\n", room);
     }
     let mut reader = input;
     let mut text = Vec::new(alloc);

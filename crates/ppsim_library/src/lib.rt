@@ -5,7 +5,6 @@
 
 mod answer;
 mod call;
-mod refusal;
 
 ghost use Rattle.fixed_arena.specs.Lending.{IsGivenBack};
 ghost use Rattle.ppsim_library.specs.Answered.{Answers};

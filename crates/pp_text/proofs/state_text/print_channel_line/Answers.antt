@@ -3,7 +3,8 @@ use Rattle.std.specs.Prelude.{◌==◌}
 use Rattle.pp_channel.specs.History.{active, waiting}
 use Rattle.pp_channel.specs.declared.event.Event.{Event}
 use Rattle.pp_word.specs.Numeral.{octal}
-use Rattle.pp_text.specs.PrintedText.{channel_line, channel_text, line_end}
+use Rattle.pp_channel.specs.ChannelText.{channel_text}
+use Rattle.pp_text.specs.PrintedText.{channel_line, line_end}
 use Rattle.pp_text.proofs.PrintingLemmas.{◌▹◌, prints_on}
 use Rattle.pp_text.proofs.state_text.print_channel_line.Goals as goal
 

@@ -1,7 +1,7 @@
 use Rattle.std.proofs.Common.{ℕ, ◌++◌, codes, sym, ap, ◌∙◌}
 use Rattle.pp_channel.specs.History.{active}
 use Rattle.pp_word.specs.Numeral.{octal}
-use Rattle.pp_text.specs.PrintedText.{channel_text}
+use Rattle.pp_channel.specs.ChannelText.{channel_text}
 use Rattle.pp_text.proofs.PrintingLemmas.{prints_on}
 use Rattle.pp_text.proofs.state_text.print_channel_text.Goals as goal
 
