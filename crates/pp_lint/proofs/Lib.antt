@@ -9,6 +9,7 @@ mod GivenLemmas
 mod LoadLemmas
 mod RunLemmas
 mod StraightLineLemmas
+mod SureFaultLemmas
 mod WarningLemmas
 mod WordsLemmas
 -- facts of the definitions, which proofs of other crates cite

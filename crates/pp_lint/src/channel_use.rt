@@ -171,7 +171,7 @@ fn print_alone<W: Write>(
 }
 
 /// Prints `channel 05 is used by PP 0 alone`.
-#[tactic(auto, unfolding(crate::specs::ChannelUse::alone_text), using(pp_numbers::proofs::PpNoLemmas::processor_fits))]
+#[tactic(auto, using(pp_numbers::proofs::PpNoLemmas::processor_fits))]
 fn print_alone_text<W: Write>(text: &mut TextWriter<W>, n: PpNo, c: Word6)
     ensures { Prints W.contents text.old text.new (alone_text n c) }
 {

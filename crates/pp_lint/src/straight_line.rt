@@ -167,7 +167,6 @@ fn print_fault_finding<W: Write>(
 }
 
 /// Prints `2600 is EXN 00: FAULT 1 wherever it is run`.
-#[tactic(auto, unfolding(crate::specs::StraightLine::fault_text))]
 fn print_fault_text<W: Write>(text: &mut TextWriter<W>, fault: u64, i: &Instruction)
     ensures { Prints W.contents text.old text.new (fault_text fault i.now) }
 {
