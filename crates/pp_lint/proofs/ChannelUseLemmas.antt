@@ -73,7 +73,7 @@ alone_more f c before found both is one either =
     either ∙ ap (λ b. b || found) is ∙ ap (λ b. is_something_found (flat_map f (range_with_len 0 c)) || b) one
     ∙ sym (found_more (flat_map f (range_with_len 0 c)) (f c)) ∙ ap is_something_found (range_flat f 0 c c (omega arith))
 
-pub all_alone : (profile : Profile) (k : ℕ) (line : List ℕ) (notes : List Note) (n first : ℕ) (is : List Instruction) (c : ℕ) → c ≡ 0o100
+pub all_alone : (profile : Profile) (k : ℕ) (line : List ℕ) (notes : List Note) (n first : ℕ) (is : List Instruction) (c : ℕ) → c ≡ 0o34
     → flat_map (alone_finding profile k line notes n first is) (range_with_len 0 c) ≡ alone_findings profile k line notes n first is
 unfolding alone_findings
 all_alone profile k line notes n first is c all = rw all refl

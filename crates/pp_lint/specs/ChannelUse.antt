@@ -51,8 +51,8 @@ abbrev pub alone_finding : Profile → ℕ → List ℕ → List Note → ℕ �
 alone_finding profile k line notes n first is c = if is_alone profile k notes n c
     then alone_at k line n first c (first_use profile c is) else []
 
--- what is found in instructions of line k, channel by channel
+-- what is found in instructions of line k, channel by channel; the last has the number 33 (octal)
 unfoldable pub alone_findings : Profile → ℕ → List ℕ → List Note → ℕ → ℕ → List Instruction
     → List Finding
 alone_findings profile k line notes n first is =
-    flat_map (alone_finding profile k line notes n first is) (range_with_len 0 0o100)
+    flat_map (alone_finding profile k line notes n first is) (range_with_len 0 0o34)

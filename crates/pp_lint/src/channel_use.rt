@@ -28,8 +28,8 @@ use pp_word::{Word6, Word12};
 use std::alloc::Allocator;
 use std::io::Write;
 
-/// How many numbers the d of an instruction can be.
-const NUMBERS: u8 = 0o100;
+/// The numbers of channels are below this.
+const CHANNELS_END: u8 = 0o34;
 
 /// Prints the channels that a processor alone uses, and a line of its words as the first, and
 /// returns whether there is one.
@@ -53,7 +53,7 @@ pub(crate) fn print_alone_findings<A: Allocator, W: Write>(
         (instructions_of (said_after before (fields_of line.now)))) }
 {
     let mut is_found = false;
-    for c in 0..NUMBERS {
+    for c in 0..CHANNELS_END {
         let found = print_alone_finding(
             text,
             firsts,
