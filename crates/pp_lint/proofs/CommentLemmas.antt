@@ -47,7 +47,7 @@ lines_step k column all claim more is left o taken first later =
     ∙ ap (λ i. flat_map finding_line (claim_findings k column claim i) ++ flat_map finding_line (claims_findings k column more (drop 1 is))) first
     ∙ ap (λ rest. flat_map finding_line (claim_findings k column claim o) ++ flat_map finding_line (claims_findings k column more rest)) later)
 
-or_on : (a b c : Bool) → ((a || b) || c) ≡ (a || (b || c))
+pub or_on : (a b c : Bool) → ((a || b) || c) ≡ (a || (b || c))
 or_on true b c = refl
 or_on false b c = refl
 

@@ -12,7 +12,7 @@ use Rattle.pp_numbers.specs.PpNo.{names_processor, processor_index, processor_pl
 use Rattle.pp_lint.specs.FirstLines.{IsThing, Shows, key, line_in}
 use Rattle.pp_lint.specs.Given.{Note, first_line, is_kind}
 use Rattle.pp_lint.specs.declared.{row.Kind.Kind, row.Row.Row}
-use Rattle.pp_lint.specs.declared.row.Kind.TheVariants.{Central, Fault, Name, Start, Word}
+use Rattle.pp_lint.specs.declared.row.Kind.TheVariants.{Central, Channel, Dead, Fault, Name, Start, Target, Word}
 
 -- ---- keys
 
@@ -38,6 +38,13 @@ one_key (Word n) (Word m) p q s t is =
     let index : processor_index n ≡ processor_index m = omega (arith, is, s.within, t.within) in
     processor_same n m p q (processor_places.one_place m n t.processor index) (omega (arith, is, index))
 one_key Central Central p q s t is = eq-eqb q p (omega (arith, is))
+one_key Dead Dead p q s t is = eq-eqb q p (omega (arith, is))
+one_key (Target n) (Target m) p q s t is =
+    let index : processor_index n ≡ processor_index m = omega (arith, is, s.within, t.within) in
+    processor_same n m p q (processor_places.one_place m n t.processor index) (omega (arith, is, index))
+one_key (Channel n) (Channel m) p q s t is =
+    let index : processor_index n ≡ processor_index m = omega (arith, is, s.within, t.within) in
+    processor_same n m p q (processor_places.one_place m n t.processor index) (omega (arith, is, index))
 one_key Fault (Name m) p q s t is = absurd (omega (arith, is, s.within))
 one_key Fault (Start m) p q s t is = absurd (omega (arith, is, s.within))
 one_key Fault (Word m) p q s t is = absurd (omega (arith, is, s.within))
@@ -58,6 +65,42 @@ one_key Central Fault p q s t is = absurd (omega (arith, is, t.within))
 one_key Central (Name m) p q s t is = absurd (omega (arith, is, t.within, below m t.processor))
 one_key Central (Start m) p q s t is = absurd (omega (arith, is, t.within, below m t.processor))
 one_key Central (Word m) p q s t is = absurd (omega (arith, is, t.within, below m t.processor))
+one_key Fault Dead p q s t is = absurd (omega (arith, is, s.within))
+one_key Fault (Target m) p q s t is = absurd (omega (arith, is, s.within))
+one_key Fault (Channel m) p q s t is = absurd (omega (arith, is, s.within))
+one_key (Name n) Dead p q s t is = absurd (omega (arith, is, s.within, below n s.processor))
+one_key (Name n) (Target m) p q s t is = absurd (omega (arith, is, s.within, below n s.processor))
+one_key (Name n) (Channel m) p q s t is = absurd (omega (arith, is, s.within, below n s.processor))
+one_key (Start n) Dead p q s t is = absurd (omega (arith, is, s.within, below n s.processor))
+one_key (Start n) (Target m) p q s t is = absurd (omega (arith, is, s.within, below n s.processor))
+one_key (Start n) (Channel m) p q s t is = absurd (omega (arith, is, s.within, below n s.processor))
+one_key (Word n) Dead p q s t is = absurd (omega (arith, is, s.within, below n s.processor))
+one_key (Word n) (Target m) p q s t is = absurd (omega (arith, is, s.within, below n s.processor))
+one_key (Word n) (Channel m) p q s t is = absurd (omega (arith, is, s.within, below n s.processor))
+one_key Central Dead p q s t is = absurd (omega (arith, is, s.within))
+one_key Central (Target m) p q s t is = absurd (omega (arith, is, s.within))
+one_key Central (Channel m) p q s t is = absurd (omega (arith, is, s.within))
+one_key Dead Fault p q s t is = absurd (omega (arith, is, t.within))
+one_key Dead (Name m) p q s t is = absurd (omega (arith, is, t.within, below m t.processor))
+one_key Dead (Start m) p q s t is = absurd (omega (arith, is, t.within, below m t.processor))
+one_key Dead (Word m) p q s t is = absurd (omega (arith, is, t.within, below m t.processor))
+one_key Dead Central p q s t is = absurd (omega (arith, is, t.within))
+one_key Dead (Target m) p q s t is = absurd (omega (arith, is, s.within))
+one_key Dead (Channel m) p q s t is = absurd (omega (arith, is, s.within))
+one_key (Target n) Fault p q s t is = absurd (omega (arith, is, t.within))
+one_key (Target n) (Name m) p q s t is = absurd (omega (arith, is, t.within, below m t.processor))
+one_key (Target n) (Start m) p q s t is = absurd (omega (arith, is, t.within, below m t.processor))
+one_key (Target n) (Word m) p q s t is = absurd (omega (arith, is, t.within, below m t.processor))
+one_key (Target n) Central p q s t is = absurd (omega (arith, is, t.within))
+one_key (Target n) Dead p q s t is = absurd (omega (arith, is, t.within))
+one_key (Target n) (Channel m) p q s t is = absurd (omega (arith, is, s.within, below n s.processor))
+one_key (Channel n) Fault p q s t is = absurd (omega (arith, is, t.within))
+one_key (Channel n) (Name m) p q s t is = absurd (omega (arith, is, t.within, below m t.processor))
+one_key (Channel n) (Start m) p q s t is = absurd (omega (arith, is, t.within, below m t.processor))
+one_key (Channel n) (Word m) p q s t is = absurd (omega (arith, is, t.within, below m t.processor))
+one_key (Channel n) Central p q s t is = absurd (omega (arith, is, t.within))
+one_key (Channel n) Dead p q s t is = absurd (omega (arith, is, t.within))
+one_key (Channel n) (Target m) p q s t is = absurd (omega (arith, is, t.within, below m t.processor))
 
 both : (a b : Bool) → (a && b) ≡ true → (a ≡ true) × (b ≡ true)
 both true b is = (refl, is)
@@ -76,6 +119,9 @@ same_key (Name n) (Name m) p q is = same_processor n m p q (λ x y. key (Name x)
 same_key (Start n) (Start m) p q is = same_processor n m p q (λ x y. key (Start x) y) is
 same_key (Word n) (Word m) p q is = same_processor n m p q (λ x y. key (Word x) y) is
 same_key Central Central p q is = ap (λ x. 81961 + x) (sym (eqb-true q p is))
+same_key Dead Dead p q is = ap (λ x. 213033 + x) (sym (eqb-true q p is))
+same_key (Target n) (Target m) p q is = same_processor n m p q (λ x y. key (Target x) y) is
+same_key (Channel n) (Channel m) p q is = same_processor n m p q (λ x y. key (Channel x) y) is
 same_key Fault (Name m) p q is = absurd (cc)
 same_key Fault (Start m) p q is = absurd (cc)
 same_key Fault (Word m) p q is = absurd (cc)
@@ -96,6 +142,42 @@ same_key Central Fault p q is = absurd (cc)
 same_key Central (Name m) p q is = absurd (cc)
 same_key Central (Start m) p q is = absurd (cc)
 same_key Central (Word m) p q is = absurd (cc)
+same_key Fault Dead p q is = absurd (cc)
+same_key Fault (Target m) p q is = absurd (cc)
+same_key Fault (Channel m) p q is = absurd (cc)
+same_key (Name n) Dead p q is = absurd (cc)
+same_key (Name n) (Target m) p q is = absurd (cc)
+same_key (Name n) (Channel m) p q is = absurd (cc)
+same_key (Start n) Dead p q is = absurd (cc)
+same_key (Start n) (Target m) p q is = absurd (cc)
+same_key (Start n) (Channel m) p q is = absurd (cc)
+same_key (Word n) Dead p q is = absurd (cc)
+same_key (Word n) (Target m) p q is = absurd (cc)
+same_key (Word n) (Channel m) p q is = absurd (cc)
+same_key Central Dead p q is = absurd (cc)
+same_key Central (Target m) p q is = absurd (cc)
+same_key Central (Channel m) p q is = absurd (cc)
+same_key Dead Fault p q is = absurd (cc)
+same_key Dead (Name m) p q is = absurd (cc)
+same_key Dead (Start m) p q is = absurd (cc)
+same_key Dead (Word m) p q is = absurd (cc)
+same_key Dead Central p q is = absurd (cc)
+same_key Dead (Target m) p q is = absurd (cc)
+same_key Dead (Channel m) p q is = absurd (cc)
+same_key (Target n) Fault p q is = absurd (cc)
+same_key (Target n) (Name m) p q is = absurd (cc)
+same_key (Target n) (Start m) p q is = absurd (cc)
+same_key (Target n) (Word m) p q is = absurd (cc)
+same_key (Target n) Central p q is = absurd (cc)
+same_key (Target n) Dead p q is = absurd (cc)
+same_key (Target n) (Channel m) p q is = absurd (cc)
+same_key (Channel n) Fault p q is = absurd (cc)
+same_key (Channel n) (Name m) p q is = absurd (cc)
+same_key (Channel n) (Start m) p q is = absurd (cc)
+same_key (Channel n) (Word m) p q is = absurd (cc)
+same_key (Channel n) Central p q is = absurd (cc)
+same_key (Channel n) Dead p q is = absurd (cc)
+same_key (Channel n) (Target m) p q is = absurd (cc)
 
 -- ---- one note more
 

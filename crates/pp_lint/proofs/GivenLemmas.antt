@@ -1,5 +1,5 @@
 -- What a line gives, by its fields.
-use Rattle.std.proofs.Common.{◌≡◌, ℕ, ◌+◌, ◌-◌, ◌<◌, ◌≤◌, ◌^◌, Bool, true, false, List, [], ◌∷◌, ◌++◌, length, get_or, map, Option, Some, None, Result, Ok, Err, refl, sym, ap, ◌∙◌, arith, inl, inr}
+use Rattle.std.proofs.Common.{◌≡◌, ℕ, ◌+◌, ◌-◌, ◌<◌, ◌≤◌, ◌^◌, Bool, true, false, List, [], ◌∷◌, ◌++◌, length, get_or, map, Option, Some, None, Result, Ok, Err, refl, sym, ap, ◌∙◌, arith, append_assoc, inl, inr}
 use Rattle.std.specs.Prelude.{IfSome, IsSome, IsTrue, ◌↔◌, if◌then◌else◌, ◌&&◌, nat_le, bytes_eq, codes, slice_index, unwrap_or}
 use Rattle.std.specs.Char.{is_ascii_digit}
 use Rattle.std.proofs.lemmas.Bool.{cases_lt}
@@ -15,10 +15,10 @@ use Rattle.pp_text.proofs.PrintingLemmas.{range_flat}
 use Rattle.pp_lint.specs.FieldAtFault.{fault_in}
 use Rattle.pp_lint.specs.FirstLines.{IsOfProcessor, IsRow}
 use Rattle.pp_lint.specs.LineFault.{before_line, fault_after, said_after}
-use Rattle.pp_lint.specs.RowOfLine.{central_row, named_row, place_in_second, start_place, start_row, words_row}
+use Rattle.pp_lint.specs.RowOfLine.{Gives, central_row, named_row, place_in_second, start_row, words_row}
 use Rattle.pp_lint.specs.WordsOfLine.{word_in, words_in_fields}
-use Rattle.pp_lint.specs.declared.{line_fault.Before.Before, row.Row.Row}
-use Rattle.pp_lint.specs.declared.row.Kind.TheVariants.{Central, Fault, Name}
+use Rattle.pp_lint.specs.declared.{line_fault.Before.Before, row.Kind.Kind, row.Row.Row}
+use Rattle.pp_lint.specs.declared.row.Kind.TheVariants.{Central, Channel, Dead, Fault, Name, Start, Target, Word}
 use Rattle.pp_lint.proofs.FindingLemmas.{begins_is, fields_at}
 use Rattle.pp_lint.proofs.WordsLemmas.{words_have_room, words_said}
 use Rattle.std.specs.List.{flat_map, range_with_len}
@@ -28,7 +28,7 @@ use Rattle.pp_numbers.specs.Profile.{has_processor}
 use Rattle.pp_numbers.specs.declared.profile.Profile.{Profile}
 use Rattle.pp_deck.specs.DeckText.{Field, Fields, fields_of}
 use Rattle.pp_deck.specs.OctalNumber.{number}
-use Rattle.pp_lint.specs.Given.{given, given_at, named_by, notes, notes_of, row, said_as_line, section_at}
+use Rattle.pp_lint.specs.Given.{given, given_at, named_by, notes, notes_at, notes_of, notes_within, row, said_as_line, said_at, section_at, start_place}
 
 -- ---- the processor that a `PP` line names
 
@@ -76,7 +76,7 @@ unfolding given
 given_size None size = refl
 given_size (Some n) size = refl
 
-given_dead : (s : Option ℕ) → row Fault 0 0 ≡ given s (Some dead_start)
+given_dead : (s : Option ℕ) → row Dead 0 1 ≡ given s (Some dead_start)
 unfolding given
 given_dead None = refl
 given_dead (Some n) = refl
@@ -283,18 +283,32 @@ unfolding central_line
 size_gives s [] = λ none. absurd (cc)
 size_gives s (field ∷ more) = size_by_number s _ field more refl
 
-others_by : (b : Before) (first : Field) (rest : Fields) (central dead : Bool)
-    → bytes_eq first (codes "CENTRAL") ≡ central → bytes_eq first (codes "CM") ≡ false → bytes_eq first (codes "PP") ≡ false → bytes_eq first (codes "START") ≡ false → bytes_eq first (codes "DEAD") ≡ dead
+others_by : (b : Before) (first : Field) (rest : Fields) (central : Bool)
+    → bytes_eq first (codes "CENTRAL") ≡ central → bytes_eq first (codes "CM") ≡ false → bytes_eq first (codes "PP") ≡ false → bytes_eq first (codes "START") ≡ false → bytes_eq first (codes "DEAD") ≡ false
     → is_ascii_digit (slice_index first 0) ≡ false → fault_after b (first ∷ rest) ≡ None → row Fault 0 0 ≡ given b.section (said_after b (first ∷ rest))
 unfolding line_after keyword_of
-others_by b first rest true dead is1 is2 is3 is4 is5 digit = rw is1 (nothing_unless b.section b.is_after_fields (central_line rest) _ (size_gives b.section rest))
-others_by b first rest false true is1 is2 is3 is4 is5 digit = rw (is1, is2, is3, is4, is5) (nothing_at_end b.section dead_start rest (given_dead b.section))
-others_by b first rest false false is1 is2 is3 is4 is5 digit = rw (is1, is2, is3, is4, is5, digit) (λ none. absurd (cc))
+others_by b first rest true is1 is2 is3 is4 is5 digit = rw is1 (nothing_unless b.section b.is_after_fields (central_line rest) _ (size_gives b.section rest))
+others_by b first rest false is1 is2 is3 is4 is5 digit = rw (is1, is2, is3, is4, is5, digit) (λ none. absurd (cc))
 
 pub others_give : (b : Before) (fields : Fields) (first : Field) (rest : Fields) → fields ≡ first ∷ rest → bytes_eq first (codes "CM") ≡ false → bytes_eq first (codes "PP") ≡ false → bytes_eq first (codes "START") ≡ false
-    → is_ascii_digit (slice_index first 0) ≡ false → fault_after b fields ≡ None → row Fault 0 0 ≡ given b.section (said_after b fields)
-others_give b fields first rest is is2 is3 is4 digit none =
-    rw is (others_by b first rest _ _ refl is2 is3 is4 refl digit (rw is at none))
+    → bytes_eq first (codes "DEAD") ≡ false → is_ascii_digit (slice_index first 0) ≡ false → fault_after b fields ≡ None → row Fault 0 0 ≡ given b.section (said_after b fields)
+others_give b fields first rest is is2 is3 is4 is5 digit none =
+    rw is (others_by b first rest _ refl is2 is3 is4 is5 digit (rw is at none))
+
+-- ---- `DEAD`
+
+read_dead : (b : Before) (first : Field) (rest : Fields) → bytes_eq first (codes "DEAD") ≡ true → line_after b.profile b.size b.is_after_fields b.is_in_section (first ∷ rest) ≡ ends_with dead_start rest
+unfolding line_after keyword_of
+read_dead b first rest is = rw ((bytes_eq-Decides first (codes "DEAD")).0 is) refl
+
+dead_at_end : (s : Option ℕ) (more : Fields) → fault_in code_of (ends_with dead_start more) ≡ None → row Dead 0 1 ≡ given s (result_ok (ends_with dead_start more))
+dead_at_end s [] none = given_dead s
+dead_at_end s (field ∷ more) none = absurd (cc)
+
+pub dead_gives : (b : Before) (fields : Fields) (first : Field) (rest : Fields) → fields ≡ first ∷ rest → bytes_eq first (codes "DEAD") ≡ true → fault_after b fields ≡ None → row Dead 0 1 ≡ given b.section (said_after b fields)
+dead_gives b fields first rest is keyword none =
+    let read = ap (line_after b.profile b.size b.is_after_fields b.is_in_section) is ∙ read_dead b first rest keyword in
+    dead_at_end b.section rest (ap (fault_in code_of) (sym read) ∙ none) ∙ ap (λ r. given b.section (result_ok r)) (sym read)
 
 -- where a line starts its processor
 pub start_is_second : (b : Before) (fields : Fields) (first : Field) (rest : Fields) → fields ≡ first ∷ rest → bytes_eq first (codes "START") ≡ true → fault_after b fields ≡ None
@@ -324,12 +338,18 @@ pub given_here : (profile : Profile) (lines : List (List ℕ)) (k : ℕ) (line :
 given_here profile lines k line b is within here =
     rw is (ap (λ fields. given (section_at profile (map fields_of lines) k) (said_as_line profile (map fields_of lines) k fields)) (sym (fields_at lines k within ∙ ap fields_of here)))
 
-pub notes_of_more : (profile : Profile) (lines : List Fields) (k : ℕ) (row : Row) → row ≡ given_at profile lines k
-    → flat_map (λ j. notes_of (j + 1) (given_at profile lines j)) (range_with_len 0 k) ++ notes_of (k + 1) row
-    ≡ flat_map (λ j. notes_of (j + 1) (given_at profile lines j)) (range_with_len 0 (k + 1))
-notes_of_more profile lines k row is = rw is (range_flat (λ j. notes_of (j + 1) (given_at profile lines j)) 0 k k (omega arith))
+pub said_here : (profile : Profile) (lines : List (List ℕ)) (k : ℕ) (line : List ℕ) (b : Before) → b ≡ before_line profile (map fields_of lines) k → k < length lines → get_or lines k [] ≡ line
+    → said_after b (fields_of line) ≡ said_at profile (map fields_of lines) k
+said_here profile lines k line b is within here =
+    rw is (ap (said_as_line profile (map fields_of lines) k) (sym (fields_at lines k within ∙ ap fields_of here)))
 
-pub all_notes : (profile : Profile) (lines : List Fields) (k : ℕ) → k ≡ length lines → flat_map (λ j. notes_of (j + 1) (given_at profile lines j)) (range_with_len 0 k) ≡ notes profile lines
+pub notes_more : (profile : Profile) (lines : List Fields) (k : ℕ) (row : Row) (said : Option Line) → row ≡ given_at profile lines k → said ≡ said_at profile lines k
+    → (flat_map (notes_at profile lines) (range_with_len 0 k) ++ notes_of (k + 1) row) ++ notes_within (k + 1) profile row.kind said ≡ flat_map (notes_at profile lines) (range_with_len 0 (k + 1))
+notes_more profile lines k row said is says =
+    append_assoc (flat_map (notes_at profile lines) (range_with_len 0 k)) (notes_of (k + 1) row) (notes_within (k + 1) profile row.kind said)
+    ∙ rw (is, says) (range_flat (notes_at profile lines) 0 k k (omega arith))
+
+pub all_notes : (profile : Profile) (lines : List Fields) (k : ℕ) → k ≡ length lines → flat_map (notes_at profile lines) (range_with_len 0 k) ≡ notes profile lines
 unfolding notes
 all_notes profile lines k all = rw all refl
 
@@ -339,3 +359,16 @@ nothing_said code_in (Err flaw) code is = refl
 
 pub fault_gives : (b : Before) (fields : Fields) (code : DeckCode) → fault_after b fields ≡ Some code → row Fault 0 1 ≡ given b.section (said_after b fields)
 fault_gives b fields code is = given_fault b.section ∙ ap (given b.section) (sym (nothing_said code_of (line_after b.profile b.size b.is_after_fields b.is_in_section fields) code is))
+
+fault_kind : (b : Before) (line : List ℕ) (kind : Kind) → kind ≡ Fault → Gives b line kind
+fault_kind b line Fault is = record { clean = λ sets. absurd (cc); start = λ n start. absurd (cc) }
+fault_kind b line (Name n) is = absurd (cc)
+fault_kind b line (Start n) is = absurd (cc)
+fault_kind b line (Word n) is = absurd (cc)
+fault_kind b line Central is = absurd (cc)
+fault_kind b line Dead is = absurd (cc)
+fault_kind b line (Target n) is = absurd (cc)
+fault_kind b line (Channel n) is = absurd (cc)
+
+pub fault_is_given : (b : Before) (line : List ℕ) (given : Row) → given ≡ row Fault 0 1 → Gives b line given.kind
+fault_is_given b line given is = fault_kind b line given.kind (ap (λ (r : Row). r.kind) is)

@@ -1,3 +1,4 @@
+mod ChannelUseLemmas
 mod ClaimLemmas
 mod ColumnLemmas
 mod CommentLemmas
@@ -6,6 +7,9 @@ mod FaultOfLineLemmas
 mod FirstLinesLemmas
 mod GivenLemmas
 mod LoadLemmas
+mod RunLemmas
+mod StraightLineLemmas
+mod SureFaultLemmas
 mod WarningLemmas
 mod WordsLemmas
 -- facts of the definitions, which proofs of other crates cite

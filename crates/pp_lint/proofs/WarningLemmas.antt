@@ -13,8 +13,7 @@ use Rattle.pp_numbers.proofs.GrowingLists.{range_more}
 use Rattle.pp_deck.specs.DeckLine.{Line, central_size, central_words, dead_start, nothing, section, start, words}
 use Rattle.pp_lint.specs.Finding.{Finding}
 use Rattle.pp_lint.specs.FirstLines.{line_in}
-use Rattle.pp_lint.specs.Given.{Note, first_line, given}
-use Rattle.pp_lint.specs.RowOfLine.{start_place}
+use Rattle.pp_lint.specs.Given.{Note, first_line, given, start_place}
 use Rattle.pp_lint.specs.LintText.{finding_line, is_something_found}
 use Rattle.pp_lint.specs.Warnings.{field_finding, first_field, first_twice, has_words, is_before, is_lacking, is_set, lacking_findings, names_without_start, no_start_findings, no_word_findings, startless_text, twice_findings, twice_text, warnings, wordless_text}
 use Rattle.pp_text.proofs.PrintingLemmas.{prints_on}
@@ -22,7 +21,7 @@ use Rattle.pp_text.specs.TextWriter.{Prints}
 use Rattle.pp_text.specs.declared.text_writer.TextWriter.{TextWriter}
 use Rattle.pp_lint.proofs.FindingLemmas.{found_more}
 use Rattle.pp_lint.specs.declared.{row.Kind.Kind, row.Row.Row}
-use Rattle.pp_lint.specs.declared.row.Kind.TheVariants.{Central, Fault, Name, Start, Word}
+use Rattle.pp_lint.specs.declared.row.Kind.TheVariants.{Central, Channel, Dead, Fault, Name, Start, Target, Word}
 
 range_next : (n : ℕ) → range_with_len 0 (n + 1) ≡ range_with_len 0 n ++ n ∷ []
 range_next n = range_more 0 n ∙ ap (λ j. range_with_len 0 n ++ j ∷ []) (omega arith)
@@ -34,14 +33,14 @@ or_last true b = refl
 or_last false true = refl
 or_last false false = refl
 
-any_next : (p : ℕ → Bool) (n : ℕ) → list_any p (range_with_len 0 (n + 1)) ≡ (list_any p (range_with_len 0 n) || p n)
+pub any_next : (p : ℕ → Bool) (n : ℕ) → list_any p (range_with_len 0 (n + 1)) ≡ (list_any p (range_with_len 0 n) || p n)
 any_next p n = ap (list_any p) (range_next n) ∙ list_any-append p (range_with_len 0 n) (n ∷ []) ∙ or_last (list_any p (range_with_len 0 n)) (p n)
 
 or_true : (a : Bool) → (a || true) ≡ true
 or_true true = refl
 or_true false = refl
 
-any_there : (p : ℕ → Bool) (n i : ℕ) → i < n → p i ≡ true → list_any p (range_with_len 0 n) ≡ true
+pub any_there : (p : ℕ → Bool) (n i : ℕ) → i < n → p i ≡ true → list_any p (range_with_len 0 n) ≡ true
 any_there p zero i within passes = absurd (omega (arith, within))
 any_there p (suc n) i within passes = ap (λ m. list_any p (range_with_len 0 m)) (sym (add-one n)) ∙ any_next p n ∙ elim (cases_lt i n) [
   | inl earlier ↦ ap (λ b. b || p n) (any_there p n i earlier passes)
@@ -175,6 +174,15 @@ module _ (k : ℕ) (line : List ℕ) (notes : List Note) where
 
   pub warned_nothing : (s : Option ℕ) (said : Option Line) (row : Row) → row ≡ given s said → row.kind ≡ Fault → warnings k line notes s said ≡ []
   warned_nothing s said row is of = warnings_by s said row Fault is of ∙ ap (λ found. found ++ []) (none_twice row Fault of refl)
+
+  pub warned_dead : (s : Option ℕ) (said : Option Line) (row : Row) → row ≡ given s said → row.kind ≡ Dead → warnings k line notes s said ≡ []
+  warned_dead s said row is of = warnings_by s said row Dead is of ∙ ap (λ found. found ++ []) (none_twice row Dead of refl)
+
+  pub warned_target : (s : Option ℕ) (said : Option Line) (row : Row) (n : ℕ) → row ≡ given s said → row.kind ≡ Target n → warnings k line notes s said ≡ []
+  warned_target s said row n is of = warnings_by s said row (Target n) is of ∙ ap (λ found. found ++ []) (none_twice row (Target n) of refl)
+
+  pub warned_channel : (s : Option ℕ) (said : Option Line) (row : Row) (n : ℕ) → row ≡ given s said → row.kind ≡ Channel n → warnings k line notes s said ≡ []
+  warned_channel s said row n is of = warnings_by s said row (Channel n) is of ∙ ap (λ found. found ++ []) (none_twice row (Channel n) of refl)
 
   pub warned_name : (s : Option ℕ) (said : Option Line) (row : Row) (n : ℕ) → row ≡ given s said → row.kind ≡ Name n → warnings k line notes s said ≡ no_start_findings k line notes n
   warned_name s said row n is of = warnings_by s said row (Name n) is of ∙ ap (λ found. found ++ no_start_findings k line notes n) (none_twice row (Name n) of refl)

@@ -19,7 +19,7 @@ use Rattle.pp_lint.specs.Claim.{claims, comment_place}
 use Rattle.pp_lint.specs.Column.{column_of}
 use Rattle.pp_lint.specs.CommentFindings.{claims_findings, comment_findings}
 use Rattle.pp_lint.specs.FieldAtFault.{fault_in}
-use Rattle.pp_lint.specs.Instruction.{instructions}
+use Rattle.pp_lint.specs.Instruction.{first_place, instructions, instructions_of}
 use Rattle.pp_lint.specs.LineFault.{fault_after, said_after}
 use Rattle.pp_lint.specs.WordsOfLine.{word_in, words_in_fields}
 use Rattle.pp_lint.proofs.CommentLemmas.{comment_is}
@@ -268,6 +268,60 @@ long_step place next after word ended fields left rest (Some m) long is1 is2 goe
     ap (instructions place) (first_word fields left word taken ∙ ap (λ ws. word ∷ ws) (first_word left rest m some)) ∙ long_first place word m (words_in_fields rest) long ∙ rw (is2, is1, on ended goes) refl
 long_step place next after word ended fields left rest None long is1 is2 goes taken some none =
     ap (instructions place) (first_word fields left word taken ∙ ap (λ fs. word ∷ words_in_fields fs) none) ∙ cut_first place word ∙ rw (over ended goes) refl
+
+-- ---- the instructions of a line
+
+nothing_run : (said : Option Line) → says_words said ≡ false → ([] ≡ instructions_of said) × (0 ≡ first_place said)
+unfolding instructions_of first_place
+nothing_run None none = (refl, refl)
+nothing_run (Some nothing) none = (refl, refl)
+nothing_run (Some (central_size n)) none = (refl, refl)
+nothing_run (Some (central_words a ws)) none = (refl, refl)
+nothing_run (Some (section n)) none = (refl, refl)
+nothing_run (Some (start p a)) none = (refl, refl)
+nothing_run (Some (words x ws)) none = absurd (cc)
+nothing_run (Some dead_start) none = (refl, refl)
+
+run_are : (x : ℕ) (ws : List ℕ) → (instructions x ws ≡ instructions_of (Some (words x ws))) × (x ≡ first_place (Some (words x ws)))
+unfolding instructions_of first_place
+run_are x ws = (refl, refl)
+
+blank_runs : (b : Before) → says_words (said_after b []) ≡ false
+unfolding line_after
+blank_runs b = refl
+
+-- of a line without a fault
+pub record Runs (b : Before) (line : List ℕ) (is : List Instruction) (x : ℕ) : Type 0 where
+  pub are : is ≡ instructions_of (said_after b (fields_of line))
+  pub first : x ≡ first_place (said_after b (fields_of line))
+
+pub none_run : (b : Before) (line : List ℕ) → fields_of line ≡ [] → Runs b line [] 0
+none_run b line blank = let none = nothing_run (said_after b (fields_of line)) (ap (λ fields. says_words (said_after b fields)) blank ∙ blank_runs b) in record { are = none.0; first = none.1 }
+
+pub others_run : (b : Before) (line : List ℕ) (first : Field) (rest : Fields) → fields_of line ≡ first ∷ rest → is_ascii_digit (slice_index first 0) ≡ false → Runs b line [] 0
+others_run b line first rest begins other =
+    let none = nothing_run (said_after b (fields_of line)) (ap (λ fields. says_words (said_after b fields)) begins ∙ other_said b first rest _ _ _ _ _ refl refl refl refl refl other) in
+    record { are = none.0; first = none.1 }
+
+pub words_run : (b : Before) (line : List ℕ) (first : Field) (rest : Fields) → fields_of line ≡ first ∷ rest → is_ascii_digit (slice_index first 0) ≡ true → fault_after b (fields_of line) ≡ None
+    → Runs b line (instructions (word_in first) (words_in_fields rest)) (word_in first)
+words_run b line first rest begins digit none =
+    let said = words_said b first rest (ap (fault_after b) (sym begins) ∙ none) digit in
+    let place : word_in first ≡ said.place = ap (λ o. unwrap_or o 0) said.at in
+    let is = said.is ∙ ap (λ x. Some (words x (words_in_fields rest))) (sym place) in
+    let same = ap (said_after b) begins ∙ is in
+    let run = run_are (word_in first) (words_in_fields rest) in
+    record { are = run.0 ∙ ap instructions_of (sym same); first = run.1 ∙ ap first_place (sym same) }
+
+run_by : (b : Before) (line : List ℕ) (first : Field) (rest : Fields) (digit : Bool) → fields_of line ≡ first ∷ rest → digit ≡ is_ascii_digit (slice_index first 0) → fault_after b (fields_of line) ≡ None
+    → (if not digit then [] else instructions (word_in first) (words_in_fields rest)) ≡ instructions_of (said_after b (fields_of line))
+run_by b line first rest true begins is none = let run = words_run b line first rest begins (sym is) none in run.are
+run_by b line first rest false begins is none = let run = others_run b line first rest begins (sym is) in run.are
+
+pub line_runs : (b : Before) (line : List ℕ) (first : Field) (rest : Fields) (digit : Bool) (x : ℕ) → fields_of line ≡ first ∷ rest → digit ≡ is_ascii_digit (slice_index first 0) → x ≡ word_in first → fault_after b (fields_of line) ≡ None
+    → (if not digit then [] else instructions x (words_in_fields rest)) ≡ instructions_of (said_after b (fields_of line))
+line_runs b line first rest digit x begins is word none =
+    ap (λ place. if not digit then [] else instructions place (words_in_fields rest)) word ∙ run_by b line first rest digit begins is none
 
 pub first_is : (old new : List Instruction) (o : Option Instruction) → IfSome o (λ i. old ≡ i ∷ new) → IfNone o ((old ≡ []) × (new ≡ [])) → slice_get old 0 ≡ o
 first_is old new (Some i) some none = ap (λ is. slice_get is 0) some

@@ -13,7 +13,9 @@ use Rattle.pp_lint.specs.CommentFindings.{comment_findings}
 use Rattle.pp_lint.specs.FaultWords.{fault_words}
 use Rattle.pp_lint.specs.FieldAtFault.{fault_in, field_at_fault}
 use Rattle.pp_lint.specs.Finding.{Finding}
-use Rattle.pp_lint.specs.Given.{Note, notes, said_as_line, section_at}
+use Rattle.pp_lint.specs.Given.{Note, given, notes, said_as_line, section_at}
+use Rattle.pp_lint.specs.RunFindings.{run_findings}
+use Rattle.pp_lint.specs.StraightLine.{reached_at}
 use Rattle.pp_lint.specs.Warnings.{warnings}
 
 -- the fault that fields have as line k of these lines, if they say nothing
@@ -49,10 +51,14 @@ unfoldable pub line_findings : ℕ → List ℕ → (Fields → Option DeckCode)
 line_findings k line fault_of else_found =
     found_unless_foreign k line fault_of else_found (position is_foreign line)
 
--- what is found in line k if it has no fault: by what all lines give, and in its comment
-abbrev pub found_without_fault : ℕ → List ℕ → List Note → Option ℕ → Option Line → List Finding
-found_without_fault k line notes processor said =
-    warnings k line notes processor said ++ comment_findings k line said
+-- what is found in line k if it has no fault: by what all lines give, by its instructions, and in
+-- its comment
+abbrev pub found_without_fault : Profile → ℕ → List ℕ → List Note → Option ℕ → Option ℕ
+    → Option Line → List Finding
+found_without_fault profile k line notes reached processor said =
+    warnings k line notes processor said
+    ++ run_findings profile k line notes reached (given processor said).kind said
+    ++ comment_findings k line said
 
 -- what is found in line k of these lines
 abbrev pub findings_at : Profile → List (List ℕ) → ℕ → List Finding
@@ -60,8 +66,8 @@ findings_at profile lines k =
     let line = slice_index_or lines k [] in
     let fields = map fields_of lines in
     line_findings k line (fault_as_line profile fields k)
-    (found_without_fault k line (notes profile fields) (section_at profile fields k)
-    (said_as_line profile fields k (fields_of line)))
+    (found_without_fault profile k line (notes profile fields) (reached_at profile fields k)
+    (section_at profile fields k) (said_as_line profile fields k (fields_of line)))
 
 -- what is found in the lines of a text
 unfoldable pub findings_in : Profile → List ℕ → List Finding

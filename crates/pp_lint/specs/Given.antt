@@ -1,14 +1,17 @@
 -- What the lines of a deck give, and which line gives it first.
-use Rattle.std.specs.Prelude.{ℕ, ◌+◌, ◌==◌, ◌&&◌, Bool, true, false, List, [], length, take, map, find, filter_map, Option, None, Some, option_map, slice_index_or, unwrap_or, if◌then◌else◌}
+use Rattle.std.specs.Prelude.{ℕ, ◌+◌, ◌==◌, ◌&&◌, Bool, true, false, List, [], ◌∷◌, ◌++◌, length, take, map, find, filter_map, Option, None, Some, option_map, slice_index_or, unwrap_or, if◌then◌else◌}
 use Rattle.std.specs.List.{flat_map, last_or, list_any, range_with_len}
 use Rattle.std.specs.Result.{result_ok}
 use Rattle.pp_numbers.specs.declared.profile.Profile.{Profile}
-use Rattle.pp_deck.specs.DeckLine.{Line, central_words, line_after, section, start, words}
+use Rattle.pp_deck.specs.DeckLine.{Line, central_words, dead_start, line_after, section, start, words}
 use Rattle.pp_deck.specs.DeckLoad.{processor_in}
 use Rattle.pp_deck.specs.DeckMeaning.{begins_section, has_fields, size_of}
 use Rattle.pp_deck.specs.DeckText.{Fields}
+use Rattle.pp_lint.specs.Instruction.{instructions_of}
+use Rattle.pp_lint.specs.InstructionEffect.{channel_used, leads_to}
+use Rattle.pp_lint.specs.declared.instruction.Instruction.{Instruction}
 use Rattle.pp_lint.specs.declared.{row.Kind.Kind, row.Row.Row}
-use Rattle.pp_lint.specs.declared.row.Kind.TheVariants.{Fault, Name, Start, Word, Central}
+use Rattle.pp_lint.specs.declared.row.Kind.TheVariants.{Fault, Name, Start, Word, Central, Dead, Target, Channel}
 
 -- what fields say as line k of these lines
 abbrev pub said_as_line : Profile → List Fields → ℕ → Fields → Option Line
@@ -40,13 +43,14 @@ abbrev pub row : Kind → ℕ → ℕ → Row
 row kind first count = record { kind = kind; first = first; count = count }
 
 -- what a line gives that is for this processor, if it is for one: a fault; the name of a processor,
--- its start, words of it; central words; nothing
+-- its start, words of it; central words; dead start; nothing
 unfoldable pub given : Option ℕ → Option Line → Row
 given processor None = row Fault 0 1
 given processor (Some (section n)) = row (Name n) 0 1
 given (Some n) (Some (start p a)) = row (Start n) 0 1
 given (Some n) (Some (words x ws)) = row (Word n) x (length ws)
 given processor (Some (central_words a ws)) = row Central a (length ws)
+given processor (Some dead_start) = row Dead 0 1
 given processor (Some line) = row Fault 0 0
 
 abbrev pub given_at : Profile → List Fields → ℕ → Row
@@ -63,10 +67,35 @@ notes_of number given =
     map (λ i. record { line = number; kind = given.kind; place = given.first + i })
     (range_with_len 0 given.count)
 
+abbrev pub note_if : ℕ → Kind → Option ℕ → List Note
+note_if number kind None = []
+note_if number kind (Some place) =
+    record { line = number; kind = kind; place = place } ∷ []
+
+-- what an instruction of processor n gives: the place that it leads to, the channel that it uses
+abbrev pub notes_of_instruction : ℕ → Profile → ℕ → Instruction → List Note
+notes_of_instruction number profile n i = note_if number (Target n) (leads_to profile i)
+    ++ note_if number (Channel n) (channel_used profile i.word)
+
+-- where a line starts its processor; 0 if it starts none
+abbrev pub start_place : Option Line → ℕ
+start_place (Some (start p a)) = p
+start_place said = 0
+
+-- what the START or the instructions of a line give that gives things of this kind
+unfoldable pub notes_within : ℕ → Profile → Kind → Option Line → List Note
+notes_within number profile (Start n) said = note_if number (Target n) (Some (start_place said))
+notes_within number profile (Word n) said =
+    flat_map (notes_of_instruction number profile n) (instructions_of said)
+notes_within number profile kind said = []
+
+abbrev pub notes_at : Profile → List Fields → ℕ → List Note
+notes_at profile lines k = notes_of (k + 1) (given_at profile lines k)
+    ++ notes_within (k + 1) profile (given_at profile lines k).kind (said_at profile lines k)
+
 -- what lines give, from the first line on; lines are counted from 1
 unfoldable pub notes : Profile → List Fields → List Note
-notes profile lines = flat_map (λ k. notes_of (k + 1) (given_at profile lines k))
-    (range_with_len 0 (length lines))
+notes profile lines = flat_map (notes_at profile lines) (range_with_len 0 (length lines))
 
 abbrev pub is_kind : Kind → Kind → Bool
 is_kind Fault Fault = true
@@ -74,6 +103,9 @@ is_kind (Name n) (Name m) = n == m
 is_kind (Start n) (Start m) = n == m
 is_kind (Word n) (Word m) = n == m
 is_kind Central Central = true
+is_kind Dead Dead = true
+is_kind (Target n) (Target m) = n == m
+is_kind (Channel n) (Channel m) = n == m
 is_kind kind other = false
 
 -- the first line that gives a thing of this kind at this place

@@ -4,6 +4,7 @@ use Rattle.std.specs.Option.{option_map_or}
 use Rattle.pp_word.specs.Address.{next_place, relative_to}
 use Rattle.pp_word.specs.Numeral.{numeral, octal}
 use Rattle.pp_word.specs.Opcode.{opcode_at, row_of}
+use Rattle.pp_deck.specs.DeckLine.{Line, words}
 use Rattle.pp_deck.specs.DeckText.{Field}
 use Rattle.pp_text.specs.InstructionText.{instruction_text, is_long, operands_of}
 use Rattle.pp_text.specs.declared.operands.Operands.{Operands}
@@ -20,6 +21,16 @@ instructions place (w ∷ m ∷ ws) = if is_long w
     ∷ instructions (next_place (next_place place)) ws
     else record { place = place; word = w; second = None }
     ∷ instructions (next_place place) (m ∷ ws)
+
+-- those of a line of words
+unfoldable pub instructions_of : Option Line → List Instruction
+instructions_of (Some (words x ws)) = instructions x ws
+instructions_of said = []
+
+-- the place of its first word
+unfoldable pub first_place : Option Line → ℕ
+first_place (Some (words x ws)) = x
+first_place said = 0
 
 -- the mnemonic of a word
 abbrev pub mnemonic_of : ℕ → List ℕ

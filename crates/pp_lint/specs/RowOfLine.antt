@@ -1,12 +1,13 @@
 -- What a line without a fault gives, by its fields.
-use Rattle.std.specs.Prelude.{ℕ, List, [], ◌∷◌, bytes_eq, drop, length, take, unwrap_or, Option, None, Some, if◌then◌else◌}
-use Rattle.pp_deck.specs.DeckLine.{Line, start}
-use Rattle.pp_deck.specs.DeckText.{Field, Fields}
+use Rattle.std.specs.Prelude.{◌≡◌, true, ℕ, List, [], ◌∷◌, bytes_eq, drop, length, take, unwrap_or, Option, None, Some, if◌then◌else◌}
+use Rattle.pp_deck.specs.DeckText.{Field, Fields, fields_of}
 use Rattle.pp_lint.specs.Findings.{mark}
-use Rattle.pp_lint.specs.Given.{row}
-use Rattle.pp_lint.specs.WordsOfLine.{word_in}
+use Rattle.pp_lint.specs.Given.{row, start_place}
+use Rattle.pp_lint.specs.LineFault.{said_after}
+use Rattle.pp_lint.specs.Warnings.{is_set}
+use Rattle.pp_lint.specs.WordsOfLine.{HasNoFault, word_in}
 use Rattle.pp_word.specs.Numeral.{numeral}
-use Rattle.pp_lint.specs.declared.{row.Row.Row}
+use Rattle.pp_lint.specs.declared.{line_fault.Before.Before, row.Kind.Kind, row.Row.Row}
 use Rattle.pp_lint.specs.declared.row.Kind.TheVariants.{Fault, Name, Start, Word, Central}
 
 -- the name that a `PP` line gives
@@ -34,10 +35,11 @@ abbrev pub place_in_second : Fields → ℕ
 place_in_second (keyword ∷ field ∷ fields) = word_in field
 place_in_second fields = 0
 
--- where a line starts its processor; 0 if it starts none
-abbrev pub start_place : Option Line → ℕ
-start_place (Some (start p a)) = p
-start_place said = 0
+-- a line gives things of this kind where it stands: it has no fault, if it sets something
+pub record Gives (before : Before) (line : List ℕ) (kind : Kind) : Type 0 where
+  pub clean : is_set kind ≡ true → HasNoFault before line
+  pub start : (n : ℕ) → kind ≡ Start n
+      → start_place (said_after before (fields_of line)) ≡ place_in_second (fields_of line)
 
 -- the text of a deck, behind a byte order mark
 abbrev pub text_in : List ℕ → List ℕ

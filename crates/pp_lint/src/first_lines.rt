@@ -1,9 +1,17 @@
 ghost use Rattle.std.specs.Prelude.{◌≡◌, ◌<◌, ◌++◌, ◌∷◌, ◌^◌, [], ℕ, List, IfOk, length, slice_index};
 ghost use Rattle.pp_lint.specs.FirstLines.{IsRow, IsThing, Shows, key, key_count, line_in};
-ghost use Rattle.pp_lint.specs.Given.{first_line, notes_of, Note};
+ghost use Rattle.std.specs.List.{flat_map};
+ghost use Rattle.pp_deck.specs.DeckText.{fields_of};
+ghost use Rattle.pp_lint.specs.Given.{first_line, note_if, notes_of, notes_of_instruction, notes_within, Note};
+ghost use Rattle.pp_lint.specs.LineFault.{said_after};
+ghost use Rattle.pp_lint.specs.RowOfLine.{Gives};
+ghost use Rattle.pp_lint.specs.declared.{line_fault.Before.Before, row.Kind.Kind};
 
-use crate::row::{Kind, Row};
+use crate::instruction::{Instruction, Instructions, instructions_of};
+use crate::row::{Kind, Row, place_of_start};
 use pp_channel::Memory;
+use pp_numbers::{PpNo, Profile};
+use pp_word::{Word6, Word12};
 use std::alloc::Allocator;
 use std::marker::Model;
 
@@ -14,7 +22,7 @@ pub(crate) struct FirstLines<A: Allocator> {
     lines: Vec<u32, A>,
 }
 
-/// The keys of names, starts, words and central words begin here; that of a fault is 0.
+/// The keys of names, starts, words, central words and so on begin here; that of a fault is 0.
 const NAMES: usize = 1;
 
 const STARTS: usize = 21;
@@ -22,11 +30,21 @@ const STARTS: usize = 21;
 const WORDS: usize = 41;
 
 const CENTRAL: usize = 81_961;
+
+const DEAD: usize = 213_033;
+
+const TARGETS: usize = 213_034;
+
+const CHANNELS: usize = 294_954;
+
 /// How many keys there are.
-const KEYS: usize = 213_033;
+const KEYS: usize = 296_234;
 
 /// How many places a processor's memory has.
 const PLACES: usize = 0o10000;
+
+/// How many numbers the d of an instruction can be.
+const NUMBERS: usize = 0o100;
 
 impl<A: Allocator> Model for FirstLines<A> {
     ghost use Rattle.std.specs.Prelude.{◌≡◌, ℕ, List, length};
@@ -74,6 +92,80 @@ impl<A: Allocator> FirstLines<A> {
         }
     }
 
+    /// Notes what the START or the instructions of the line of a number give, which gives things of
+    /// this kind.
+    pub(crate) fn note_within(&mut self, profile: Profile, kind: &Kind, line: &[u8], number: u32)
+        requires number { 0 < number }
+        ensures { (notes : List Note) (before : Before) → Shows self.old notes
+            → Gives before line.now kind.now → Shows self.new (notes ++ notes_within number profile
+            kind.now (said_after before (fields_of line.now))) }
+    {
+        match kind {
+            Kind::Start(n) => self.note_target(*n, Some(place_of_start(line)), number),
+            Kind::Word(n) => self.note_instructions(
+                profile,
+                *n,
+                &mut instructions_of(line),
+                number,
+            ),
+            Kind::Fault => {}
+            Kind::Name(_) => {}
+            Kind::Central => {}
+            Kind::Dead => {}
+            Kind::Target(_) => {}
+            Kind::Channel(_) => {}
+        }
+    }
+
+    /// Notes what these instructions give.
+    fn note_instructions(
+        &mut self,
+        profile: Profile,
+        n: PpNo,
+        instructions: &mut Instructions,
+        number: u32,
+    )
+        requires number { 0 < number }
+        ensures { (notes : List Note) → Shows self.old notes → Shows self.new
+            (notes ++ flat_map (notes_of_instruction number profile n) instructions.old) }
+    {
+        while let Some(i) = instructions.next_instruction() {
+            self.note_instruction(profile, n, &i, number);
+        }
+    }
+
+    /// Notes the place that an instruction leads to, and the channel that it uses.
+    fn note_instruction(&mut self, profile: Profile, n: PpNo, i: &Instruction, number: u32)
+        requires number { 0 < number }
+        ensures { (notes : List Note) → Shows self.old notes
+            → Shows self.new (notes ++ notes_of_instruction number profile n i.now) }
+    {
+        self.note_target(n, i.leads_to(profile), number);
+        self.note_channel(n, i.channel_used(profile), number);
+    }
+
+    /// Notes a place that START or a jump of a processor leads to, if there is one.
+    fn note_target(&mut self, n: PpNo, place: Option<Word12>, number: u32)
+        requires number { 0 < number }
+        ensures { (notes : List Note) → Shows self.old notes
+            → Shows self.new (notes ++ note_if number (Kind.Target n) place) }
+    {
+        if let Some(place) = place {
+            self.note_one(&Kind::Target(n), usize::from(place.get()), number);
+        }
+    }
+
+    /// Notes a channel that a processor uses, if there is one.
+    fn note_channel(&mut self, n: PpNo, c: Option<Word6>, number: u32)
+        requires number { 0 < number }
+        ensures { (notes : List Note) → Shows self.old notes
+            → Shows self.new (notes ++ note_if number (Kind.Channel n) c) }
+    {
+        if let Some(c) = c {
+            self.note_one(&Kind::Channel(n), usize::from(c.get()), number);
+        }
+    }
+
     /// The number of the first line that gives a thing; 0 if none does.
     pub(crate) fn line_of(&self, kind: &Kind, place: usize) -> u32
         requires { IsThing kind.now place }
@@ -106,5 +198,8 @@ fn key_of(kind: &Kind, place: usize) -> usize
         Kind::Start(n) => STARTS + n.index() + place,
         Kind::Word(n) => WORDS + PLACES * n.index() + place,
         Kind::Central => CENTRAL + place,
+        Kind::Dead => DEAD + place,
+        Kind::Target(n) => TARGETS + PLACES * n.index() + place,
+        Kind::Channel(n) => CHANNELS + NUMBERS * n.index() + place,
     }
 }

@@ -4,9 +4,13 @@ ghost use Rattle.std.specs.Prelude.{◌≡◌, ◌<◌, ◌≤◌, ◌^◌, ◌/
 ghost use Rattle.pp_word.specs.Opcode.{code_of, opcode_at, row_of};
 ghost use Rattle.pp_text.specs.InstructionText.{operands_of};
 ghost use Rattle.pp_text.specs.TextWriter.{Prints};
-ghost use Rattle.pp_lint.specs.Instruction.{instructions, is_comma, is_number_of, is_operand_of, is_pair_of, may_have, says, text_without_second, words_and_text};
-ghost use Rattle.pp_lint.specs.WordsOfLine.{word_in, words_in_fields};
+ghost use Rattle.pp_lint.specs.Instruction.{first_place, instructions, instructions_of, is_comma, is_number_of, is_operand_of, is_pair_of, may_have, says, text_without_second, words_and_text};
+ghost use Rattle.pp_deck.specs.DeckText.{fields_of};
+ghost use Rattle.pp_lint.specs.LineFault.{said_after};
+ghost use Rattle.pp_lint.specs.WordsOfLine.{HasNoFault, word_in, words_in_fields};
+ghost use Rattle.pp_lint.specs.declared.line_fault.Before.{Before};
 
+use crate::line_fault::begins_with_digit;
 use pp_deck::Fields;
 use pp_text::{TextWriter, octal4, print_running};
 use pp_word::{Opcode, Word6, Word12, decode, next, numeral, relative};
@@ -85,6 +89,40 @@ impl<'a> Instructions<'a> {
             second,
         })
     }
+}
+
+/// The instructions of a line without a fault; none if it is no line of words.
+pub(crate) fn instructions_of(line: &[u8]) -> Instructions
+    ensures { (before : Before) → HasNoFault before line.now
+        → result ≡ instructions_of (said_after before (fields_of line.now)) }
+{
+    let mut fields = Fields::of(line);
+    match fields.next_field() {
+        Some(first) => Instructions {
+            words: fields,
+            place: word_of(first),
+            is_ended: !begins_with_digit(first),
+        },
+        None => Instructions {
+            words: fields,
+            place: Word12::ZERO,
+            is_ended: true,
+        },
+    }
+}
+
+/// The place of the first word of a line without a fault; 0 if it is no line of words.
+pub(crate) fn first_place(line: &[u8]) -> Word12
+    ensures { (before : Before) → HasNoFault before line.now
+        → result ≡ first_place (said_after before (fields_of line.now)) }
+{
+    let Some(first) = Fields::of(line).next_field() else {
+        return Word12::ZERO;
+    };
+    if !begins_with_digit(first) {
+        return Word12::ZERO;
+    }
+    word_of(first)
 }
 
 /// The word in the next field.

@@ -19,9 +19,11 @@ use crate::comment_findings::print_comment_findings;
 use crate::fault_words::print_fault_words;
 use crate::first_lines::FirstLines;
 use crate::line_fault::{Before, Fault, fault_of};
+use crate::run_findings::print_run_findings;
 use crate::warnings::print_warnings;
 use pp_deck::{DeckCode, Fields};
 use pp_text::{TextWriter, print_short_decimal};
+use pp_word::Word12;
 use std::alloc::Allocator;
 use std::io::Write;
 
@@ -30,18 +32,21 @@ pub(crate) fn print_line_findings<A: Allocator, W: Write>(
     text: &mut TextWriter<W>,
     firsts: &FirstLines<A>,
     before: &Before,
+    reached: &Option<Word12>,
     number: u64,
     line: &[u8],
 ) -> bool
     requires { before.now.size ≤ 2 ^ 17 }
     ensures prints { (k : ℕ) (notes : List Note) → Shows firsts.now notes → number ≡ k + 1
         → Prints W.contents text.old text.new (flat_map finding_line
-        (line_findings k line.now (fault_after before.now) (found_without_fault k line.now notes
-        before.now.section (said_after before.now (fields_of line.now))))) }
+        (line_findings k line.now (fault_after before.now)
+        (found_without_fault before.now.profile k line.now notes reached.now before.now.section
+        (said_after before.now (fields_of line.now))))) }
     ensures found { (k : ℕ) (notes : List Note) → Shows firsts.now notes → number ≡ k + 1
         → result ≡ is_something_found
-        (line_findings k line.now (fault_after before.now) (found_without_fault k line.now notes
-        before.now.section (said_after before.now (fields_of line.now)))) }
+        (line_findings k line.now (fault_after before.now)
+        (found_without_fault before.now.profile k line.now notes reached.now before.now.section
+        (said_after before.now (fields_of line.now)))) }
 {
     if let Some(place) = first_foreign(line) {
         print_finding(text, number, place as u64 + 1, DeckCode::NotAscii, &[]);
@@ -54,8 +59,9 @@ pub(crate) fn print_line_findings<A: Allocator, W: Write>(
         }
         None => {
             let is_warned = print_warnings(text, firsts, before, number, line);
+            let is_amiss = print_run_findings(text, firsts, before, reached, number, line);
             let is_otherwise = print_comment_findings(text, number, line);
-            is_warned || is_otherwise
+            is_warned | is_amiss | is_otherwise
         }
     }
 }

@@ -12,7 +12,7 @@ ghost use Rattle.pp_lint.specs.FirstLines.{IsRow, Shows};
 ghost use Rattle.pp_lint.specs.Given.{given, named_by, notes};
 ghost use Rattle.pp_lint.specs.LineFault.{after_fields, before_line, lone_number, said_after};
 ghost use Rattle.pp_lint.specs.LintText.{finding_line, is_something_found, lint_text};
-ghost use Rattle.pp_lint.specs.RowOfLine.{text_in};
+ghost use Rattle.pp_lint.specs.RowOfLine.{Gives, text_in};
 ghost use Rattle.pp_text.specs.TextWriter.{Prints};
 ghost use Rattle.pp_text.specs.Written.{IsReportWritten};
 
@@ -20,6 +20,7 @@ use crate::first_lines::FirstLines;
 use crate::line_fault::{Before, fault_of, is};
 use crate::line_findings::{print_finding, print_line_findings, print_place};
 use crate::row::{Kind, Row, one, processor_in, row_of};
+use crate::straight_line::behind_line;
 use crate::text_lines::TextLines;
 use pp_channel::Memory;
 use pp_deck::{DeckCode, Fields};
@@ -88,7 +89,9 @@ fn first_lines<A: Allocator>(
     let mut lines = TextLines::of(deck);
     while let Some(line) = lines.next_line() {
         number += 1;
-        firsts.note(&row_after(&before, line), number);
+        let row = row_after(&before, line);
+        firsts.note(&row, number);
+        firsts.note_within(profile, &row.kind, line, number);
         before = after_line(&before, line);
     }
     Ok(firsts)
@@ -164,13 +167,16 @@ fn print_lines<A: Allocator, W: Write>(
     ensures found { result ≡ is_something_found (findings_in profile deck.now) }
 {
     let mut before = before_first(profile, deck);
+    let mut reached = None;
     let mut number = 0;
     let mut is_found = false;
     let mut lines = TextLines::of(deck);
     while let Some(line) = lines.next_line() {
         number += 1;
-        let found = print_line_findings(text, firsts, &before, number, line);
+        let found = print_line_findings(text, firsts, &before, &reached, number, line);
         is_found = is_found || found;
+        let row = row_after(&before, line);
+        reached = behind_line(firsts, profile, &row.kind, line, &reached);
         before = after_line(&before, line);
     }
     is_found
@@ -224,6 +230,7 @@ fn row_after(before: &Before, line: &[u8]) -> Row
     requires { before.now.size ≤ 2 ^ 17 }
     ensures value { result ≡ given before.now.section (said_after before.now (fields_of line.now)) }
     ensures room { IsRow result }
+    ensures gives { Gives before.now line.now result.kind }
 {
     match fault_of(before, &mut Fields::of(line)) {
         Some(_) => one(Kind::Fault),

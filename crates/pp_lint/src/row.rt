@@ -3,17 +3,18 @@
 ghost use Rattle.std.specs.Prelude.{◌≡◌, ◌<◌, ◌≤◌, ◌^◌, ℕ, None, length};
 ghost use Rattle.std.specs.Result.{result_ok};
 ghost use Rattle.pp_deck.specs.DeckLine.{section_line};
+ghost use Rattle.pp_deck.specs.DeckText.{fields_of};
 ghost use Rattle.pp_lint.specs.FirstLines.{IsOfProcessor, IsRow};
-ghost use Rattle.pp_lint.specs.Given.{given, named_by, row};
+ghost use Rattle.pp_lint.specs.Given.{given, named_by, row, start_place};
 ghost use Rattle.pp_lint.specs.LineFault.{fault_after, said_after};
 ghost use Rattle.pp_lint.specs.declared.row.Kind.{Kind};
-ghost use Rattle.pp_lint.specs.RowOfLine.{central_row, named_row, place_in_second, start_place, start_row, words_row};
+ghost use Rattle.pp_lint.specs.RowOfLine.{central_row, named_row, place_in_second, start_row, words_row};
 
 use crate::instruction::word_of;
 use crate::line_fault::{Before, begins_with_digit, is};
 use pp_deck::Fields;
 use pp_numbers::{PpNo, Profile};
-use pp_word::numeral;
+use pp_word::{Word12, numeral};
 
 /// What kind of thing a line gives.
 #[derive(Clone, Copy)]
@@ -28,6 +29,12 @@ pub(crate) enum Kind {
     Word(PpNo),
     /// A central word, at an address.
     Central,
+    /// Dead start.
+    Dead,
+    /// A place of a processor that START or a jump leads to.
+    Target(PpNo),
+    /// A channel that it uses.
+    Channel(PpNo),
 }
 
 /// Things in a row: how many of a kind, from a place or an address on.
@@ -60,6 +67,9 @@ pub(crate) fn row_of(before: &Before, fields: &mut Fields) -> Row
     }
     if is(first, b"START") {
         return start_row(before.section);
+    }
+    if is(first, b"DEAD") {
+        return one(Kind::Dead);
     }
     if begins_with_digit(first) {
         return words_row(before.section, first, fields);
@@ -164,4 +174,18 @@ fn count_of(fields: &mut Fields) -> usize
         count += 1;
     }
     count
+}
+
+/// The place in the second field; 0 if there is none.
+pub(crate) fn place_of_start(line: &[u8]) -> Word12
+    ensures { result ≡ place_in_second (fields_of line.now) }
+{
+    let mut fields = Fields::of(line);
+    let Some(_) = fields.next_field() else {
+        return Word12::ZERO;
+    };
+    match fields.next_field() {
+        Some(field) => word_of(field),
+        None => Word12::ZERO,
+    }
 }

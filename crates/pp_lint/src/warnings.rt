@@ -15,10 +15,9 @@ ghost use Rattle.pp_text.specs.TextWriter.{Prints};
 
 use crate::column::Columns;
 use crate::first_lines::FirstLines;
-use crate::instruction::word_of;
 use crate::line_fault::Before;
 use crate::line_findings::print_place;
-use crate::row::{Kind, Row, row_of};
+use crate::row::{Kind, Row, place_of_start, row_of};
 use pp_deck::Fields;
 use pp_numbers::PpNo;
 use pp_text::{TextWriter, octal4, print_short_decimal, print_short_octal};
@@ -54,6 +53,9 @@ pub(crate) fn print_warnings<A: Allocator, W: Write>(
         Kind::Start(n) => print_start_warnings(text, firsts, &row, *n, number, line),
         Kind::Word(_) => print_twice(text, firsts, &row, number, line),
         Kind::Central => print_twice(text, firsts, &row, number, line),
+        Kind::Dead => false,
+        Kind::Target(_) => false,
+        Kind::Channel(_) => false,
     }
 }
 
@@ -319,18 +321,4 @@ fn print_wordless_text<W: Write>(text: &mut TextWriter<W>, place: Word12)
     text.print(b"START ");
     text.print(&octal4(place.get()));
     text.print(b", where no word is");
-}
-
-/// The place in the second field; 0 if there is none.
-fn place_of_start(line: &[u8]) -> Word12
-    ensures { result ≡ place_in_second (fields_of line.now) }
-{
-    let mut fields = Fields::of(line);
-    let Some(_) = fields.next_field() else {
-        return Word12::ZERO;
-    };
-    match fields.next_field() {
-        Some(field) => word_of(field),
-        None => Word12::ZERO,
-    }
 }

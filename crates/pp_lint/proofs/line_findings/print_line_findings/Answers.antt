@@ -1,4 +1,5 @@
 use Rattle.std.proofs.Common.{refl, sym, ap, arith, length, ◌∙◌}
+use Rattle.std.specs.Prelude.{◌||◌}
 use Rattle.pp_lint.specs.LineFault.{fault_after}
 use Rattle.pp_lint.specs.LintText.{is_something_found}
 use Rattle.pp_lint.proofs.FindingLemmas.{others_are_found, fault_is_found, few_fields, foreign_found, prints_finding}
@@ -26,26 +27,20 @@ returns-in-Some-fault_of-clause-found g c = λ k notes shows number.
 pub print_warnings-is_warned-requires-clause-clean : goal.print_warnings-is_warned-requires-clause-clean
 print_warnings-is_warned-requires-clause-clean g c = record { none = rw c.of.ensures at c.in-None.ensures }
 
-pub returns-then-is_warned-clause-prints : goal.returns-then-is_warned-clause-prints
-returns-then-is_warned-clause-prints g c = λ k notes shows number.
+pub print_run_findings-is_amiss-requires-clause-clean : goal.print_run_findings-is_amiss-requires-clause-clean
+print_run_findings-is_amiss-requires-clause-clean g c = record { none = rw c.of.ensures at c.in-None.ensures }
+
+pub returns-in-None-clause-prints : goal.returns-in-None-clause-prints
+returns-in-None-clause-prints g c = λ k notes shows number.
     let none = rw c.of.ensures at c.in-None.ensures in
     rw (others_are_found k c.args.line.now (fault_after c.args.before.now) _ c.in_default.ensures none)
-    (prints_both _ _ _ _ _ _ (c.print_warnings-is_warned.ensures.prints k notes shows number) (c.print_comment_findings-is_otherwise.ensures.prints c.args.before.now k (record { none = none }) number))
+    (prints_both _ _ _ _ _ _ (prints_both _ _ _ _ _ _ (c.print_warnings-is_warned.ensures.prints k notes shows number) (c.print_run_findings-is_amiss.ensures.prints k notes shows number))
+    (c.print_comment_findings-is_otherwise.ensures.prints c.args.before.now k (record { none = none }) number))
 
-pub returns-then-is_warned-clause-found : goal.returns-then-is_warned-clause-found
-returns-then-is_warned-clause-found g c = λ k notes shows number.
+pub returns-in-None-clause-found : goal.returns-in-None-clause-found
+returns-in-None-clause-found g c = λ k notes shows number.
     let none = rw c.of.ensures at c.in-None.ensures in
-    found_both _ _ c.print_warnings-is_warned.result c.print_comment_findings-is_otherwise.result _ (c.print_warnings-is_warned.ensures.found k notes shows number) (c.print_comment_findings-is_otherwise.ensures.found c.args.before.now k (record { none = none })) (rw c.if-is_warned.true refl)
-    ∙ ap is_something_found (sym (others_are_found k c.args.line.now (fault_after c.args.before.now) _ c.in_default.ensures none))
-
-pub returns-else-is_warned-clause-prints : goal.returns-else-is_warned-clause-prints
-returns-else-is_warned-clause-prints g c = λ k notes shows number.
-    let none = rw c.of.ensures at c.in-None.ensures in
-    rw (others_are_found k c.args.line.now (fault_after c.args.before.now) _ c.in_default.ensures none)
-    (prints_both _ _ _ _ _ _ (c.print_warnings-is_warned.ensures.prints k notes shows number) (c.print_comment_findings-is_otherwise.ensures.prints c.args.before.now k (record { none = none }) number))
-
-pub returns-else-is_warned-clause-found : goal.returns-else-is_warned-clause-found
-returns-else-is_warned-clause-found g c = λ k notes shows number.
-    let none = rw c.of.ensures at c.in-None.ensures in
-    found_both _ _ c.print_warnings-is_warned.result c.print_comment_findings-is_otherwise.result _ (c.print_warnings-is_warned.ensures.found k notes shows number) (c.print_comment_findings-is_otherwise.ensures.found c.args.before.now k (record { none = none })) (rw c.if-is_warned.false refl)
+    found_both _ _ (c.print_warnings-is_warned.result || c.print_run_findings-is_amiss.result) c.print_comment_findings-is_otherwise.result _
+    (found_both _ _ c.print_warnings-is_warned.result c.print_run_findings-is_amiss.result _ (c.print_warnings-is_warned.ensures.found k notes shows number) (c.print_run_findings-is_amiss.ensures.found k notes shows number) refl)
+    (c.print_comment_findings-is_otherwise.ensures.found c.args.before.now k (record { none = none })) refl
     ∙ ap is_something_found (sym (others_are_found k c.args.line.now (fault_after c.args.before.now) _ c.in_default.ensures none))

@@ -5,6 +5,7 @@ use Rattle.pp_text.specs.TextWriter.{Prints}
 use Rattle.pp_lint.specs.Findings.{findings_at}
 use Rattle.pp_lint.specs.LineFault.{before_line}
 use Rattle.pp_lint.specs.LintText.{finding_line, is_something_found}
+use Rattle.pp_lint.specs.StraightLine.{reached_at}
 use Rattle.pp_lint.proofs.lint_text.print_lines.Given as goal
 
 abbrev pub invariant-loop-line : goal.invariant-loop-line
@@ -12,6 +13,7 @@ invariant-loop-line g l = let lines = slice_split is_line_feed l.deck in record 
   most : l.number ≤ length lines;
   left : l.lines ≡ drop l.number lines;
   before : l.before ≡ before_line l.fn.profile (map fields_of lines) l.number;
+  reached : l.reached ≡ reached_at l.fn.profile (map fields_of lines) l.number;
   printed : Prints g.W.Write.contents l.fn.text l.text (flat_map finding_line (flat_map (findings_at l.fn.profile lines) (range_with_len 0 l.number)));
   found : l.is_found ≡ is_something_found (flat_map (findings_at l.fn.profile lines) (range_with_len 0 l.number));
 }

@@ -1,5 +1,5 @@
 use Rattle.std.proofs.Common.{sym, ◌∙◌}
-use Rattle.pp_lint.proofs.GivenLemmas.{blank_gives, central_gives, others_give, section_gives, start_gives, start_is_second, words_give}
+use Rattle.pp_lint.proofs.GivenLemmas.{blank_gives, central_gives, dead_gives, others_give, section_gives, start_gives, start_is_second, words_give}
 use Rattle.pp_lint.proofs.row.row_of.Goals as goal
 
 pub returns-in_default-clause-value : goal.returns-in_default-clause-value
@@ -18,6 +18,9 @@ returns-then-is-2-clause-value c = λ none. c.name_row.ensures ∙ section_gives
 pub returns-then-is-3-clause-value : goal.returns-then-is-3-clause-value
 returns-then-is-3-clause-value c = λ none. c.start_row.ensures ∙ start_gives c.args.before.now _ c.in-Some.first.now _ c.in-Some.ensures.taken (sym c.is-3.ensures ∙ c.if-is-3.true) none
 
+pub returns-then-is-4-clause-value : goal.returns-then-is-4-clause-value
+returns-then-is-4-clause-value c = λ none. c.one.ensures ∙ dead_gives c.args.before.now _ c.in-Some.first.now _ c.in-Some.ensures.taken (sym c.is-4.ensures ∙ c.if-is-4.true) none
+
 pub returns-then-begins_with_digit-clause-value : goal.returns-then-begins_with_digit-clause-value
 returns-then-begins_with_digit-clause-value c = λ none.
     c.words_row.ensures.value ∙ (words_give c.args.before.now _ c.in-Some.first.now _ c.in-Some.ensures.taken (sym c.begins_with_digit.ensures ∙ c.if-begins_with_digit.true) none).0
@@ -30,7 +33,7 @@ returns-then-begins_with_digit-clause-room c = λ none.
 pub returns-clause-value : goal.returns-clause-value
 returns-clause-value c = λ none.
     c.nothing-2.ensures ∙ others_give c.args.before.now _ c.in-Some.first.now _ c.in-Some.ensures.taken (sym c.is.ensures ∙ c.if-is.false) (sym c.is-2.ensures ∙ c.if-is-2.false) (sym c.is-3.ensures ∙ c.if-is-3.false)
-    (sym c.begins_with_digit.ensures ∙ c.if-begins_with_digit.false) none
+    (sym c.is-4.ensures ∙ c.if-is-4.false) (sym c.begins_with_digit.ensures ∙ c.if-begins_with_digit.false) none
 
 pub returns-then-is-3-clause-start : goal.returns-then-is-3-clause-start
 returns-then-is-3-clause-start c = λ n none of.

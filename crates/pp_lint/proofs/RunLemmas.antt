@@ -1,0 +1,108 @@
+-- What comes of the kind of things that a line gives.
+use Rattle.std.proofs.Common.{◌≡◌, ℕ, ◌+◌, Bool, true, false, List, [], ◌++◌, Option, Some, None, refl, sym, ap, ◌∙◌, add-one}
+use Rattle.std.specs.List.{flat_map}
+use Rattle.std.proofs.lemmas.List.{append-nil}
+use Rattle.pp_numbers.specs.declared.profile.Profile.{Profile}
+use Rattle.pp_deck.specs.DeckLine.{Line}
+use Rattle.pp_deck.specs.DeckText.{Fields}
+use Rattle.pp_lint.specs.ChannelUse.{alone_findings}
+use Rattle.pp_lint.specs.Given.{Note, given, given_at, note_if, notes, notes_of_instruction, notes_within, said_at, start_place}
+use Rattle.pp_lint.specs.Instruction.{first_place, instructions_of}
+use Rattle.pp_lint.specs.RunFindings.{run_findings}
+use Rattle.pp_lint.specs.StraightLine.{behind_all, behind_line, fault_findings, reached_at}
+use Rattle.pp_lint.specs.declared.{row.Kind.Kind, row.Row.Row}
+use Rattle.pp_lint.specs.declared.row.Kind.TheVariants.{Central, Channel, Dead, Fault, Name, Start, Target, Word}
+
+-- whether the words of a line are for a processor
+abbrev pub is_word : Kind → Bool
+is_word (Word n) = true
+is_word kind = false
+
+abbrev pub is_start : Kind → Bool
+is_start (Start n) = true
+is_start kind = false
+
+abbrev pub is_name : Kind → Bool
+is_name (Name n) = true
+is_name kind = false
+
+module _ (profile : Profile) (said : Option Line) where
+  pub words_within : (number : ℕ) (kind : Kind) (n : ℕ) → kind ≡ Word n → notes_within number profile kind said ≡ flat_map (notes_of_instruction number profile n) (instructions_of said)
+  unfolding notes_within
+  words_within number kind n is = rw is refl
+
+  pub start_within : (number : ℕ) (kind : Kind) (n place : ℕ) → kind ≡ Start n → start_place said ≡ place → note_if number (Target n) (Some place) ≡ notes_within number profile kind said
+  unfolding notes_within
+  start_within number kind n place is at = rw (is, at) refl
+
+  none_within : (number : ℕ) (kind : Kind) → is_word kind ≡ false → is_start kind ≡ false → notes_within number profile kind said ≡ []
+  unfolding notes_within
+  none_within number Fault word start = refl
+  none_within number (Name n) word start = refl
+  none_within number (Start n) word start = absurd (cc)
+  none_within number (Word n) word start = absurd (cc)
+  none_within number Central word start = refl
+  none_within number Dead word start = refl
+  none_within number (Target n) word start = refl
+  none_within number (Channel n) word start = refl
+
+  pub same_within : (number : ℕ) (kind : Kind) (noted : List Note) → is_word kind ≡ false → is_start kind ≡ false → noted ≡ noted ++ notes_within number profile kind said
+  same_within number kind noted word start = sym (ap (λ ns. noted ++ ns) (none_within number kind word start) ∙ append-nil noted)
+
+module _ (profile : Profile) (noted : List Note) (said : Option Line) (reached : Option ℕ) where
+  pub behind_name : (kind : Kind) (n : ℕ) → kind ≡ Name n → None ≡ behind_line profile noted kind said reached
+  unfolding behind_line
+  behind_name kind n is = rw is refl
+
+  pub behind_words : (kind : Kind) (n : ℕ) → kind ≡ Word n → behind_all profile noted n reached (instructions_of said) ≡ behind_line profile noted kind said reached
+  unfolding behind_line
+  behind_words kind n is = rw is refl
+
+  pub behind_other : (kind : Kind) → is_word kind ≡ false → is_name kind ≡ false → reached ≡ behind_line profile noted kind said reached
+  unfolding behind_line
+  behind_other Fault word name = refl
+  behind_other (Name n) word name = absurd (cc)
+  behind_other (Start n) word name = refl
+  behind_other (Word n) word name = absurd (cc)
+  behind_other Central word name = refl
+  behind_other Dead word name = refl
+  behind_other (Target n) word name = refl
+  behind_other (Channel n) word name = refl
+
+  pub run_words : (k : ℕ) (line : List ℕ) (n : ℕ)
+      → fault_findings profile k line noted n (first_place said) reached (instructions_of said) ++ alone_findings profile k line noted n (first_place said) (instructions_of said)
+      ≡ run_findings profile k line noted reached (Word n) said
+  unfolding run_findings
+  run_words k line n = refl
+
+  pub run_none : (k : ℕ) (line : List ℕ) (kind : Kind) → is_word kind ≡ false → run_findings profile k line noted reached kind said ≡ []
+  unfolding run_findings
+  run_none k line Fault word = refl
+  run_none k line (Name n) word = refl
+  run_none k line (Start n) word = refl
+  run_none k line (Word n) word = absurd (cc)
+  run_none k line Central word = refl
+  run_none k line Dead word = refl
+  run_none k line (Target n) word = refl
+  run_none k line (Channel n) word = refl
+
+-- by the row that the line gives
+module _ (profile : Profile) (noted : List Note) (said : Option Line) (reached : Option ℕ) (k : ℕ) (line : List ℕ) (s : Option ℕ) (row : Row) where
+  pub run_given : (n : ℕ) → row ≡ given s said → row.kind ≡ Word n → run_findings profile k line noted reached (Word n) said ≡ run_findings profile k line noted reached (given s said).kind said
+  run_given n value is = ap (λ kind. run_findings profile k line noted reached kind said) (sym is ∙ ap (λ (r : Row). r.kind) value)
+
+  pub run_nothing : row ≡ given s said → is_word row.kind ≡ false → run_findings profile k line noted reached (given s said).kind said ≡ []
+  run_nothing value word = run_none profile noted said reached k line (given s said).kind (ap (λ (r : Row). is_word r.kind) (sym value) ∙ word)
+
+pub reached_next : (profile : Profile) (lines : List Fields) (k : ℕ) (row : Row) (said : Option Line) (reached now : Option ℕ) → row ≡ given_at profile lines k → said ≡ said_at profile lines k → reached ≡ reached_at profile lines k
+    → now ≡ behind_line profile (notes profile lines) row.kind said reached → now ≡ reached_at profile lines (k + 1)
+unfolding reached_at
+reached_next profile lines k row said reached now is says comes behind =
+    behind ∙ ap (λ (r : Row). behind_line profile (notes profile lines) r.kind said reached) is
+    ∙ ap (λ s. behind_line profile (notes profile lines) (given_at profile lines k).kind s reached) says
+    ∙ ap (behind_line profile (notes profile lines) (given_at profile lines k).kind (said_at profile lines k)) comes
+    ∙ sym (ap (reached_at profile lines) (add-one k))
+
+pub reached_first : (profile : Profile) (lines : List Fields) → None ≡ reached_at profile lines 0
+unfolding reached_at
+reached_first profile lines = refl

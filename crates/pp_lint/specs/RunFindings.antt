@@ -1,0 +1,19 @@
+-- What is found in a line's instructions by how they run.
+use Rattle.std.specs.Prelude.{ℕ, List, [], ◌++◌, Option}
+use Rattle.pp_numbers.specs.declared.profile.Profile.{Profile}
+use Rattle.pp_deck.specs.DeckLine.{Line}
+use Rattle.pp_lint.specs.ChannelUse.{alone_findings}
+use Rattle.pp_lint.specs.Finding.{Finding}
+use Rattle.pp_lint.specs.Given.{Note}
+use Rattle.pp_lint.specs.Instruction.{first_place, instructions_of}
+use Rattle.pp_lint.specs.StraightLine.{fault_findings}
+use Rattle.pp_lint.specs.declared.{row.Kind.Kind}
+use Rattle.pp_lint.specs.declared.row.Kind.TheVariants.{Word}
+
+-- what is found in line k, if it gives words, and a straight line has reached this place before it
+unfoldable pub run_findings : Profile → ℕ → List ℕ → List Note → Option ℕ → Kind → Option Line
+    → List Finding
+run_findings profile k line notes reached (Word n) said =
+    fault_findings profile k line notes n (first_place said) reached (instructions_of said)
+    ++ alone_findings profile k line notes n (first_place said) (instructions_of said)
+run_findings profile k line notes reached kind said = []
