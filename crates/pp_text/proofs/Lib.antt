@@ -8,6 +8,7 @@ mod OrderTextLemmas
 -- facts of the definitions, which proofs of other crates cite
 pub mod PrintingLemmas
 pub mod Telling
+pub mod Format
 pub mod HoldTelling
 pub mod TextLawLemmas
 pub mod TextLemmas
