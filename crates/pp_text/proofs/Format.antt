@@ -4,10 +4,10 @@ use Rattle.std.specs.Prelude.{◌==◌, ◌&&◌, IfSome, get_or, not, if◌then
 use Rattle.std.specs.List.{flat_map, range_with_len}
 use Rattle.std.specs.Option.{option_to_list}
 use Rattle.std.proofs.lemmas.Bool.{and_parts, cases_eq, ne_eqb}
-use Rattle.std.proofs.lemmas.List.Elements.{All-append, All-head, All-map, All-nil, All-tail}
+use Rattle.std.proofs.lemmas.List.Elements.{All-append, All-cons, All-head, All-map, All-nil, All-tail}
 use Rattle.std.proofs.lemmas.Grind.{flat_map-append}
 use Rattle.pp_word.specs.Numeral.{decimal, is_digit, octal, short_decimal, unpadded}
-use Rattle.pp_text.proofs.Telling.{decimal_tells, octal_tells, parts_tell, short_decimal_tells, unpadded_tells}
+use Rattle.pp_text.proofs.Telling.{Tells, decimal_tells, octal_tells, parts_tell, short_decimal_tells, unpadded_tells}
 
 -- what shows a thing that fits, and tells it, where what follows is clear of it
 pub record Format {X : Type 0} (Fits : X → Type 0) : Type 1 where
@@ -47,6 +47,15 @@ field F f fits = record {
   clear = λ x r. F.clear (f x) r;
   Same = λ x y. f x ≡ f y;
   tells = λ x y r s one other. F.tells (f x) (f y) r s (fits x one) (fits y other);
+}
+
+-- a piece of a part of it
+abbrev pub within : {X Y : Type 0} {Fits : X → Type 0} {Shows : Y → Type 0} → Piece Shows → (f : X → Y) → ((x : X) → Fits x → Shows (f x)) → Piece Fits
+within P f fits = record {
+  text = λ x. P.text (f x);
+  clear = λ x r. P.clear (f x) r;
+  Same = λ x y. P.Same (f x) (f y);
+  tells = λ x y r s one other. P.tells (f x) (f y) r s (fits x one) (fits y other);
 }
 
 pub both_tell : {X : Type 0} {Fits : X → Type 0} (P Q : Piece Fits) (x y : X) (r s : List ℕ) → Fits x → Fits y → (P.clear x (Q.text x ++ r) && Q.clear x r) ≡ true → (P.clear y (Q.text y ++ s) && Q.clear y s) ≡ true
@@ -92,12 +101,12 @@ whole P same = record {
   tells = λ x y r s fits also ends other e. let told = P.tells x y r s fits also ends other e in (same x y told.0, told.1);
 }
 
+-- one that tells, whatever follows
+abbrev pub always : {X : Type 0} {Fits : X → Type 0} → (text : X → List ℕ) → Tells Fits text → Format Fits
+always text tells = record { text = text; clear = λ x r. true; tells = λ x y r s fits also _ _ e. tells x y r s fits also e }
+
 abbrev pub octals : (width : ℕ) → Format (λ n. n < 8 ^ width)
-octals width = record {
-  text = octal width;
-  clear = λ n r. true;
-  tells = λ m n r s low small _ _ e. octal_tells width m n r s low small e;
-}
+octals width = always (octal width) (octal_tells width)
 
 abbrev pub no_digit : List ℕ → Bool
 no_digit r = not (is_digit 10 (get_or r 0 0))
@@ -242,16 +251,29 @@ flat_map_each line text h each [] = refl
 flat_map_each line text h each (x ∷ xs) =
     (λ j. each x j ++ flat_map_each line text h each xs j) ∙ sym (flat_map-append text (h x) (flat_map h xs))
 
--- the same of things that there may be, each with its number
-pub rows_are : {X : Type 0} (line : ℕ → List ℕ) (text : ℕ × X → List ℕ) (f : ℕ → Option X) → ((n : ℕ) → line n ≡ maybe_text (λ x. text (n, x)) [] (f n)) → (ns : List ℕ) → flat_map line ns ≡ flat_map text (rows (λ n. option_to_list (f n)) ns)
-rows_are {X} line text f each = flat_map_each line text (λ n. map (λ x. (n, x)) (option_to_list (f n))) (λ n. each n ∙ one_row n (f n))
+-- what there may be of each number from 0 to 77 (octal), each with it
+abbrev pub maybe_rows : {X : Type 0} → (ℕ → Option X) → List (ℕ × X)
+maybe_rows f = rows (λ n. option_to_list (f n)) (range_with_len 0 0o100)
+
+pub maybe_rows_are : {X : Type 0} (line : ℕ → List ℕ) (text : ℕ × X → List ℕ) (f : ℕ → Option X) → ((n : ℕ) → line n ≡ maybe_text (λ x. text (n, x)) [] (f n)) → flat_map line (range_with_len 0 0o100) ≡ flat_map text (maybe_rows f)
+maybe_rows_are {X} line text f each = flat_map_each line text (λ n. map (λ x. (n, x)) (option_to_list (f n))) (λ n. each n ∙ one_row n (f n)) (range_with_len 0 0o100)
   where
     one_row : (n : ℕ) (x : Option X) → maybe_text (λ x. text (n, x)) [] x ≡ flat_map text (map (λ x. (n, x)) (option_to_list x))
     one_row n None = refl
     one_row n (Some x) = sym (append-nil (text (n, x)))
 
-pub same_option : {X : Type 0} (x y : Option X) → option_to_list x ≡ option_to_list y → x ≡ y
-same_option None None e = refl
-same_option None (Some y) e = absurd cc
-same_option (Some x) None e = absurd cc
-same_option (Some x) (Some y) e = cc
+pub maybe_rows_tell : {X : Type 0} (f g : ℕ → Option X) → maybe_rows f ≡ maybe_rows g → (n : ℕ) → n < 0o100 → f n ≡ g n
+maybe_rows_tell {X} f g e n low = same_option (f n) (g n) (rows_tell (λ n. option_to_list (f n)) (λ n. option_to_list (g n)) e n low)
+  where
+    same_option : (x y : Option X) → option_to_list x ≡ option_to_list y → x ≡ y
+    same_option None None e = refl
+    same_option None (Some y) e = absurd cc
+    same_option (Some x) None e = absurd cc
+    same_option (Some x) (Some y) e = cc
+
+pub maybe_rows_fit : {X : Type 0} (Fits : ℕ × X → Type 0) (f : ℕ → Option X) → ((n : ℕ) → n < 0o100 → IfSome (f n) (λ x. Fits (n, x))) → All Fits (maybe_rows f)
+maybe_rows_fit {X} Fits f fits = rows_fit Fits (λ n. option_to_list (f n)) (λ n low. one n (f n) (fits n low))
+  where
+    one : (n : ℕ) (x : Option X) → IfSome x (λ x. Fits (n, x)) → All (λ x. Fits (n, x)) (option_to_list x)
+    one n None fit = All-nil (λ x. Fits (n, x))
+    one n (Some x) fit = All-cons (λ x. Fits (n, x)) x [] fit (All-nil (λ x. Fits (n, x)))

@@ -9,6 +9,8 @@ mod OrderTextLemmas
 pub mod PrintingLemmas
 pub mod Telling
 pub mod Format
+pub mod Formats
+pub mod TextLawNew
 pub mod HoldTelling
 pub mod TextLawLemmas
 pub mod TextLemmas
