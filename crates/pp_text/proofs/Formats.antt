@@ -1,11 +1,13 @@
 -- The formats of what several texts show.
-use Rattle.std.proofs.Common.{All, ◌≡◌, ◌∙◌, ℕ, ◌+◌, ◌^◌, ◌<◌, ◌≤◌, Bool, true, false, List, [], ◌∷◌, ◌++◌, Option, Some, None, length, drop, refl, sym, ap, arith, codes}
-use Rattle.std.specs.Prelude.{◌==◌, ◌&&◌, ◌↔◌, IfSome, IsTrue, get_or, not, nat_le, nat_lt, if◌then◌else◌}
+use Rattle.std.proofs.Common.{All, ◌≡◌, ◌∙◌, ℕ, ◌+◌, ◌^◌, ◌<◌, ◌≤◌, Bool, true, false, List, [], ◌∷◌, ◌++◌, Option, Some, None, length, drop, refl, sym, ap, arith, codes, inl, inr}
+use Rattle.std.specs.Prelude.{◌==◌, ◌&&◌, ◌↔◌, IfSome, IsTrue, get_or, not, nat_le, nat_lt, slice_index_or, if◌then◌else◌}
 use Rattle.std.specs.List.{flat_map, last_or, list_all}
-use Rattle.std.proofs.lemmas.Bool.{and_parts, eqb-true}
+use Rattle.std.proofs.lemmas.Bool.{and_parts, cases_lt, eqb-true, false_from_ne_true}
 use Rattle.std.proofs.lemmas.Option.{same_Some}
 use Rattle.pp_numbers.specs.ChannelNo.{all_channels, names_channel}
 use Rattle.pp_numbers.proofs.ChannelNoLemmas.{channel_fits}
+use Rattle.pp_numbers.specs.PpNo.{all_processors, is_named, names_processor, processor_index}
+use Rattle.pp_numbers.proofs.PpNoLemmas.{numbers_of_processors, processor_fits}
 use Rattle.pp_channel.specs.History.{HasTwelveBitWord, active, waiting, last_stretch, history_on}
 use Rattle.pp_channel.specs.Session.{puts, takes}
 use Rattle.pp_channel.specs.declared.{event.Event.Event, flags.Flags.Flags}
@@ -93,6 +95,40 @@ processors p a p_fits a_fits said =
     mark (codes "PP") ▷ field (octals 2) (λ row. row.0) (λ row fits. fits.0) ▸ codes " P=" ▷ field (octals 4) (λ row. p row.1) (λ row fits. p_fits row.1 fits.1)
     ▸ codes " A=" ▷ field (octals 6) (λ row. a row.1) (λ row fits. a_fits row.1 fits.1) ▸ codes " " ▷ within said (λ row. row.1) (λ row fits. fits.1) ▸ line_end
 
+-- what there may be of each processor named, by the number of its line
+abbrev pub named_rows : {X : Type 0} → List Bool → (ℕ → Option X) → List (ℕ × X)
+named_rows named f = maybe_rows (λ n. if is_named named n then f n else None)
+
+pub named_digits : (named : List Bool) (n : ℕ) → IsTrue (is_named named n) → n < 0o100
+named_digits named n is = processor_fits n (and_parts (names_processor n) (slice_index_or named (processor_index n) false) is).0
+
+pub named_rows_are : {X : Type 0} (named : List Bool) (line : ℕ → List ℕ) (text : ℕ × X → List ℕ) (f : ℕ → Option X) → ((n : ℕ) → line n ≡ maybe_text (λ x. text (n, x)) [] (f n))
+    → flat_map (λ n. if is_named named n then line n else []) all_processors ≡ flat_map text (named_rows named f)
+named_rows_are {X} named line text f each =
+    numbers_of_processors (λ n. if is_named named n then line n else []) (λ n none. rw (false_from_ne_true (names_processor n) none) refl)
+    ∙ maybe_rows_are (λ n. if is_named named n then line n else []) text (λ n. if is_named named n then f n else None) (λ n. by_name n (is_named named n))
+  where
+    by_name : (n : ℕ) (b : Bool) → (if b then line n else []) ≡ maybe_text (λ x. text (n, x)) [] (if b then f n else None)
+    by_name n true = each n
+    by_name n false = refl
+
+pub named_rows_fit : {X : Type 0} (Fits : ℕ × X → Type 0) (named : List Bool) (f : ℕ → Option X) → ((n : ℕ) → n < 0o100 → IsTrue (is_named named n) → IfSome (f n) (λ x. Fits (n, x))) → All Fits (named_rows named f)
+named_rows_fit Fits named f fits = maybe_rows_fit Fits (λ n. if is_named named n then f n else None) (λ n low. by_name n (is_named named n) (fits n low))
+  where
+    by_name : (n : ℕ) (b : Bool) → (IsTrue b → IfSome (f n) (λ x. Fits (n, x))) → IfSome (if b then f n else None) (λ x. Fits (n, x))
+    by_name n true fit = fit refl
+    by_name n false fit = tt
+
+pub named_rows_tell : {X : Type 0} (named others : List Bool) (f g : ℕ → Option X) → named_rows named f ≡ named_rows others g → (n : ℕ) → (if is_named named n then f n else None) ≡ (if is_named others n then g n else None)
+named_rows_tell named others f g e n =
+    elim (cases_lt n 0o100) [
+      | inl low ↦ maybe_rows_tell (λ n. if is_named named n then f n else None) (λ n. if is_named others n then g n else None) e n low
+      | inr past ↦ rw (unnamed named past, unnamed others past) refl
+    ]
+  where
+    unnamed : (named : List Bool) → 0o100 ≤ n → is_named named n ≡ false
+    unnamed named past = false_from_ne_true (is_named named n) (λ is. let low = named_digits named n is in absurd (omega (arith, low, past)))
+
 -- ---- the lines of channels
 
 -- whether a channel is active, and the word that waits
@@ -113,13 +149,13 @@ channel_states = always (λ (is_active, word). channel_text is_active word) chan
 abbrev pub IsChannelLine : ℕ × (Bool × Option ℕ) → Type 0
 IsChannelLine (c, state) = (c < 0o100) × FitsChannel state
 
-abbrev channel_line_format : Format IsChannelLine
-channel_line_format =
+abbrev pub channel_row : Format IsChannelLine
+channel_row =
     whole (mark (codes "CH") ▷ field (octals 2) (λ row. row.0) (λ row fits. fits.0) ▸ codes " " ▷ field channel_states (λ row. row.1) (λ row fits. fits.1) ▸ line_end)
     (λ x y ((_, c), state) j. (c j, state j))
 
 abbrev pub channel_lines : Format (All IsChannelLine)
-channel_lines = many channel_line_format (λ t. get_or t 0 0 == 67 && get_or t 1 0 == 72) (λ _. true) (λ x r _. refl) (λ x r _. refl)
+channel_lines = many channel_row (λ t. get_or t 0 0 == 67 && get_or t 1 0 == 72) (λ _. true) (λ x r _. refl) (λ x r _. refl)
 
 abbrev channel_shown : List Event → Option (Bool × Option ℕ)
 channel_shown [] = None
@@ -133,9 +169,9 @@ abbrev pub channels_shown : List (List Event) → List (ℕ × (Bool × Option �
 channels_shown histories = maybe_rows (named_channel histories)
 
 pub channels_are : (histories : List (List Event)) → flat_map (used_channel_line histories) all_channels ≡ channel_lines.text (channels_shown histories)
-channels_are histories = channels_by_number (used_channel_line histories) ∙ maybe_rows_are (numbered_channel_line histories) channel_line_format.text (named_channel histories) (λ c. each c (names_channel c) (history_on c histories))
+channels_are histories = channels_by_number (used_channel_line histories) ∙ maybe_rows_are (numbered_channel_line histories) channel_row.text (named_channel histories) (λ c. each c (names_channel c) (history_on c histories))
   where
-    each : (c : ℕ) (b : Bool) (h : List Event) → (if b then channel_line c h else []) ≡ maybe_text (λ x. channel_line_format.text (c, x)) [] (if b then channel_shown h else None)
+    each : (c : ℕ) (b : Bool) (h : List Event) → (if b then channel_line c h else []) ≡ maybe_text (λ x. channel_row.text (c, x)) [] (if b then channel_shown h else None)
     each c false h = refl
     each c true [] = refl
     each c true (e ∷ h) = refl
