@@ -1,12 +1,13 @@
 -- What a text is made of, piece by piece; so made, it tells what it shows.
-use Rattle.std.proofs.Common.{All, ◌≡◌, ◌∙◌, ℕ, zero, suc, ◌+◌, ◌^◌, ◌<◌, ◌≤◌, Bool, true, false, List, [], ◌∷◌, ◌++◌, Option, None, Some, map, refl, sym, ap, subst, arith, append-nil, append_assoc, inl, inr}
-use Rattle.std.specs.Prelude.{◌==◌, ◌&&◌, IfSome, get_or, not, if◌then◌else◌}
-use Rattle.std.specs.List.{flat_map, range_with_len}
+use Rattle.std.proofs.Common.{All, ◌≡◌, ◌∙◌, ℕ, zero, suc, ◌+◌, ◌^◌, ◌<◌, ◌≤◌, Bool, true, false, List, [], ◌∷◌, ◌++◌, Option, None, Some, length, map, refl, sym, ap, subst, arith, append-nil, append_assoc, inl, inr}
+use Rattle.std.specs.Prelude.{◌==◌, ◌&&◌, IfSome, get_or, nat_le, nat_lt, not, if◌then◌else◌}
+use Rattle.std.specs.List.{flat_map, list_all, range_with_len}
 use Rattle.std.specs.Option.{option_to_list}
 use Rattle.std.proofs.lemmas.Bool.{and_parts, cases_eq, ne_eqb}
 use Rattle.std.proofs.lemmas.List.Elements.{All-append, All-cons, All-head, All-map, All-nil, All-tail}
 use Rattle.std.proofs.lemmas.Grind.{flat_map-append}
 use Rattle.pp_word.specs.Numeral.{decimal, is_digit, octal, short_decimal, unpadded}
+use Rattle.pp_word.proofs.NumeralLemmas.{decimal_are, decimal_long}
 use Rattle.pp_text.proofs.Telling.{Tells, decimal_tells, octal_tells, parts_tell, short_decimal_tells, unpadded_tells}
 
 -- what shows a thing that fits, and tells it, where what follows is clear of it
@@ -108,6 +109,14 @@ always text tells = record { text = text; clear = λ x r. true; tells = λ x y r
 abbrev pub octals : (width : ℕ) → Format (λ n. n < 8 ^ width)
 octals width = always (octal width) (octal_tells width)
 
+-- so many characters
+abbrev pub characters : (n : ℕ) → Format (λ (t : List ℕ). length t ≡ n)
+characters n = always (λ t. t) (λ x y r s long other e. parts_tell x y r s (long ∙ sym other) e)
+
+-- of which all that follows is clear
+abbrev pub closed : {X : Type 0} {Fits : X → Type 0} → (F : Format Fits) → ((x : X) (r : List ℕ) → F.clear x r ≡ true) → Format Fits
+closed F clear = always F.text (λ x y r s fits also e. F.tells x y r s fits also (clear x r) (clear y s) e)
+
 abbrev pub no_digit : List ℕ → Bool
 no_digit r = not (is_digit 10 (get_or r 0 0))
 
@@ -188,6 +197,17 @@ many F test after front follows = record {
   clear = λ xs r. not (test r) && after r;
   tells = many_tell F test after front follows;
 }
+
+-- whether a digit stands at a place of a text
+abbrev pub is_digit_at : ℕ → List ℕ → Bool
+is_digit_at place text = nat_lt (get_or text place 99) 58
+
+pub digit_front : (text r : List ℕ) → 1 ≤ length text → list_all (is_digit 10) text ≡ true → is_digit_at 0 (text ++ r) ≡ true
+digit_front [] r some all = absurd (omega (arith, some))
+digit_front (c ∷ text) r some all = (and_parts (nat_le 48 c) (nat_lt c 58) (and_parts (is_digit 10 c) (list_all (is_digit 10) text) all).0).1
+
+pub decimal_front : (n : ℕ) (r : List ℕ) → is_digit_at 0 (decimal n ++ r) ≡ true
+decimal_front n r = digit_front (decimal n) r (omega (arith, decimal_long n)) (decimal_are n)
 
 -- what follows things, each of which fails a test at its front
 pub front_fails : {X : Type 0} (text : X → List ℕ) (test : List ℕ → Bool) (b : Bool) → ((x : X) (r : List ℕ) → test (text x ++ r) ≡ b) → (xs : List X) (r : List ℕ) → test r ≡ b → test (flat_map text xs ++ r) ≡ b

@@ -12,10 +12,9 @@ use Rattle.pp_machine.specs.declared.{pp_state.PpState.PpState, trace.Trace.Trac
 use Rattle.pp_numbers.specs.PpNo.{all_processors, is_named, names_processor, processor_index}
 use Rattle.pp_numbers.proofs.PpNoLemmas.{numbers_of_processors, processor_fits}
 use Rattle.pp_word.specs.Numeral.{decimal, is_digit, octal}
-use Rattle.pp_word.proofs.NumeralLemmas.{decimal_are, decimal_long}
 use Rattle.pp_text.specs.PrintedText.{event_line, line_end, named_processor_line, printed, processor_line, state_text}
 use Rattle.pp_text.specs.TextLaw.{AgreeOnText, EventFits, FitsItsText, ProcessorFits, ShowSameProcessor}
-use Rattle.pp_text.proofs.Format.{Format, Piece, decimals, field, front_fails, many, mark, maybe_rows, maybe_rows_are, maybe_rows_fit, maybe_rows_tell, maybe_text, octals, whole, ◌▷◌, ◌▸◌}
+use Rattle.pp_text.proofs.Format.{Format, Piece, decimal_front, decimals, field, front_fails, is_digit_at, many, mark, maybe_rows, maybe_rows_are, maybe_rows_fit, maybe_rows_tell, maybe_text, octals, whole, ◌▷◌, ◌▸◌}
 use Rattle.pp_text.proofs.Formats.{IsChannelLine, channel_lines, channel_row, channels_are, channels_fit, channels_same, channels_shown, events, named_rows, named_rows_are, named_rows_fit, named_rows_tell, processors, states}
 
 -- ---- the lines of events
@@ -27,16 +26,8 @@ event_row =
     ▷ field (octals 2) (λ e. e.channel) (λ e fits. channel_fits e.channel fits.channel) ▸ codes " " ▷ field events (λ e. e.event) (λ e fits. fits.word) ▸ line_end)
     (λ x y (((turn, pp), channel), event). λ j. record { turn = turn j; pp = pp j; channel = channel j; event = event j })
 
--- whether a digit stands at a place of a text
-abbrev pub is_digit_at : ℕ → List ℕ → Bool
-is_digit_at place text = nat_lt (get_or text place 99) 58
-
-pub digit_front : (text r : List ℕ) → 1 ≤ length text → list_all (is_digit 10) text ≡ true → is_digit_at 0 (text ++ r) ≡ true
-digit_front [] r some all = absurd (omega (arith, some))
-digit_front (c ∷ text) r some all = (and_parts (nat_le 48 c) (nat_lt c 58) (and_parts (is_digit 10 c) (list_all (is_digit 10) text) all).0).1
-
 event_front : (e : Trace) (r : List ℕ) → is_digit_at 0 (event_row.text e ++ r) ≡ true
-event_front e r = simp append_assoc (digit_front (decimal e.turn) _ (omega (arith, decimal_long e.turn)) (decimal_are e.turn))
+event_front e r = simp append_assoc (decimal_front e.turn _)
 
 event_lines : Format (All EventFits)
 event_lines = many event_row (is_digit_at 0) (λ _. true) (λ e r _. rw (event_front e r) refl) (λ e r _. refl)
