@@ -3,12 +3,12 @@ use Rattle.std.proofs.Common.{All, ◌≡◌, ◌∙◌, ℕ, zero, suc, ◌+◌
 use Rattle.std.specs.Prelude.{◌==◌, ◌&&◌, IfSome, get_or, nat_le, nat_lt, not, if◌then◌else◌}
 use Rattle.std.specs.List.{flat_map, list_all, range_with_len}
 use Rattle.std.specs.Option.{option_to_list}
-use Rattle.std.proofs.lemmas.Bool.{and_parts, cases_eq, ne_eqb}
+use Rattle.std.proofs.lemmas.Bool.{and_parts, cases_eq, eq-eqb, ne_eqb}
 use Rattle.std.proofs.lemmas.List.Elements.{All-append, All-cons, All-head, All-map, All-nil, All-tail}
 use Rattle.std.proofs.lemmas.Grind.{flat_map-append}
-use Rattle.pp_word.specs.Numeral.{decimal, is_digit, octal, short_decimal, unpadded}
-use Rattle.pp_word.proofs.NumeralLemmas.{decimal_are, decimal_long}
-use Rattle.pp_text.proofs.Telling.{Tells, decimal_tells, octal_tells, parts_tell, short_decimal_tells, unpadded_tells}
+use Rattle.pp_word.specs.Numeral.{decimal, is_digit, octal, short_decimal, unpadded, value_of}
+use Rattle.pp_word.proofs.NumeralLemmas.{decimal_are, decimal_long, decimal_numeral}
+use Rattle.pp_text.proofs.Telling.{Tells, cut, decimal_digit, octal_tells, parts_tell, short_decimal_pass, short_decimal_value, unpadded_pass, unpadded_value}
 
 -- what shows a thing that fits, and tells it, where what follows is clear of it
 pub record Format {X : Type 0} (Fits : X → Type 0) : Type 1 where
@@ -28,36 +28,24 @@ pub record Piece {X : Type 0} (Fits : X → Type 0) : Type 1 where
 pub format_tells : {X : Type 0} {Fits : X → Type 0} (F : Format Fits) (x y : X) → Fits x → Fits y → F.clear x [] ≡ true → F.clear y [] ≡ true → F.text x ≡ F.text y → x ≡ y
 format_tells F x y fits also ends other e = (F.tells x y [] [] fits also ends other (ap (λ t. t ++ []) e)).0
 
+-- and of pieces of a whole text
+pub piece_tells : {X : Type 0} {Fits : X → Type 0} (P : Piece Fits) → ((x : X) → P.clear x [] ≡ true) → (x y : X) → Fits x → Fits y → P.text x ≡ P.text y → P.Same x y
+piece_tells P ends x y fits also e = (P.tells x y [] [] fits also (ends x) (ends y) (ap (λ t. t ++ []) e)).0
+
 -- ---- pieces
 
 infixl 5 ◌▷◌
 infixl 5 ◌▸◌
-
 abbrev pub mark : {X : Type 0} {Fits : X → Type 0} → List ℕ → Piece Fits
-mark t = record {
-  text = λ x. t;
-  clear = λ x r. true;
-  Same = λ x y. Unit {0};
-  tells = λ x y r s _ _ _ _ e. (tt, (parts_tell t t r s refl e).1);
-}
+mark t = record { text = λ x. t; clear = λ x r. true; Same = λ x y. Unit {0}; tells = λ x y r s _ _ _ _ e. (tt, (parts_tell t t r s refl e).1) }
 
 -- a part in a format of its own
 abbrev pub field : {X Y : Type 0} {Fits : X → Type 0} {Shows : Y → Type 0} → Format Shows → (f : X → Y) → ((x : X) → Fits x → Shows (f x)) → Piece Fits
-field F f fits = record {
-  text = λ x. F.text (f x);
-  clear = λ x r. F.clear (f x) r;
-  Same = λ x y. f x ≡ f y;
-  tells = λ x y r s one other. F.tells (f x) (f y) r s (fits x one) (fits y other);
-}
+field F f fits = record { text = λ x. F.text (f x); clear = λ x r. F.clear (f x) r; Same = λ x y. f x ≡ f y; tells = λ x y r s one other. F.tells (f x) (f y) r s (fits x one) (fits y other) }
 
 -- a piece of a part of it
 abbrev pub within : {X Y : Type 0} {Fits : X → Type 0} {Shows : Y → Type 0} → Piece Shows → (f : X → Y) → ((x : X) → Fits x → Shows (f x)) → Piece Fits
-within P f fits = record {
-  text = λ x. P.text (f x);
-  clear = λ x r. P.clear (f x) r;
-  Same = λ x y. P.Same (f x) (f y);
-  tells = λ x y r s one other. P.tells (f x) (f y) r s (fits x one) (fits y other);
-}
+within P f fits = record { text = λ x. P.text (f x); clear = λ x r. P.clear (f x) r; Same = λ x y. P.Same (f x) (f y); tells = λ x y r s one other. P.tells (f x) (f y) r s (fits x one) (fits y other) }
 
 pub both_tell : {X : Type 0} {Fits : X → Type 0} (P Q : Piece Fits) (x y : X) (r s : List ℕ) → Fits x → Fits y → (P.clear x (Q.text x ++ r) && Q.clear x r) ≡ true → (P.clear y (Q.text y ++ s) && Q.clear y s) ≡ true
     → (P.text x ++ Q.text x) ++ r ≡ (P.text y ++ Q.text y) ++ s → (P.Same x y × Q.Same x y) × (r ≡ s)
@@ -70,12 +58,7 @@ both_tell P Q x y r s fits also ends other e =
 
 -- one after another
 abbrev pub ◌▷◌ : {X : Type 0} {Fits : X → Type 0} → Piece Fits → Piece Fits → Piece Fits
-◌▷◌ P Q = record {
-  text = λ x. P.text x ++ Q.text x;
-  clear = λ x r. P.clear x (Q.text x ++ r) && Q.clear x r;
-  Same = λ x y. P.Same x y × Q.Same x y;
-  tells = both_tell P Q;
-}
+◌▷◌ P Q = record { text = λ x. P.text x ++ Q.text x; clear = λ x r. P.clear x (Q.text x ++ r) && Q.clear x r; Same = λ x y. P.Same x y × Q.Same x y; tells = both_tell P Q }
 
 pub marked_tell : {X : Type 0} {Fits : X → Type 0} (P : Piece Fits) (t : List ℕ) (x y : X) (r s : List ℕ) → Fits x → Fits y → P.clear x (t ++ r) ≡ true → P.clear y (t ++ s) ≡ true
     → (P.text x ++ t) ++ r ≡ (P.text y ++ t) ++ s → P.Same x y × (r ≡ s)
@@ -85,22 +68,13 @@ marked_tell P t x y r s fits also ends other e =
 
 -- and then these characters
 abbrev pub ◌▸◌ : {X : Type 0} {Fits : X → Type 0} → Piece Fits → List ℕ → Piece Fits
-◌▸◌ P t = record {
-  text = λ x. P.text x ++ t;
-  clear = λ x r. P.clear x (t ++ r);
-  Same = P.Same;
-  tells = marked_tell P t;
-}
+◌▸◌ P t = record { text = λ x. P.text x ++ t; clear = λ x r. P.clear x (t ++ r); Same = P.Same; tells = marked_tell P t }
 
 -- ---- formats
 
 -- that of pieces, which tell the whole
 abbrev pub whole : {X : Type 0} {Fits : X → Type 0} → (P : Piece Fits) → ((x y : X) → P.Same x y → x ≡ y) → Format Fits
-whole P same = record {
-  text = P.text;
-  clear = P.clear;
-  tells = λ x y r s fits also ends other e. let told = P.tells x y r s fits also ends other e in (same x y told.0, told.1);
-}
+whole P same = record { text = P.text; clear = P.clear; tells = λ x y r s fits also ends other e. let told = P.tells x y r s fits also ends other e in (same x y told.0, told.1) }
 
 -- one that tells, whatever follows
 abbrev pub always : {X : Type 0} {Fits : X → Type 0} → (text : X → List ℕ) → Tells Fits text → Format Fits
@@ -120,30 +94,24 @@ closed F clear = always F.text (λ x y r s fits also e. F.tells x y r s fits als
 abbrev pub no_digit : List ℕ → Bool
 no_digit r = not (is_digit 10 (get_or r 0 0))
 
-pub none_begins : (b : Bool) → not b ≡ true → b ≡ false
-none_begins true e = absurd cc
-none_begins false e = refl
+pub run_tells : {X : Type 0} {Fits : X → Type 0} (p : ℕ → Bool) (text : X → List ℕ) (back : List ℕ → X) → ((x : X) → Fits x → list_all p (text x) ≡ true) → ((x : X) → Fits x → back (text x) ≡ x)
+    → (x y : X) (r s : List ℕ) → Fits x → Fits y → not (p (get_or r 0 0)) ≡ true → not (p (get_or s 0 0)) ≡ true → text x ++ r ≡ text y ++ s → (x ≡ y) × (r ≡ s)
+run_tells p text back are read x y r s fits also ends other e =
+    let both = cut p (text x) (text y) r s ends other (are x fits) (are y also) e in
+    (sym (read x fits) ∙ ap back both.0 ∙ read y also, both.1)
+
+-- characters that pass a test, up to one that does not, which are read back
+abbrev pub run_of : {X : Type 0} {Fits : X → Type 0} (p : ℕ → Bool) (text : X → List ℕ) (back : List ℕ → X) → ((x : X) → Fits x → list_all p (text x) ≡ true) → ((x : X) → Fits x → back (text x) ≡ x) → Format Fits
+run_of p text back are read = record { text = text; clear = λ x r. not (p (get_or r 0 0)); tells = run_tells p text back are read }
 
 abbrev pub decimals : Format (λ n. n < 2 ^ 64)
-decimals = record {
-  text = decimal;
-  clear = λ n r. no_digit r;
-  tells = λ m n r s low small ends other e. decimal_tells m n r s (none_begins _ ends) (none_begins _ other) low small e;
-}
+decimals = run_of (is_digit 10) decimal (value_of 10) (λ n _. decimal_are n) (λ n low. (decimal_numeral n low).value)
 
 abbrev pub short_decimals : Format (λ n. n < 2 ^ 64)
-short_decimals = record {
-  text = short_decimal;
-  clear = λ n r. no_digit r;
-  tells = λ m n r s low small ends other e. short_decimal_tells m n r s (none_begins _ ends) (none_begins _ other) (omega (arith, low)) (omega (arith, small)) e;
-}
+short_decimals = run_of (is_digit 10) short_decimal (value_of 10) (λ n _. short_decimal_pass (is_digit 10) decimal_digit n) (λ n low. short_decimal_value n (omega (arith, low)))
 
 abbrev pub unpaddeds : (most : ℕ) → Format (λ n. n < 10 ^ most)
-unpaddeds most = record {
-  text = unpadded most;
-  clear = λ n r. no_digit r;
-  tells = λ m n r s low small ends other e. unpadded_tells most m n r s (none_begins _ ends) (none_begins _ other) low small e;
-}
+unpaddeds most = run_of (is_digit 10) (unpadded most) (value_of 10) (λ n _. unpadded_pass (is_digit 10) decimal_digit most n) (unpadded_value most)
 
 -- a thing that is shown, where a text passes a test, or these characters
 abbrev pub maybe_text : {X : Type 0} → (X → List ℕ) → List ℕ → Option X → List ℕ
@@ -162,11 +130,7 @@ maybe_tells F none test front None (Some y) r s _ also ends _ e = let no : not t
 maybe_tells F none test front (Some x) None r s fits _ _ ends e = let no : not true ≡ true = sym (ap (λ t. not (test t)) (sym e) ∙ ap not (front x r fits)) ∙ ends in absurd cc
 
 abbrev pub maybe : {X : Type 0} {Fits : X → Type 0} → (F : Format Fits) (none : List ℕ) (test : List ℕ → Bool) → ((x : X) (r : List ℕ) → Fits x → test (F.text x ++ r) ≡ true) → Format (λ o. IfSome o Fits)
-maybe F none test front = record {
-  text = maybe_text F.text none;
-  clear = maybe_clear F.clear none test;
-  tells = maybe_tells F none test front;
-}
+maybe F none test front = record { text = maybe_text F.text none; clear = maybe_clear F.clear none test; tells = maybe_tells F none test front }
 
 -- as many as there are, each where a text passes a test; each may be followed by what passes another
 pub many_tell : {X : Type 0} {Fits : X → Type 0} (F : Format Fits) (test after : List ℕ → Bool) → ((x : X) (r : List ℕ) → Fits x → (test (F.text x ++ r) && after (F.text x ++ r)) ≡ true)
@@ -192,11 +156,7 @@ many_tell {X} {Fits} F test after front follows (x ∷ xs) (y ∷ ys) r s fits a
 
 abbrev pub many : {X : Type 0} {Fits : X → Type 0} → (F : Format Fits) (test after : List ℕ → Bool) → ((x : X) (r : List ℕ) → Fits x → (test (F.text x ++ r) && after (F.text x ++ r)) ≡ true)
     → ((x : X) (r : List ℕ) → after r ≡ true → F.clear x r ≡ true) → Format (All Fits)
-many F test after front follows = record {
-  text = flat_map F.text;
-  clear = λ xs r. not (test r) && after r;
-  tells = many_tell F test after front follows;
-}
+many F test after front follows = record { text = flat_map F.text; clear = λ xs r. not (test r) && after r; tells = many_tell F test after front follows }
 
 -- whether a digit stands at a place of a text
 abbrev pub is_digit_at : ℕ → List ℕ → Bool
@@ -226,19 +186,14 @@ of_number n [] = []
 of_number n ((m, x) ∷ more) = if m == n then x ∷ of_number n more else of_number n more
 
 of_one : {X : Type 0} (n m : ℕ) (xs : List X) (more : List (ℕ × X)) → of_number n (map (λ x. (m, x)) xs ++ more) ≡ (if m == n then xs else []) ++ of_number n more
-of_one {X} n m [] more = by_number (m == n)
-  where
-    by_number : (b : Bool) → of_number n more ≡ (if b then [] else []) ++ of_number n more
-    by_number true = refl
-    by_number false = refl
-of_one {X} n m (x ∷ xs) more = by_number (m == n) (of_one n m xs more)
-  where
-    rest : List X
-    rest = of_number n (map (λ x. (m, x)) xs ++ more)
-
-    by_number : (b : Bool) → rest ≡ (if b then xs else []) ++ of_number n more → (if b then x ∷ rest else rest) ≡ (if b then x ∷ xs else []) ++ of_number n more
-    by_number true is = ap (λ t. x ∷ t) is
-    by_number false is = is
+of_one n m [] more = elim (cases_eq m n) [
+  | inl is ↦ rw (eq-eqb m n is) refl
+  | inr other ↦ rw (ne_eqb m n other) refl
+]
+of_one n m (x ∷ xs) more = elim (cases_eq m n) [
+  | inl is ↦ rw (eq-eqb m n is) (ap (λ t. x ∷ t) (rw (eq-eqb m n is) at (of_one n m xs more)))
+  | inr other ↦ rw (ne_eqb m n other) (rw (ne_eqb m n other) at (of_one n m xs more))
+]
 
 none_before : {X : Type 0} (f : ℕ → List X) (n a k : ℕ) → n < a → of_number n (rows f (range_with_len a k)) ≡ []
 none_before f n a zero low = refl

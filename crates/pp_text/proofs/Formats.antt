@@ -20,7 +20,7 @@ use Rattle.pp_text.specs.Standing.{channel_held_text, count_text, flags_text}
 use Rattle.pp_text.specs.TextLaw.{HistoryFits, ShowSameChannel}
 use Rattle.pp_text.proofs.Format.{Format, always, Piece, field, many, mark, maybe_rows, maybe_rows_are, maybe_rows_fit, maybe_rows_tell, maybe_text, no_digit, octals, unpaddeds, whole, within, ◌▷◌, ◌▸◌}
 use Rattle.pp_text.proofs.PrintingLemmas.{channels_by_number, numbered_channel_line}
-use Rattle.pp_text.proofs.Telling.{Tells, octal_tells, unpadded_tells}
+use Rattle.pp_text.proofs.Telling.{Tells, octal_tells}
 
 -- ---- events, states, flags
 

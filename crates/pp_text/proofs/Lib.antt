@@ -10,8 +10,6 @@ pub mod PrintingLemmas
 pub mod Telling
 pub mod Format
 pub mod Formats
-pub mod TextLawNew
-pub mod HoldTelling
 pub mod TextLawLemmas
 pub mod TextLemmas
 pub mod HeldLemmas
