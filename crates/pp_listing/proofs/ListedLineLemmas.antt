@@ -102,7 +102,7 @@ line_fields (bare line) = bare_fields line
 line_fields (one_word x w m) = commented_fields x (w ∷ []) 10 (instruction_text x w m)
 line_fields (two_words x w m) = commented_fields x (w ∷ m ∷ []) 5 (instruction_text x w m)
 
-bare_plain : (line : Line) → IsPlain (line_text line)
+pub bare_plain : (line : Line) → IsPlain (line_text line)
 bare_plain (central_size n) = plain_append (codes "CENTRAL ") (short_octal 6 n) refl (short_plain 6 n)
 bare_plain (central_words a ws) = grind (arith, plain_append, short_plain, words_plain)
 bare_plain (section n) = plain_append (codes "PP ") (short_octal 2 n) refl (short_plain 2 n)

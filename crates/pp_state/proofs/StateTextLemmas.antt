@@ -26,9 +26,9 @@ use Rattle.pp_text.specs.declared.operands.Operands.{Operands}
 use Rattle.pp_text.specs.declared.operands.Operands.TheVariants.{IndexedPlace, JumpPlace, Constant, PlaceAndNumber, Number}
 use Rattle.pp_text.specs.PrintedText.{line_end, processor_line, used_channel_line}
 use Rattle.pp_text.specs.Standing.{block_place_text, held_text, standing}
-use Rattle.pp_text.proofs.Format.{Format, Piece, always, characters, digit_front, field, front_fails, is_digit_at, many, mark, maybe, no_digit, none_begins, octals, whole, ◌▷◌, ◌▸◌}
+use Rattle.pp_text.proofs.Format.{Format, Piece, always, characters, digit_front, field, front_fails, is_digit_at, many, mark, maybe, octals, piece_tells, run_of, whole, ◌▷◌, ◌▸◌}
 use Rattle.pp_text.proofs.Formats.{IsChannelLine, IsHold, channel_lines, channel_row, channels_are, channels_fit, channels_same, channels_shown, holds, named_rows, named_rows_are, named_rows_fit, named_rows_tell, processors, states}
-use Rattle.pp_text.proofs.Telling.{cut}
+use Rattle.pp_text.proofs.Telling.{decimal_digit}
 use Rattle.pp_run.specs.StepCounts.{no_steps}
 use Rattle.pp_run.specs.declared.step_counts.StepCounts.{StepCounts}
 use Rattle.pp_deck.specs.DeckLine.{Line, nothing, central_size, central_words, section, start, words, dead_start}
@@ -47,11 +47,7 @@ abbrev IsOperands : List ℕ → Type 0
 IsOperands t = (is_digit_at 0 t ≡ true) × (list_all is_inky t ≡ true)
 
 abbrev operands : Format IsOperands
-operands = record {
-  text = λ t. t;
-  clear = λ t r. not (is_inky (get_or r 0 0));
-  tells = λ x y r s is also ends other e. cut is_inky x y r s (none_begins _ ends) (none_begins _ other) is.1 also.1 e;
-}
+operands = run_of is_inky (λ t. t) (λ t. t) (λ t is. is.1) (λ t _. refl)
 
 abbrev begins_operands : List ℕ → Bool
 begins_operands t = get_or t 0 0 == 32 && is_digit_at 1 t
@@ -180,17 +176,10 @@ standing_is n m count = rw (place_is (processor_of n m).block, hold_is (need (pr
 
 -- ---- the lines of words
 
-is_octal_digit : Pass 8 (is_digit 10)
-is_octal_digit d low = and_from _ _ (le-leb 48 (48 + d) (omega arith)) (lt-ltb (48 + d) 58 (omega (arith, low)))
-
-short_tells : (most m n : ℕ) (r s : List ℕ) → 0 < most → m < 8 ^ most → n < 8 ^ most → no_digit r ≡ true → no_digit s ≡ true → short_octal most m ++ r ≡ short_octal most n ++ s → (m ≡ n) × (r ≡ s)
-short_tells most m n r s some low small ends other e =
-    let both = cut (is_digit 10) (short_octal most m) (short_octal most n) r s (none_begins _ ends) (none_begins _ other) (short_pass (is_digit 10) is_octal_digit most m) (short_pass (is_digit 10) is_octal_digit most n) e in
-    let read : Some m ≡ Some n = sym (short_read most m some low) ∙ ap (numeral 8 most) both.0 ∙ short_read most n some small in
-    (ap (λ (o : Option ℕ). unwrap_or o 0) read, both.1)
-
 abbrev short_octals : (most : ℕ) → 0 < most → Format (λ n. n < 8 ^ most)
-short_octals most some = record { text = short_octal most; clear = λ n r. no_digit r; tells = λ m n r s. short_tells most m n r s some }
+short_octals most some =
+    run_of (is_digit 10) (short_octal most) (λ t. unwrap_or (numeral 8 most t) 0)
+    (λ n _. short_pass (is_digit 10) (λ d low. decimal_digit d (omega (arith, low))) most n) (λ n low. ap (λ (o : Option ℕ). unwrap_or o 0) (short_read most n some low))
 
 abbrev word_row : (width : ℕ) → Format (λ w. w < 8 ^ width)
 word_row width = whole (mark (codes " ") ▷ field (octals width) (λ w. w) (λ w low. low)) (λ v w same. same.1)
@@ -300,6 +289,6 @@ module _ (shown : List Bool) (before after : MachineState) (counts : List StepCo
 pub text_tells_state : (shown others : List Bool) (before after load other : MachineState) (counts more : List StepCounts) → FitsItsState shown before after counts → FitsItsState others load other more
     → whole_state shown before after counts ≡ whole_state others load other more → AgreeOnState shown others before after load other counts more
 text_tells_state shown others before after load other counts more fits also e =
-    let told = (whole_text.tells (all_shown shown before after counts) (all_shown others load other more) [] [] (text_fits shown before after counts fits) (text_fits others load other more also) (text_clear _) (text_clear _)
-    (ap (λ t. t ++ []) (sym (text_is shown before after counts) ∙ e ∙ text_is others load other more))).0 in
+    let told = piece_tells whole_text text_clear (all_shown shown before after counts) (all_shown others load other more) (text_fits shown before after counts fits) (text_fits others load other more also)
+    (sym (text_is shown before after counts) ∙ e ∙ text_is others load other more) in
     record { processors = named_rows_tell shown others (shown_of_each shown before after counts) (shown_of_each others load other more) told.0.0; words = told.0.1; channels = channels_same after.histories other.histories told.1 }
