@@ -1,7 +1,7 @@
 -- The formats of what several texts show.
 use Rattle.std.proofs.Common.{All, ◌≡◌, ◌∙◌, ℕ, ◌+◌, ◌^◌, ◌<◌, ◌≤◌, Bool, true, false, List, [], ◌∷◌, ◌++◌, Option, Some, None, length, drop, refl, sym, ap, arith, codes, inl, inr}
-use Rattle.std.specs.Prelude.{◌==◌, ◌&&◌, ◌↔◌, IfSome, IsTrue, get_or, not, nat_le, nat_lt, slice_index_or, if◌then◌else◌}
-use Rattle.std.specs.List.{flat_map, last_or, list_all}
+use Rattle.std.specs.Prelude.{◌==◌, ◌&&◌, IfSome, IsTrue, get_or, not, slice_index_or, if◌then◌else◌}
+use Rattle.std.specs.List.{flat_map, last_or}
 use Rattle.std.proofs.lemmas.Bool.{and_parts, cases_lt, eqb-true, false_from_ne_true}
 use Rattle.std.proofs.lemmas.Option.{same_Some}
 use Rattle.pp_numbers.specs.ChannelNo.{all_channels, names_channel}
@@ -14,9 +14,9 @@ use Rattle.pp_channel.specs.declared.{event.Event.Event, flags.Flags.Flags}
 use Rattle.pp_channel.specs.declared.event.Event.TheVariants.{Activate, Disconnect, Put, Take, Function}
 use Rattle.pp_machine.specs.Processor.{HasFaultNumber}
 use Rattle.pp_machine.specs.declared.pp_state.PpState.TheVariants.{Running, Stopped, Fault}
-use Rattle.pp_word.specs.Numeral.{is_digit, octal, unpadded}
+use Rattle.pp_word.specs.Numeral.{unpadded}
 use Rattle.pp_text.specs.PrintedText.{channel_line, channel_text, event_text, line_end, state_text, used_channel_line}
-use Rattle.pp_text.specs.Standing.{channel_held_text, count_text, flags_text}
+use Rattle.pp_text.specs.Standing.{count_text, flags_text}
 use Rattle.pp_text.specs.TextLaw.{HistoryFits, ShowSameChannel}
 use Rattle.pp_text.proofs.Format.{Format, always, Piece, field, many, mark, maybe_rows, maybe_rows_are, maybe_rows_fit, maybe_rows_tell, maybe_text, no_digit, octals, unpaddeds, whole, within, ◌▷◌, ◌▸◌}
 use Rattle.pp_text.proofs.PrintingLemmas.{channels_by_number, numbered_channel_line}

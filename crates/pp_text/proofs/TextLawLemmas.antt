@@ -1,20 +1,16 @@
 -- The text of a machine tells its trace, its named processors and its channels.
-use Rattle.std.proofs.Common.{All, ◌≡◌, ◌∙◌, ℕ, ◌+◌, ◌^◌, ◌<◌, ◌≤◌, Bool, true, false, List, [], ◌∷◌, ◌++◌, Option, Some, None, length, refl, sym, ap, arith, append-nil, append_assoc, codes, inl, inr}
-use Rattle.std.specs.Prelude.{◌==◌, ◌&&◌, ◌↔◌, IfSome, IsTrue, get_or, nat_le, nat_lt, slice_index_or, if◌then◌else◌}
-use Rattle.std.specs.List.{flat_map, list_all}
-use Rattle.std.proofs.lemmas.Bool.{and_parts, cases_lt, false_from_ne_true}
+use Rattle.std.proofs.Common.{All, ◌≡◌, ◌∙◌, ℕ, ◌^◌, ◌<◌, Bool, true, false, List, [], ◌++◌, Option, Some, None, refl, sym, append_assoc, codes}
+use Rattle.std.specs.Prelude.{◌==◌, IsTrue, get_or, if◌then◌else◌}
 use Rattle.std.proofs.lemmas.Option.{same_Some}
 use Rattle.pp_numbers.proofs.ChannelNoLemmas.{channel_fits}
-use Rattle.pp_channel.specs.declared.event.Event.{Event}
 use Rattle.pp_machine.specs.MachineState.{MachineState, processor_of}
-use Rattle.pp_machine.specs.Processor.{HasFaultNumber, Processor}
+use Rattle.pp_machine.specs.Processor.{HasFaultNumber}
 use Rattle.pp_machine.specs.declared.{pp_state.PpState.PpState, trace.Trace.Trace}
-use Rattle.pp_numbers.specs.PpNo.{all_processors, is_named, names_processor, processor_index}
-use Rattle.pp_numbers.proofs.PpNoLemmas.{numbers_of_processors, processor_fits}
-use Rattle.pp_word.specs.Numeral.{decimal, is_digit, octal}
-use Rattle.pp_text.specs.PrintedText.{event_line, line_end, named_processor_line, printed, processor_line, state_text}
-use Rattle.pp_text.specs.TextLaw.{AgreeOnText, EventFits, FitsItsText, ProcessorFits, ShowSameProcessor}
-use Rattle.pp_text.proofs.Format.{Format, Piece, decimal_front, decimals, field, front_fails, is_digit_at, many, mark, maybe_rows, maybe_rows_are, maybe_rows_fit, maybe_rows_tell, maybe_text, octals, piece_tells, whole, ◌▷◌, ◌▸◌}
+use Rattle.pp_numbers.specs.PpNo.{is_named}
+use Rattle.pp_numbers.proofs.PpNoLemmas.{processor_fits}
+use Rattle.pp_text.specs.PrintedText.{event_line, line_end, printed, processor_line, state_text}
+use Rattle.pp_text.specs.TextLaw.{AgreeOnText, EventFits, FitsItsText, ShowSameProcessor}
+use Rattle.pp_text.proofs.Format.{Format, Piece, decimal_front, decimals, field, front_fails, is_digit_at, many, octals, piece_tells, whole, ◌▷◌, ◌▸◌}
 use Rattle.pp_text.proofs.Formats.{IsChannelLine, channel_lines, channel_row, channels_are, channels_fit, channels_same, channels_shown, events, named_rows, named_rows_are, named_rows_fit, named_rows_tell, processors, states}
 
 -- ---- the lines of events
