@@ -16,7 +16,7 @@ use Rattle.pp_machine.specs.Block.{stored_from, receives, central_from, held, cu
 use Rattle.pp_machine.specs.Effect.{goes_on, goes_to, jumps_where, branches_where, leads_to_itself, is_negative, low_of, loads, loads_word, replaces}
 use Rattle.pp_machine.specs.InstructionTable.{row, memory_operations, operand_places}
 use Rattle.pp_machine.specs.NeedAndEffect.{answered, step_of, next_step, processor_after, if_running}
-use Rattle.pp_machine.specs.Operand.{operation, second_word, index, constant}
+use Rattle.pp_machine.specs.Operand.{second_word, index, constant}
 use Rattle.pp_machine.specs.PpMemory.{IsMemory}
 use Rattle.pp_machine.specs.Processor.{Processor, IsProcessor, word_at}
 use Rattle.pp_machine.specs.Step.{Step, local, probes, takes, does, reads, writes}
