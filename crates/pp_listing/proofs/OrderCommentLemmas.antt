@@ -25,9 +25,7 @@ plain_digit d low = and_from (nat_le 32 (48 + d)) (nat_le (48 + d) 126) (le-leb 
 rows_plain : (rows : List StepsInARow) → IsPlain (join_with_byte 44 (map row_text rows))
 rows_plain [] = refl
 rows_plain (row ∷ []) = row_pass is_plain plain_digit refl row
-rows_plain (row ∷ next ∷ rows) =
-    plain_append (row_text row) (44 ∷ join_with_byte 44 (map row_text (next ∷ rows))) (row_pass is_plain plain_digit refl row)
-    (plain_append (44 ∷ []) (join_with_byte 44 (map row_text (next ∷ rows))) refl (rows_plain (next ∷ rows)))
+rows_plain (row ∷ next ∷ rows) = search (plain_append, row_pass is_plain plain_digit refl row, rows_plain (next ∷ rows))
 
 pub order_plain : (ns : List ℕ) → IsPlain (order_text ns)
 unfolding order_text

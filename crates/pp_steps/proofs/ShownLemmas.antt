@@ -1,5 +1,5 @@
 -- The text of the steps chosen tells what each line shows.
-use Rattle.std.proofs.Common.{All, ◌≡◌, ◌∙◌, ℕ, ◌+◌, ◌/◌, ◌%◌, ◌^◌, ◌<◌, Bool, true, false, List, [], ◌∷◌, ◌++◌, Option, None, Some, drop, length, map, take, refl, sym, ap, arith, append-nil, append_assoc, codes}
+use Rattle.std.proofs.Common.{All, ◌≡◌, ◌∙◌, ℕ, ◌+◌, ◌/◌, ◌%◌, ◌^◌, ◌<◌, Bool, true, false, List, [], ◌∷◌, ◌++◌, Option, None, Some, drop, length, map, take, refl, sym, ap, arith, append-nil, codes}
 use Rattle.std.specs.Prelude.{◌==◌, ◌&&◌, ◌||◌, IfSome, IsTrue, get_or, not, slice_index, if◌then◌else◌}
 use Rattle.std.specs.List.{filter, flat_map, range_with_len}
 use Rattle.std.specs.Str.{bytes_eq}
@@ -10,21 +10,19 @@ use Rattle.pp_numbers.proofs.PpNoLemmas.{processor_fits}
 use Rattle.pp_channel.specs.Answer.{event_of, flags_of}
 use Rattle.pp_channel.specs.declared.{event.Event.Event, flags.Flags.Flags}
 use Rattle.pp_channel.specs.declared.event.Event.TheVariants.{Activate}
-use Rattle.pp_word.specs.Address.{next_place}
 use Rattle.pp_word.specs.Numeral.{octal}
 use Rattle.pp_machine.specs.MachineState.{MachineState, history_of, processor_of}
 use Rattle.pp_machine.specs.MachineStep.{stepped}
-use Rattle.pp_machine.specs.NeedAndEffect.{need}
-use Rattle.pp_machine.specs.Processor.{HasFaultNumber, word_at}
+use Rattle.pp_machine.specs.Processor.{HasFaultNumber}
 use Rattle.pp_machine.specs.declared.{block.Block.Block, need.Need.Need, pp_state.PpState.PpState}
 use Rattle.pp_machine.specs.declared.need.Need.TheVariants.{Channel}
 use Rattle.pp_machine.specs.declared.outcome.Outcome.TheVariants.{Held}
-use Rattle.pp_machine.specs.declared.pp_state.PpState.TheVariants.{Running, Stopped, Fault}
+use Rattle.pp_machine.specs.declared.pp_state.PpState.TheVariants.{Running}
 use Rattle.pp_text.specs.Differences.{differs, places}
 use Rattle.pp_text.specs.InstructionText.{is_long}
 use Rattle.pp_text.specs.PrintedText.{event_text, line_end, padded}
 use Rattle.pp_text.specs.Standing.{flags_text, held_text}
-use Rattle.pp_text.proofs.Format.{Format, always, characters, decimal_front, decimals, field, flat_map_each, format_tells, is_digit_at, many, mark, maybe, octals, whole, ◌▷◌, ◌▸◌}
+use Rattle.pp_text.proofs.Format.{Format, always, characters, decimals, field, flat_map_each, format_tells, many, mark, maybe, octals, whole, ◌▷◌, ◌▸◌}
 use Rattle.pp_text.proofs.Formats.{IsHold, events, flags, holds, states}
 use Rattle.pp_text.proofs.Telling.{Tells}
 use Rattle.pp_steps.specs.declared.{choice.Choice.Choice, cursor.LineKind.LineKind}
@@ -33,9 +31,9 @@ use Rattle.pp_steps.specs.Choice.{chosen_steps}
 use Rattle.pp_condition.specs.declared.condition.Condition.{Condition}
 use Rattle.pp_run.specs.RunSteps.{RunStep}
 use Rattle.pp_steps.specs.StepsWhere.{HasLinesWhere, alone}
-use Rattle.pp_steps.specs.ShownStep.{OnChannel, FitsChannel, FitsItsStepLine, IsWordAt, ShownStep, alone_shown, changes_shown, channel_shown, event_shown, held_shown, hold_shown, kind_shown, line_shown, step_shown, steps_shown, words_shown}
+use Rattle.pp_steps.specs.ShownStep.{OnChannel, FitsChannel, FitsItsStepLine, IsWordAt, ShownStep, alone_shown, changes_shown, channel_shown, event_shown, hold_shown, kind_shown, line_shown, steps_shown, words_shown}
 use Rattle.pp_steps.specs.ShownStep.OnChannel.{Made, Saw}
-use Rattle.pp_steps.specs.StepLine.{centrals_text, channel_text, end_text, event_or_flags, heading, held_line, places_text, step_line, words_text}
+use Rattle.pp_steps.specs.StepLine.{channel_text, end_text, event_or_flags, held_line, step_line, words_text}
 use Rattle.pp_steps.specs.StepsText.{StepWithLine, kind_text, line_text, steps_text, with_lines}
 
 -- ---- the formats of a line
