@@ -1,9 +1,7 @@
 mod DumpLawLemmas
 mod InstructionLemmas
 mod ListedLemmas
-mod ListedLineLemmas
 mod ListingLemmas
-mod OrderCommentLemmas
 mod PrintedTextLemmas
 mod RunDeckLemmas
 mod StepLemmas
@@ -11,3 +9,5 @@ mod TextLemmas
 -- facts of the definitions, which proofs of other crates cite
 pub mod GoingOnLemmas
 pub mod RestOfOrderLemmas
+pub mod ListedLineLemmas
+pub mod OrderCommentLemmas

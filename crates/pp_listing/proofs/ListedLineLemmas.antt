@@ -1,12 +1,13 @@
 -- A line that was printed has the fields that it was printed from, and is plain text.
-use Rattle.std.proofs.Common.{◌≡◌, ℕ, ◌<◌, true, List, [], ◌∷◌, ◌++◌, length, map, replicate, refl, sym, subst, arith, append_assoc, Bool, false, cond, eqb, ◌∙◌}
-use Rattle.std.specs.Prelude.{codes}
+use Rattle.std.proofs.Common.{◌≡◌, ℕ, ◌<◌, true, List, [], ◌∷◌, ◌++◌, get_or, length, map, replicate, refl, sym, subst, arith, append_assoc, Bool, false, cond, eqb, ◌∙◌}
+use Rattle.std.specs.Prelude.{All, codes}
 use Rattle.std.specs.List.{list_all, flat_map}
-use Rattle.std.proofs.lemmas.Bool.{and_from}
+use Rattle.std.proofs.lemmas.Bool.{and_from, ne_eqb}
 use Rattle.std.proofs.lemmas.List.{append-nil}
+use Rattle.std.proofs.lemmas.List.Sums.{AllPass-from_list_all}
 use Rattle.pp_deck.specs.DeckLine.{Line, nothing, central_size, central_words, section, start, words, dead_start}
-use Rattle.pp_deck.specs.DeckText.{fields_in}
-use Rattle.pp_deck.proofs.FieldTextLemmas.{is_ink, IsField, IsTail, tail_none, tail_field, tail_last, tail_comment, no_fields, fields_last, is_plain, octal_is_field, octal_plain, short_is_field, short_plain}
+use Rattle.pp_deck.specs.DeckText.{fields_in, is_line_feed}
+use Rattle.pp_deck.proofs.FieldTextLemmas.{is_ink, IsField, IsTail, tail_none, tail_field, tail_last, tail_comment, no_fields, fields_last, is_plain, octal_is_field, octal_plain, plain_least, short_is_field, short_plain}
 use Rattle.pp_text.specs.InstructionText.{instruction_text, index_text, operands_text}
 use Rattle.pp_listing.specs.ListedLine.{ListedLine, bare, one_word, two_words, after_blank, line_text, says, listed_text}
 use Rattle.pp_word.specs.Numeral.{octal, short_octal}
@@ -25,6 +26,11 @@ IsPlain text = list_all is_plain text ≡ true
 pub plain_append : (xs ys : List ℕ) → IsPlain xs → IsPlain ys → IsPlain (xs ++ ys)
 plain_append xs ys h k = list_all-append is_plain xs ys ∙ and_from (list_all is_plain xs) (list_all is_plain ys) h k
 
+pub no_line_feed : (text : List ℕ) → IsPlain text → All (λ c. is_line_feed c ≡ false) text
+no_line_feed text plain = λ k d lt.
+    let least = plain_least (get_or text k d) (AllPass-from_list_all is_plain text plain k d lt) in
+    ne_eqb (get_or text k d) 10 (λ e. absurd (omega (arith, least, e)))
+
 mnemonic_plain : (op : Opcode) → IsPlain ((row_of op).mnemonic)
 mnemonic_plain PSN = refl
 mnemonic_plain op = refl
@@ -37,12 +43,8 @@ index_plain : (d : ℕ) → IsPlain (index_text d)
 index_plain d = plain_if (eqb d 0) [] (codes "," ++ octal 2 d) refl (plain_append (codes ",") (octal 2 d) refl (octal_plain 2 d))
 
 operands_plain : (operands : Operands) (place d m : ℕ) → IsPlain (operands_text operands place d m)
-operands_plain IndexedPlace place d m = plain_append (octal 4 m) (index_text d) (octal_plain 4 m) (index_plain d)
-operands_plain JumpPlace place d m = octal_plain 4 (relative_to place d)
-operands_plain Constant place d m = plain_append (octal 2 d) (octal 4 m) (octal_plain 2 d) (octal_plain 4 m)
-operands_plain PlaceAndNumber place d m =
-    plain_append (octal 4 m ++ codes ",") (octal 2 d) (plain_append (octal 4 m) (codes ",") (octal_plain 4 m) refl) (octal_plain 2 d)
-operands_plain Number place d m = octal_plain 2 d
+operands_plain IndexedPlace place d m = search (plain_append, octal_plain, index_plain)
+operands_plain operands place d m = search (plain_append, octal_plain)
 
 pub instruction_plain : (place word m : ℕ) → IsPlain (instruction_text place word m)
 unfolding instruction_text
@@ -50,7 +52,7 @@ instruction_plain place word m = grind (arith, plain_append, mnemonic_plain, ope
 
 words_plain : (width : ℕ) (ws : List ℕ) → IsPlain (flat_map (after_blank width) ws)
 words_plain width [] = refl
-words_plain width (w ∷ ws) = plain_append (after_blank width w) (flat_map (after_blank width) ws) (octal_plain width w) (words_plain width ws)
+words_plain width (w ∷ ws) = search (plain_append, octal_plain, words_plain width ws)
 
 -- ---- the fields of a line
 
@@ -102,19 +104,12 @@ line_fields (bare line) = bare_fields line
 line_fields (one_word x w m) = commented_fields x (w ∷ []) 10 (instruction_text x w m)
 line_fields (two_words x w m) = commented_fields x (w ∷ m ∷ []) 5 (instruction_text x w m)
 
-bare_plain : (line : Line) → IsPlain (line_text line)
-bare_plain (central_size n) = plain_append (codes "CENTRAL ") (short_octal 6 n) refl (short_plain 6 n)
-bare_plain (central_words a ws) = grind (arith, plain_append, short_plain, words_plain)
-bare_plain (section n) = plain_append (codes "PP ") (short_octal 2 n) refl (short_plain 2 n)
-bare_plain (start p a) =
-    plain_append (codes "START" ++ after_blank 4 p) (after_blank 6 a) (plain_append (codes "START") (after_blank 4 p) refl (octal_plain 4 p)) (octal_plain 6 a)
-bare_plain (words x ws) = plain_append (octal 4 x) (flat_map (after_blank 4) ws) (octal_plain 4 x) (words_plain 4 ws)
-bare_plain line = refl
+pub bare_plain : (line : Line) → IsPlain (line_text line)
+bare_plain nothing = refl
+bare_plain line = search (plain_append, octal_plain, short_plain, words_plain)
 
 commented_plain : (x : ℕ) (ws blanks instruction : List ℕ) → IsPlain blanks → IsPlain instruction → IsPlain (octal 4 x ++ (flat_map (after_blank 4) ws ++ (blanks ++ instruction)))
-commented_plain x ws blanks instruction h k =
-    plain_append (octal 4 x) (flat_map (after_blank 4) ws ++ (blanks ++ instruction)) (octal_plain 4 x)
-    (plain_append (flat_map (after_blank 4) ws) (blanks ++ instruction) (words_plain 4 ws) (plain_append blanks instruction h k))
+commented_plain x ws blanks instruction h k = search (plain_append, octal_plain, words_plain, h, k)
 
 pub line_plain : (line : ListedLine) → IsPlain (listed_text line)
 line_plain (bare line) = bare_plain line

@@ -19,7 +19,7 @@ use Rattle.pp_deck.proofs.ProgressLemmas.{after_lines_is}
 use Rattle.pp_deck.proofs.ReadingLemmas.{ReadTo, read_none, read_more, read_blank, read_all}
 use Rattle.pp_listing.specs.ListedLine.{ListedLine, says, listed_text, text_line}
 use Rattle.pp_deck.proofs.FieldTextLemmas.{is_plain, plain_least, plain_most, no_fields, fields_comment, fields_of_plain, octal_field, short_field}
-use Rattle.pp_listing.proofs.ListedLineLemmas.{fields_said, line_fields, line_plain}
+use Rattle.pp_listing.proofs.ListedLineLemmas.{fields_said, line_fields, line_plain, no_line_feed}
 use Rattle.std.proofs.lemmas.List.Elements.{All-head, All-tail}
 use Rattle.pp_word.specs.Address.{place_count}
 use Rattle.pp_numbers.specs.Profile.{has_processor}
@@ -93,21 +93,13 @@ words_line_read profile size x ws b below small le = digit_first profile size b 
 
 -- ---- the lines of the text
 
-plain_line : (text : List ℕ) → list_all is_plain text ≡ true → All (λ c. is_line_feed c ≡ false) text
-plain_line text plain = λ k d lt.
-    let least = plain_least (get_or text k d) (AllPass-from_list_all is_plain text plain k d lt) in
-    ne_eqb (get_or text k d) 10 (λ e. absurd (omega (arith, least, e)))
-
-no_line_feed : (line : ListedLine) → All (λ c. is_line_feed c ≡ false) (listed_text line)
-no_line_feed line = plain_line (listed_text line) (line_plain line)
-
 line_first : (line : ListedLine) (rest : List ℕ) → lines_of (text_line line ++ rest) ≡ fields_said (says line) ∷ lines_of rest
 unfolding lines_of
 line_first line rest = grind (arith, append_assoc, slice_split_at, no_line_feed, fields_of_plain, line_plain, line_fields)
 
 comment_first : (text rest : List ℕ) → list_all is_plain (42 ∷ text) ≡ true → lines_of (42 ∷ text ++ 10 ∷ rest) ≡ [] ∷ lines_of rest
 unfolding lines_of
-comment_first text rest plain = grind (arith, slice_split_at, plain_line, fields_of_plain, fields_comment)
+comment_first text rest plain = grind (arith, slice_split_at, no_line_feed, fields_of_plain, fields_comment)
 
 no_text : lines_of [] ≡ [] ∷ []
 unfolding lines_of

@@ -1,7 +1,7 @@
 -- What is shown of a machine tells the history of each of its channels: the text has the events of the
 -- trace, and they tell whether an Activate of dead start stands in front of them.
 use Rattle.std.proofs.Common.{◌≡◌, ◌∙◌, Bool, true, false, List, [], ◌∷◌, ◌++◌, Option, Some, None, refl, sym, ap, arith}
-use Rattle.std.specs.Prelude.{if◌then◌else◌}
+use Rattle.std.specs.Prelude.{◌↔◌, if◌then◌else◌}
 use Rattle.pp_channel.specs.History.{IsLawful}
 use Rattle.pp_channel.specs.declared.event.Event.{Event}
 use Rattle.pp_channel.specs.declared.event.Event.TheVariants.{Activate, Function}
@@ -10,7 +10,17 @@ use Rattle.pp_channel.proofs.HistoryWalk.{State, Inactive, Empty, step, walk, wa
 use Rattle.pp_machine.specs.Headline.{HoldsOnEachChannel, events_on, opening_history}
 use Rattle.pp_machine.specs.MachineState.{MachineState, history_of, is_opened}
 use Rattle.pp_text.specs.TextLaw.{AgreeOnText, AreSameHistories}
-use Rattle.pp_text.proofs.TextLawLemmas.{both_used, is_used}
+
+-- whether anything has happened on a channel
+abbrev pub is_used : List Event → Bool
+is_used [] = false
+is_used (e ∷ h) = true
+
+pub both_used : (h other : List Event) → (h ≡ []) ↔ (other ≡ []) → is_used h ≡ is_used other
+both_used [] [] both = refl
+both_used [] (e ∷ other) both = let none : e ∷ other ≡ [] = both.0 refl in absurd cc
+both_used (e ∷ h) [] both = let none : e ∷ h ≡ [] = both.1 refl in absurd cc
+both_used (e ∷ h) (f ∷ other) both = refl
 
 abbrev opening : Bool → List Event
 opening is_open = if is_open then Activate ∷ [] else []

@@ -8,7 +8,8 @@ mod OrderTextLemmas
 -- facts of the definitions, which proofs of other crates cite
 pub mod PrintingLemmas
 pub mod Telling
-pub mod HoldTelling
+pub mod Format
+pub mod Formats
 pub mod TextLawLemmas
 pub mod TextLemmas
 pub mod HeldLemmas
