@@ -1,10 +1,10 @@
 -- The text of a report tells its events, its workers' ends and its channels.
-use Rattle.std.proofs.Common.{◌≡◌, ◌∙◌, ◌≢◌, All, ℕ, zero, suc, ◌+◌, ◌<◌, ◌≤◌, ◌-◌, ◌⊎◌, inl, inr, length, Bool, true, false, List, [], ◌∷◌, ◌++◌, Option, Some, None, map, take, drop, refl, sym, ap, subst, append-nil, arith, append_assoc, codes}
-use Rattle.std.specs.Prelude.{◌↔◌, option_map, slice_get, slice_index_or, IfSome, IsTrue, if◌then◌else◌}
-use Rattle.std.specs.List.{cons_option, enumerate_from, filter_map, flat_map, range_with_len}
-use Rattle.std.proofs.lemmas.Bool.{cases_lt, false_from_ne_true}
+use Rattle.std.proofs.Common.{◌≡◌, ◌∙◌, All, ℕ, zero, suc, ◌+◌, ◌<◌, ◌≤◌, length, Bool, true, false, List, [], ◌∷◌, ◌++◌, Option, None, map, take, drop, refl, sym, ap, subst, arith, length-append, append_assoc, codes}
+use Rattle.std.specs.Prelude.{◌↔◌, ◌==◌, ◌&&◌, get_or, option_map, slice_get, slice_index_or, IfSome, IsTrue, if◌then◌else◌}
+use Rattle.std.specs.List.{enumerate_from, filter_map, flat_map, range_with_len}
+use Rattle.std.proofs.lemmas.Bool.{false_from_ne_true}
 use Rattle.std.proofs.lemmas.List.Elements.{All-append, All-cons, All-head, All-nil, All-tail, filter_map-append}
-use Rattle.std.proofs.Math.Seq.{drop-append_seam, drop-nil}
+use mathlib.Core.List.{map-map}
 use Rattle.pp_numbers.specs.ChannelNo.{all_channels, names_channel}
 use Rattle.pp_numbers.proofs.ChannelNoLemmas.{channel_fits}
 use Rattle.pp_channel.specs.History.{IsLawful, history_on}
@@ -13,65 +13,79 @@ use Rattle.pp_report.specs.Types.{Event, Report, Worker}
 use Rattle.pp_channel.proofs.EachHistory.{lawful_on}
 use Rattle.pp_machine.specs.Headline.{opening_history}
 use Rattle.pp_machine.specs.MachineState.{MachineState, is_opened}
-use Rattle.pp_numbers.specs.PpNo.{names_processor, processor_number, is_named, processor_index}
-use Rattle.pp_numbers.proofs.PpNoLemmas.{numbers_of_processors, processor_fits}
+use Rattle.pp_numbers.specs.PpNo.{all_processors, names_processor, processor_index}
+use Rattle.pp_numbers.proofs.PpNoLemmas.{processor_fits}
 use Rattle.pp_runner.specs.End.{HasEndNumber}
 use Rattle.pp_runner.specs.declared.end.End.TheVariants.{Stopped, Fault, Steps, Patience, Memory, Worn}
 use Rattle.pp_runner.specs.WorkerReport.{logs_of}
 use Rattle.pp_word.specs.Numeral.{decimal, octal}
-use Rattle.pp_word.proofs.NumeralLemmas.{decimal_are, decimal_long}
-use Rattle.pp_report.specs.PrintedReport.{author_place, channel_events, end_text, line_by, named_worker_line, numbered_event_line, printed_report, worker_line}
-use Rattle.pp_text.specs.PrintedText.{event_text, line_end, processor_line, used_channel_line}
+use Rattle.pp_report.specs.PrintedReport.{author_place, channel_events, end_text, named_worker_line, numbered_event_line, printed_report, worker_line}
+use Rattle.pp_text.specs.PrintedText.{event_text, line_end, processor_line}
 use Rattle.pp_text.proofs.PrintingLemmas.{channels_by_number}
-use Rattle.pp_report.specs.ReportLaw.{AgreeOnReport, FitsItsEnd, FitsItsLine, FitsItsReport, ShownEnd, PrintedEvent, shown_end, shown_of, printed_by, printed_events, printed_on}
+use Rattle.pp_report.specs.ReportLaw.{AgreeOnReport, FitsItsEnd, FitsItsLine, FitsItsReport, ShownEnd, PrintedEvent, end_of, shown_end, printed_by, printed_events, printed_on}
 use Rattle.pp_text.specs.TextLaw.{ShowSameChannel}
 use Rattle.pp_report.proofs.AuthorLawLemmas.{only_openings}
 use Rattle.pp_report.proofs.EventLineLemmas.{enumerate_more}
-use Rattle.pp_text.proofs.HistoryLawLemmas.{one_history}
-use Rattle.pp_text.proofs.Telling.{Keyed, Tells, decimal_tells, list_tells, numbers_tell, octal_tells, other_key}
-use Rattle.pp_text.proofs.TextLawLemmas.{both_used, channels_key, channels_tell, digit_front, event_tells, line_key, named_digits}
+use Rattle.pp_text.proofs.HistoryLawLemmas.{both_used, one_history}
+use Rattle.pp_text.proofs.Format.{Format, Piece, always, decimal_front, decimals, field, flat_map_each, front_fails, is_digit_at, many, mark, octals, piece_tells, rows, rows_fit, rows_tell, whole, ◌▷◌, ◌▸◌}
+use Rattle.pp_text.proofs.Formats.{IsChannelLine, channel_lines, channel_row, channels_are, channels_fit, channels_same, channels_shown, events, named_rows, named_rows_are, named_rows_fit, named_rows_tell, processors}
+use Rattle.pp_text.proofs.Telling.{Tells, octal_tells}
 
--- ---- the line of an event
+-- ---- the lines of events
 
-pub told_line : ℕ → PrintedEvent → List ℕ
-told_line c t = codes "CH" ++ octal 2 c ++ codes " " ++ decimal t.number ++ codes " PP" ++ octal 2 t.author ++ codes " " ++ event_text t.event ++ line_end
+abbrev IsEventLine : ℕ × PrintedEvent → Type 0
+IsEventLine (c, shown) = (c < 0o100) × FitsItsLine shown
 
-after_number : PrintedEvent → List ℕ → List ℕ
-after_number t r = codes " PP" ++ (octal 2 t.author ++ (codes " " ++ (event_text t.event ++ (line_end ++ r))))
+abbrev event_row : Format IsEventLine
+event_row =
+    whole
+    (mark (codes "CH") ▷ field (octals 2) (λ x. x.0) (λ x fits. fits.0) ▸ codes " " ▷ field decimals (λ x. x.1.number) (λ x fits. fits.1.number)
+    ▸ codes " PP" ▷ field (octals 2) (λ x. x.1.author) (λ x fits. processor_fits x.1.author fits.1.author) ▸ codes " " ▷ field events (λ x. x.1.event) (λ x fits. fits.1.word) ▸ line_end)
+    (λ x y ((((_, c), number), author), event) j. (c j, record { number = number j; author = author j; event = event j }))
 
--- parts of a text, one after another
-joined : (d p o s e l r : List ℕ) → (((((d ++ p) ++ o) ++ s) ++ e) ++ l) ++ r ≡ d ++ (p ++ (o ++ (s ++ (e ++ (l ++ r)))))
-joined d p o s e l r = simp append_assoc
+abbrev is_event : List ℕ → Bool
+is_event t = get_or t 0 0 == 67 && is_digit_at 5 t
 
-told_line_is : (c : ℕ) (t : PrintedEvent) (r : List ℕ) → told_line c t ++ r ≡ codes "CH" ++ (octal 2 c ++ (codes " " ++ (decimal t.number ++ after_number t r)))
-unfolding told_line after_number
-told_line_is c t r = ap (λ rest. codes "CH" ++ (octal 2 c ++ (codes " " ++ rest))) (joined (decimal t.number) (codes " PP") (octal 2 t.author) (codes " ") (event_text t.event) line_end r)
-
-told_line_tells : (c : ℕ) → Tells FitsItsLine (told_line c)
-unfolding after_number
-told_line_tells c t u r s fits also e =
-    let number = decimal_tells t.number u.number (after_number t r) (after_number u s) refl refl fits.number also.number (ap (drop 5) (sym (told_line_is c t r) ∙ e ∙ told_line_is c u s)) in
-    let author = octal_tells 2 t.author u.author (codes " " ++ (event_text t.event ++ (line_end ++ r))) (codes " " ++ (event_text u.event ++ (line_end ++ s)))
-    (processor_fits t.author fits.author) (processor_fits u.author also.author) (ap (drop 3) number.1) in
-    let event = event_tells t.event u.event (line_end ++ r) (line_end ++ s) fits.word also.word (ap (drop 1) author.1) in
-    (λ j. record { number = number.0 j; author = author.0 j; event = event.0 j }, ap (drop 1) event.1)
-
--- the lines of the events shown
-events_shown : {Z : Type 0} (c : ℕ) (workers : List (Worker Z)) (numbered : List (ℕ × Event))
-    → flat_map (numbered_event_line c workers) numbered ≡ flat_map (told_line c) (filter_map (λ ((number, event) : ℕ × Event). printed_by number event (author_place c workers number)) numbered)
-unfolding numbered_event_line told_line
-events_shown {Z} c workers [] = refl
-events_shown {Z} c workers ((number, event) ∷ more) = with_author (author_place c workers number) (events_shown c workers more)
+event_front : (x : ℕ × PrintedEvent) (r : List ℕ) → is_digit_at 5 (event_row.text x ++ r) ≡ true
+event_front (c, x) r = ap (is_digit_at 0) (joined (decimal x.number) (codes " PP") (octal 2 x.author) (codes " ") (event_text x.event) line_end r) ∙ decimal_front x.number _
   where
-    shown : List PrintedEvent
-    shown = filter_map (λ ((number, event) : ℕ × Event). printed_by number event (author_place c workers number)) more
+    joined : (d p o s e l r : List ℕ) → (((((d ++ p) ++ o) ++ s) ++ e) ++ l) ++ r ≡ d ++ (p ++ (o ++ (s ++ (e ++ (l ++ r)))))
+    joined d p o s e l r = simp append_assoc
 
-    with_author : (author : Option ℕ) → flat_map (numbered_event_line c workers) more ≡ flat_map (told_line c) shown
-        → line_by c number event author ++ flat_map (numbered_event_line c workers) more ≡ flat_map (told_line c) (cons_option (printed_by number event author) shown)
-    with_author None is = is
-    with_author (Some place) is = ap (λ t. line_by c number event (Some place) ++ t) is
+event_lines : Format (All IsEventLine)
+event_lines = many event_row is_event (λ _. true) (λ x r _. rw (event_front x r) refl) (λ x r _. refl)
 
--- ---- the line of a worker
+-- what is shown of the events of each channel, and its lines
+abbrev events_on : {Z : Type 0} → Report Z → ℕ → List PrintedEvent
+events_on report c = if names_channel c then printed_on c report else []
+
+lines_on : {Z : Type 0} (c : ℕ) (workers : List (Worker Z)) (numbered : List (ℕ × Event))
+    → flat_map (numbered_event_line c workers) numbered ≡ flat_map event_row.text (map (λ x. (c, x)) (filter_map (λ ((number, event) : ℕ × Event). printed_by number event (author_place c workers number)) numbered))
+unfolding numbered_event_line
+lines_on {Z} c workers [] = refl
+lines_on {Z} c workers ((number, event) ∷ more) = grind (arith, lines_on c workers more)
+
+-- the lines of the channel with this number, if there is one
+abbrev pub numbered_channel_events : {Z : Type 0} → List (Worker Z) → List (List Event) → ℕ → List ℕ
+numbered_channel_events workers histories c = if names_channel c then channel_events workers histories c else []
+
+events_are : {Z : Type 0} (report : Report Z) → flat_map (channel_events report.ends.items report.channels) all_channels ≡ flat_map event_row.text (rows (events_on report) (range_with_len 0 0o100))
+events_are {Z} report =
+    channels_by_number (channel_events report.ends.items report.channels)
+    ∙ flat_map_each (numbered_channel_events report.ends.items report.channels) event_row.text (λ c. map (λ x. (c, x)) (events_on report c)) (λ c. grind (arith, lines_on)) (range_with_len 0 0o100)
+
+events_fit : {Z : Type 0} (report : Report Z) → ((c : ℕ) → IsTrue (names_channel c) → All FitsItsLine (printed_on c report)) → All IsEventLine (rows (events_on report) (range_with_len 0 0o100))
+events_fit {Z} report fits = rows_fit IsEventLine (events_on report) (λ c low. by_name c low (names_channel c) (fits c))
+  where
+    by_name : (c : ℕ) → c < 0o100 → (b : Bool) → (IsTrue b → All FitsItsLine (printed_on c report)) → All (λ x. IsEventLine (c, x)) (if b then printed_on c report else [])
+    by_name c low true fits = λ k d within. (low, fits refl k d within)
+    by_name c low false fits = All-nil (λ x. IsEventLine (c, x))
+
+events_same : {Y Z : Type 0} (one : Report Y) (other : Report Z) → rows (events_on one) (range_with_len 0 0o100) ≡ rows (events_on other) (range_with_len 0 0o100)
+    → (c : ℕ) → IsTrue (names_channel c) → printed_on c one ≡ printed_on c other
+events_same {Y} {Z} one other e c is = subst (λ b. (if b then printed_on c one else []) ≡ (if b then printed_on c other else [])) is (rows_tell (events_on one) (events_on other) e c (channel_fits c is))
+
+-- ---- the lines of workers
 
 end_tells : Tells HasEndNumber end_text
 end_tells Stopped Stopped r s _ _ e = (refl, ap (drop 7) e)
@@ -83,162 +97,71 @@ end_tells Worn Worn r s _ _ e = (refl, ap (drop 4) e)
 end_tells x y r s _ _ e = grind arith
 
 -- it fits its line, and a fault at its end is a numbered one
-record IsClear (s : ShownEnd) : Type 0 where
-  fits : FitsItsEnd s
-  numbered : HasEndNumber s.finish
+abbrev IsEndLine : ℕ × ShownEnd → Type 0
+IsEndLine (n, shown) = (n < 0o100) × (FitsItsEnd shown × HasEndNumber shown.finish)
 
-end_line : ℕ → ShownEnd → List ℕ
-end_line n shown = codes "PP" ++ octal 2 n ++ codes " P=" ++ octal 4 shown.p ++ codes " A=" ++ octal 6 shown.a ++ codes " " ++ end_text shown.finish ++ line_end
+abbrev end_row : Format IsEndLine
+end_row =
+    whole
+    (processors (λ x. x.p) (λ x. x.a) (λ x fits. fits.0.p) (λ x fits. fits.0.a) (field (always end_text end_tells) (λ x. x.finish) (λ x fits. fits.1)))
+    (λ x y ((((_, n), p), a), finish) j. (n j, record { p = p j; a = a j; finish = finish j }))
 
-after_a : ShownEnd → List ℕ → List ℕ
-after_a shown r = codes " " ++ (end_text shown.finish ++ (line_end ++ r))
+end_lines : Format (All IsEndLine)
+end_lines = many end_row (λ t. get_or t 0 0 == 80) (λ _. true) (λ x r _. refl) (λ x r _. refl)
 
-end_line_is : (n : ℕ) (shown : ShownEnd) (r : List ℕ) → end_line n shown ++ r ≡ codes "PP" ++ (octal 2 n ++ (codes " P=" ++ (octal 4 shown.p ++ (codes " A=" ++ (octal 6 shown.a ++ after_a shown r)))))
-unfolding end_line after_a
-end_line_is n shown r = simp append_assoc
-
-end_line_tells : (n : ℕ) → Tells IsClear (end_line n)
-unfolding after_a
-end_line_tells n x y r s clear also e =
-    let p = octal_tells 4 x.p y.p (codes " A=" ++ (octal 6 x.a ++ after_a x r)) (codes " A=" ++ (octal 6 y.a ++ after_a y s)) clear.fits.p also.fits.p (ap (drop 7) (sym (end_line_is n x r) ∙ e ∙ end_line_is n y s)) in
-    let a = octal_tells 6 x.a y.a (after_a x r) (after_a y s) clear.fits.a also.fits.a (ap (drop 3) p.1) in
-    let finish = end_tells x.finish y.finish (line_end ++ r) (line_end ++ s) clear.numbered also.numbered (ap (drop 1) a.1) in
-    (λ j. record { p = p.0 j; a = a.0 j; finish = finish.0 j }, ap (drop 1) finish.1)
-
-shown_line : ℕ → Option ShownEnd → List ℕ
-shown_line n None = []
-shown_line n (Some shown) = end_line n shown
-
-worker_shown : {Z : Type 0} (named : List Bool) (report : Report Z) (n : ℕ) → named_worker_line named report.ends.items n ≡ shown_line n (shown_of named n report)
-unfolding processor_line end_line shown_line
-worker_shown {Z} named report n = by_name (is_named named n) (slice_get report.ends.items (processor_index n))
-  where
-    by_name : (b : Bool) (worker : Option (Worker Z)) → (if b then worker_line n worker else []) ≡ shown_line n (if b then option_map shown_end worker else None)
-    by_name false worker = refl
-    by_name true None = refl
-    by_name true (Some worker) = refl
-
--- ---- lines by their fronts
-
-told_line_key : (c : ℕ) (t : PrintedEvent) (r : List ℕ) → c < 0o100 → line_key (told_line c t ++ r) ≡ 1067432 + c
-told_line_key c t r low =
-    let digit = digit_front (decimal t.number) (after_number t r) (omega (arith, decimal_long t.number)) (decimal_are t.number) in
-    ap line_key (told_line_is c t r) ∙ rw digit (omega (arith, low))
-
-end_line_key : (n : ℕ) (shown : ShownEnd) (r : List ℕ) → n < 0o100 → line_key (end_line n shown ++ r) ≡ 80432 + n
-end_line_key n shown r low = ap line_key (end_line_is n shown r) ∙ omega (arith, low)
-
--- the lines of the channel with this number, if there is one
-abbrev pub numbered_channel_events : {Z : Type 0} → List (Worker Z) → List (List Event) → ℕ → List ℕ
-numbered_channel_events workers histories c = if names_channel c then channel_events workers histories c else []
-
-events_keyed : {Z : Type 0} (workers : List (Worker Z)) (histories : List (List Event)) → Keyed line_key 1067432 (numbered_channel_events workers histories)
-events_keyed {Z} workers histories c r low = by_name (names_channel c) (channel_events workers histories c) (printed_events c workers (history_on c histories)) (events_shown c workers (enumerate_from 0 (history_on c histories)))
-  where
-    by_name : (b : Bool) (text : List ℕ) (shown : List PrintedEvent) → text ≡ flat_map (told_line c) shown → ((if b then text else []) ≡ []) ⊎ (line_key ((if b then text else []) ++ r) ≡ 1067432 + c)
-    by_name false text shown is = inl refl
-    by_name true text [] is = inl is
-    by_name true text (t ∷ ts) is = inr (ap (λ x. line_key (x ++ r)) is ∙ ap line_key (append_assoc (told_line c t) (flat_map (told_line c) ts) r) ∙ told_line_key c t (flat_map (told_line c) ts ++ r) low)
-
-ends_keyed : {Z : Type 0} (named : List Bool) (report : Report Z) → Keyed line_key 80432 (named_worker_line named report.ends.items)
-unfolding shown_line
-ends_keyed {Z} named report n r low = by_line (named_worker_line named report.ends.items n) (shown_of named n report) (worker_shown named report n)
-  where
-    by_line : (text : List ℕ) (shown : Option ShownEnd) → text ≡ shown_line n shown → (text ≡ []) ⊎ (line_key (text ++ r) ≡ 80432 + n)
-    by_line text None is = inl is
-    by_line text (Some shown) is = inr (ap (λ x. line_key (x ++ r)) is ∙ end_line_key n shown r low)
-
--- ---- what the lines of a number tell
-
-events_tell : (b : Bool) (c : ℕ) (ts us : List PrintedEvent) (text other r s : List ℕ) → c < 0o100 → text ≡ flat_map (told_line c) ts → other ≡ flat_map (told_line c) us
-    → (IsTrue b → All FitsItsLine ts) → (IsTrue b → All FitsItsLine us) → line_key r ≢ 1067432 + c → line_key s ≢ 1067432 + c
-    → (if b then text else []) ++ r ≡ (if b then other else []) ++ s → (IsTrue b → ts ≡ us) × (r ≡ s)
-events_tell false c ts us text other r s low is too fits also apart aside e = (λ is. absurd cc, e)
-events_tell true c ts us text other r s low is too fits also apart aside e =
-    let all = list_tells FitsItsLine (told_line c) line_key (1067432 + c) (told_line_tells c) (λ t r. told_line_key c t r low) ts us r s (fits refl) (also refl) apart aside
-    (ap (λ x. x ++ r) (sym is) ∙ e ∙ ap (λ x. x ++ s) too) in
-    (λ _. all.0, all.1)
-
-end_tells_shown : (n : ℕ) (x y : Option ShownEnd) (text other r s : List ℕ) → n < 0o100 → text ≡ shown_line n x → other ≡ shown_line n y → IfSome x IsClear → IfSome y IsClear
-    → line_key r ≢ 80432 + n → line_key s ≢ 80432 + n → text ++ r ≡ other ++ s → (x ≡ y) × (r ≡ s)
-unfolding shown_line
-end_tells_shown n None None text other r s low is too clear also apart aside e = (refl, ap (λ x. x ++ r) (sym is) ∙ e ∙ ap (λ x. x ++ s) too)
-end_tells_shown n None (Some y) text other r s low is too clear also apart aside e = absurd (apart (ap line_key (ap (λ x. x ++ r) (sym is) ∙ e ∙ ap (λ x. x ++ s) too) ∙ end_line_key n y s low))
-end_tells_shown n (Some x) None text other r s low is too clear also apart aside e = absurd (aside (ap line_key (sym (ap (λ x. x ++ r) (sym is) ∙ e ∙ ap (λ x. x ++ s) too)) ∙ end_line_key n x r low))
-end_tells_shown n (Some x) (Some y) text other r s low is too clear also apart aside e =
-    let same = end_line_tells n x y r s clear also (ap (λ x. x ++ r) (sym is) ∙ e ∙ ap (λ x. x ++ s) too) in
-    (ap Some same.0, same.1)
+ends_are : {Z : Type 0} (named : List Bool) (report : Report Z) → flat_map (named_worker_line named report.ends.items) all_processors ≡ flat_map end_row.text (named_rows named (λ n. end_of n report))
+unfolding processor_line
+ends_are {Z} named report = named_rows_are named (λ n. worker_line n (slice_get report.ends.items (processor_index n))) end_row.text (λ n. end_of n report) (λ n. grind arith)
 
 -- each worker that ended at a fault is at a numbered one
 abbrev pub HasNumberedEnds : {Z : Type 0} → Report Z → Type 0
 HasNumberedEnds report = All (λ worker. HasEndNumber worker.finish) report.ends.items
 
--- what is shown of a worker is clear, where each end is
-clear_end : {Z : Type 0} (k : ℕ) (workers : List (Worker Z)) → IfSome (option_map shown_end (slice_get workers k)) FitsItsEnd → All (λ worker. HasEndNumber worker.finish) workers → IfSome (option_map shown_end (slice_get workers k)) IsClear
-clear_end k [] fits numbered = tt
-clear_end {Z} zero (w ∷ ws) fits numbered = record { fits = fits; numbered = All-head (λ (worker : Worker Z). HasEndNumber worker.finish) w ws numbered }
-clear_end {Z} (suc k) (w ∷ ws) fits numbered = clear_end k ws fits (All-tail (λ (worker : Worker Z). HasEndNumber worker.finish) w ws numbered)
+each_end : {Z : Type 0} (n k : ℕ) (workers : List (Worker Z)) → n < 0o100 → IfSome (option_map shown_end (slice_get workers k)) FitsItsEnd → All (λ worker. HasEndNumber worker.finish) workers
+    → IfSome (option_map shown_end (slice_get workers k)) (λ x. IsEndLine (n, x))
+each_end n k [] low fits numbered = tt
+each_end {Z} n zero (w ∷ ws) low fits numbered = (low, (fits, All-head (λ (worker : Worker Z). HasEndNumber worker.finish) w ws numbered))
+each_end {Z} n (suc k) (w ∷ ws) low fits numbered = each_end n k ws low fits (All-tail (λ (worker : Worker Z). HasEndNumber worker.finish) w ws numbered)
 
-clear_where_named : (b : Bool) (shown : Option ShownEnd) → (IsTrue b → IfSome shown IsClear) → IfSome (if b then shown else None) IsClear
-clear_where_named true shown clear = clear refl
-clear_where_named false shown clear = tt
-
-clear_shown : {Z : Type 0} (named : List Bool) (n : ℕ) (report : Report Z) → FitsItsReport named report → HasNumberedEnds report → IfSome (shown_of named n report) IsClear
-clear_shown {Z} named n report fits numbered = grind (arith, clear_where_named, clear_end)
+ends_fit : {Z : Type 0} (named : List Bool) (report : Report Z) → FitsItsReport named report → HasNumberedEnds report → All IsEndLine (named_rows named (λ n. end_of n report))
+ends_fit {Z} named report fits numbered = named_rows_fit IsEndLine named (λ n. end_of n report) (λ n low is. each_end n (processor_index n) report.ends.items low (fits.workers n is) numbered)
 
 -- ---- the whole text
 
 pub unnamed_line : {Z : Type 0} (named : List Bool) (workers : List (Worker Z)) (n : ℕ) → (IsTrue (names_processor n) → ⊥) → named_worker_line named workers n ≡ []
 unnamed_line named workers n none = rw (false_from_ne_true (names_processor n) none) refl
 
-module _ {Z : Type 0} (named : List Bool) (report : Report Z) where
-  state_lines : List ℕ
-  state_lines = flat_map (used_channel_line report.channels) all_channels ++ []
+abbrev Shown : Type 0
+Shown = List (ℕ × PrintedEvent) × (List (ℕ × ShownEnd) × List (ℕ × (Bool × Option ℕ)))
 
-  end_lines : List ℕ
-  end_lines = flat_map (named_worker_line named report.ends.items) (range_with_len 0 0o100) ++ state_lines
+abbrev all_shown : {Z : Type 0} → List Bool → Report Z → Shown
+all_shown named report = (rows (events_on report) (range_with_len 0 0o100), (named_rows named (λ n. end_of n report), channels_shown report.channels))
 
-  text_is : printed_report named report ≡ flat_map (numbered_channel_events report.ends.items report.channels) (range_with_len 0 0o100) ++ end_lines
-  unfolding printed_report end_lines state_lines
-  text_is =
-      rw (sym (numbers_of_processors (named_worker_line named report.ends.items) (unnamed_line named report.ends.items)), sym (channels_by_number (channel_events report.ends.items report.channels)))
-      (simp (append_assoc, append-nil))
+abbrev whole_text : Piece (λ (x : Shown). All IsEventLine x.0 × (All IsEndLine x.1.0 × All IsChannelLine x.1.1))
+whole_text = field event_lines (λ x. x.0) (λ x fits. fits.0) ▷ field end_lines (λ x. x.1.0) (λ x fits. fits.1.0) ▷ field channel_lines (λ x. x.1.1) (λ x fits. fits.1.1)
 
-  no_end : (n : ℕ) → n < 0o100 → line_key state_lines ≢ 80432 + n
-  unfolding state_lines
-  no_end n low = channels_key report.channels (80432 + n) (omega (arith, low)) (λ c small. omega (arith, low, small))
+no_event : (x : ℕ × (Bool × Option ℕ)) (r : List ℕ) → is_event (channel_row.text x ++ r) ≡ false
+no_event x r = grind arith
 
-  no_event : (c : ℕ) → c < 0o100 → line_key end_lines ≢ 1067432 + c
-  unfolding end_lines state_lines
-  no_event c low =
-      other_key line_key 80432 (named_worker_line named report.ends.items) (ends_keyed named report) 0 0o100 state_lines (omega arith) (1067432 + c) (λ n _ small. omega (arith, low, small))
-      (channels_key report.channels (1067432 + c) (omega (arith, low)) (λ d small. omega (arith, low, small)))
+text_clear : (x : Shown) → whole_text.clear x [] ≡ true
+unfolding event_lines end_lines
+text_clear (es, (ps, cs)) =
+    rw (front_fails end_row.text is_event false (λ x r. refl) ps _ (front_fails channel_row.text is_event false no_event cs [] refl), front_fails channel_row.text (λ t. get_or t 0 0 == 80) false (λ x r. refl) cs [] refl) refl
 
--- no processor is shown past the numbers of two digits
-none_shown : {Z : Type 0} (named : List Bool) (n : ℕ) (report : Report Z) → 0o100 ≤ n → shown_of named n report ≡ None
-none_shown {Z} named n report past = grind (arith, false_from_ne_true, named_digits)
+text_is : {Z : Type 0} (named : List Bool) (report : Report Z) → printed_report named report ≡ whole_text.text (all_shown named report)
+unfolding printed_report event_lines end_lines
+text_is named report = λ j. events_are report j ++ ends_are named report j ++ channels_are report.channels j
 
 pub report_tells : {Y Z : Type 0} (named others : List Bool) (one : Report Y) (other : Report Z) → FitsItsReport named one → FitsItsReport others other → HasNumberedEnds one → HasNumberedEnds other
     → printed_report named one ≡ printed_report others other → AgreeOnReport named others one other
-unfolding end_lines state_lines
-report_tells {Y} {Z} named others one other fits also numbered too e =
-    let events = numbers_tell line_key 1067432 (numbered_channel_events one.ends.items one.channels) (numbered_channel_events other.ends.items other.channels) (λ c. IsTrue (names_channel c) → printed_on c one ≡ printed_on c other)
-    (events_keyed one.ends.items one.channels) (events_keyed other.ends.items other.channels)
-    (λ c r s low apart aside e. events_tell (names_channel c) c (printed_on c one) (printed_on c other) _ _ r s low (events_shown c one.ends.items (enumerate_from 0 (history_on c one.channels)))
-    (events_shown c other.ends.items (enumerate_from 0 (history_on c other.channels))) (fits.events c) (also.events c) apart aside e)
-    0 0o100 (end_lines named one) (end_lines others other) (omega arith) (no_event named one) (no_event others other) (sym (text_is named one) ∙ e ∙ text_is others other) in
-    let ends = numbers_tell line_key 80432 (named_worker_line named one.ends.items) (named_worker_line others other.ends.items) (λ n. shown_of named n one ≡ shown_of others n other)
-    (ends_keyed named one) (ends_keyed others other)
-    (λ n r s low apart aside e. end_tells_shown n (shown_of named n one) (shown_of others n other) _ _ r s low (worker_shown named one n) (worker_shown others other n)
-    (clear_shown named n one fits numbered) (clear_shown others n other also too) apart aside e)
-    0 0o100 (state_lines named one) (state_lines others other) (omega arith) (no_end named one) (no_end others other) events.1 in
+report_tells named others one other fits also numbered too e =
+    let told = piece_tells whole_text text_clear (all_shown named one) (all_shown others other)
+    (events_fit one fits.events, (ends_fit named one fits numbered, channels_fit one.channels fits.channels))
+    (events_fit other also.events, (ends_fit others other also too, channels_fit other.channels also.channels)) (sym (text_is named one) ∙ e ∙ text_is others other) in
     record {
-      events = λ c is. events.0 c (omega arith) (channel_fits c is) is;
-      workers = λ n. elim (cases_lt n 0o100) [
-        | inl low ↦ ends.0 n (omega arith) low
-        | inr past ↦ none_shown named n one past ∙ sym (none_shown others n other past)
-      ];
-      channels = (channels_tell one.channels other.channels [] [] fits.channels also.channels (λ c low. omega arith) (λ c low. omega arith) ends.1).0;
+      events = events_same one other told.0.0;
+      workers = named_rows_tell named others (λ n. end_of n one) (λ n. end_of n other) told.0.1;
+      channels = channels_same one.channels other.channels told.1;
     }
 
 -- ---- and the histories, where both began alike
@@ -247,61 +170,38 @@ report_tells {Y} {Z} named others one other fits also numbered too e =
 abbrev pub with_number : PrintedEvent → ℕ × Event
 with_number t = (t.number, t.event)
 
--- the events that are told from a number on, where the first of all have no author and the rest have one
-told_later : {Z : Type 0} (c first n : ℕ) (workers : List (Worker Z)) (h : List Event) → ((i : ℕ) → i < length h → (author_place c workers (n + i) ≡ None) ↔ (n + i < first))
-    → map with_number (filter_map (λ ((number, event) : ℕ × Event). printed_by number event (author_place c workers number)) (enumerate_from n h)) ≡ enumerate_from (n + (first - n)) (drop (first - n) h)
-told_later {Z} c first n workers [] authors = ap (enumerate_from (n + (first - n))) (sym (drop-nil (first - n)))
-told_later {Z} c first n workers (e ∷ h) authors =
-    by_author (author_place c workers n) (subst (λ k. (author_place c workers k ≡ None) ↔ (k < first)) (omega arith) (authors 0 (omega arith)))
-    (told_later c first (n + 1) workers h (λ i within. subst (λ k. (author_place c workers k ≡ None) ↔ (k < first)) (omega arith) (authors (i + 1) (omega (arith, within)))))
-  where
-    more : List PrintedEvent
-    more = filter_map (λ ((number, event) : ℕ × Event). printed_by number event (author_place c workers number)) (enumerate_from (n + 1) h)
+-- where the first events have no author and the rest have one, the rest are told
+module _ (author : ℕ → Option ℕ) (first total : ℕ) (authors : (i : ℕ) → i < total → (author i ≡ None) ↔ (i < first)) where
+  abbrev told_of : List (ℕ × Event) → List (ℕ × Event)
+  told_of numbered = map with_number (filter_map (λ ((number, event) : ℕ × Event). printed_by number event (author number)) numbered)
 
-    by_author : (author : Option ℕ) → (author ≡ None) ↔ (n < first) → map with_number more ≡ enumerate_from (n + 1 + (first - (n + 1))) (drop (first - (n + 1)) h)
-        → map with_number (cons_option (printed_by n e author) more) ≡ enumerate_from (n + (first - n)) (drop (first - n) (e ∷ h))
-    by_author None is rest =
-        let early = is.0 refl in
-        let one_more : suc (first - (n + 1)) ≡ first - n = omega (arith, early) in
-        let same : n + 1 + (first - (n + 1)) ≡ n + (first - n) = omega (arith, early) in
-        rest ∙ (λ j. enumerate_from (same j) (drop (one_more j) (e ∷ h)))
-    by_author (Some place) is rest = by_order (cases_lt n first)
-      where
-        by_order : (n < first) ⊎ (first ≤ n) → (n, e) ∷ map with_number more ≡ enumerate_from (n + (first - n)) (drop (first - n) (e ∷ h))
-        by_order (inl early) = let none : Some place ≡ None = is.1 early in absurd cc
-        by_order (inr late) =
-            let next : n + 1 + (first - (n + 1)) ≡ n + 1 = omega (arith, late) in
-            let least : first - (n + 1) ≡ 0 = omega (arith, late) in
-            let here : n ≡ n + (first - n) = omega (arith, late) in
-            let none : 0 ≡ first - n = omega (arith, late) in
-            ap (λ es. (n, e) ∷ es) (rest ∙ (λ j. enumerate_from (next j) (drop (least j) h))) ∙ (λ j. enumerate_from (here j) (drop (none j) (e ∷ h)))
+  rest_told : (n : ℕ) (es : List Event) → first ≤ n → n + length es ≤ total → told_of (enumerate_from n es) ≡ enumerate_from n es
+  rest_told n [] late within = refl
+  rest_told n (e ∷ es) late within = grind (arith, authors n (omega (arith, within)), rest_told (n + 1) es (omega (arith, late)) (omega (arith, within)))
+
+  told_from : (n : ℕ) (before es : List Event) → n + length before ≡ first → first + length es ≤ total → told_of (enumerate_from n (before ++ es)) ≡ enumerate_from first es
+  told_from n [] es is within = let same : n ≡ first = omega (arith, is) in rest_told n es (omega (arith, same)) (omega (arith, same, within)) ∙ ap (λ k. enumerate_from k es) same
+  told_from n (e ∷ before) es is within = rw ((authors n (omega (arith, is, within))).1 (omega (arith, is))) (told_from (n + 1) before es (omega (arith, is)) within)
 
 -- they are all events after the opening, each with its number
 pub told_after : {Z : Type 0} (opening : ℕ → List Event) (histories : List (List Event)) (workers : List (Worker Z)) (c : ℕ) → (merged : Merges opening histories (logs_of workers))
     → map with_number (printed_events c workers (history_on c histories)) ≡ enumerate_from (length (opening c)) (merged.begins c).0
 told_after {Z} opening histories workers c merged =
-    let h = history_on c histories in
     let begins = merged.begins c in
-    let first = length (opening c) in
-    let same : 0 + (first - 0) ≡ first = omega arith in
-    let behind : first - 0 ≡ first = omega arith in
-    told_later c first 0 workers h (λ i within.
-    subst (λ k. (author_place c workers k ≡ None) ↔ (k < first)) (omega arith) (only_openings opening histories workers merged c i within))
-    ∙ ((λ j. enumerate_from (same j) (drop (behind j) (sym begins.1 j))) ∙ ap (enumerate_from first) (drop-append_seam (opening c) begins.0))
+    let long = ap length begins.1 in
+    ap (λ h. map with_number (printed_events c workers h)) (sym begins.1)
+    ∙ told_from (author_place c workers) (length (opening c)) (length (history_on c histories)) (only_openings opening histories workers merged c) 0 (opening c) begins.0 (omega arith)
+    (grind (arith, long, length-append))
 
-events_told : (k : ℕ) (ts : List PrintedEvent) (es : List Event) → map with_number ts ≡ enumerate_from k es → map (λ (t : PrintedEvent). t.event) ts ≡ es
-events_told k [] [] is = refl
-events_told k [] (e ∷ es) is = absurd cc
-events_told k (t ∷ ts) [] is = absurd cc
-events_told k (t ∷ ts) (e ∷ es) is =
-    let first : with_number t ≡ (k, e) = cc in
-    let rest : map with_number ts ≡ enumerate_from (k + 1) es = cc in
-    (λ j. (first j).1 ∷ events_told (k + 1) ts es rest j)
+each_event : (k : ℕ) (es : List Event) → map (λ x. x.1) (enumerate_from k es) ≡ es
+each_event k [] = refl
+each_event k (e ∷ es) = ap (λ t. e ∷ t) (each_event (k + 1) es)
 
 whole_history : {Z : Type 0} (opening : ℕ → List Event) (report : Report Z) (c : ℕ) → Merges opening report.channels (logs_of report.ends.items)
     → history_on c report.channels ≡ opening c ++ map (λ (t : PrintedEvent). t.event) (printed_on c report)
 whole_history {Z} opening report c merged =
-    sym (merged.begins c).1 ∙ ap (λ es. opening c ++ es) (sym (events_told (length (opening c)) (printed_on c report) (merged.begins c).0 (told_after opening report.channels report.ends.items c merged)))
+    let told = ap (map (λ x. x.1)) (told_after opening report.channels report.ends.items c merged) ∙ each_event (length (opening c)) (merged.begins c).0 in
+    sym (merged.begins c).1 ∙ ap (λ es. opening c ++ es) (sym told ∙ map-map _ _ (printed_on c report))
 
 pub histories_told : {Y Z : Type 0} (opening : ℕ → List Event) (one : Report Y) (other : Report Z) (c : ℕ) → Merges opening one.channels (logs_of one.ends.items) → Merges opening other.channels (logs_of other.ends.items)
     → printed_on c one ≡ printed_on c other → history_on c one.channels ≡ history_on c other.channels
@@ -328,8 +228,4 @@ tellings_go_on {Z} c i workers h e within at so_far fits =
     let f : ℕ × Event → Option PrintedEvent = λ ((number, event) : ℕ × Event). printed_by number event (author_place c workers number) in
     let told : filter_map f (enumerate_from 0 (take (i + 1) h)) ≡ filter_map f (enumerate_from 0 (take i h)) ++ filter_map f ((i, e) ∷ []) =
     ap (filter_map f) (enumerate_more h i e within at) ∙ filter_map-append f (enumerate_from 0 (take i h)) ((i, e) ∷ []) in
-    subst (All FitsItsLine) (sym told) (All-append FitsItsLine (filter_map f (enumerate_from 0 (take i h))) (filter_map f ((i, e) ∷ [])) so_far (last (author_place c workers i) fits))
-  where
-    last : (author : Option ℕ) → IfSome (printed_by i e author) FitsItsLine → All FitsItsLine (cons_option (printed_by i e author) [])
-    last None fits = All-nil FitsItsLine
-    last (Some place) fits = All-cons FitsItsLine (record { number = i; author = processor_number place; event = e }) [] fits (All-nil FitsItsLine)
+    subst (All FitsItsLine) (sym told) (All-append FitsItsLine (filter_map f (enumerate_from 0 (take i h))) (filter_map f ((i, e) ∷ [])) so_far (grind (arith, fits, All-nil, All-cons)))
