@@ -3,7 +3,6 @@ use Rattle.std.proofs.Common.{All, ◌≡◌, ◌∙◌, ℕ, ◌+◌, ◌^◌, 
 use Rattle.std.specs.Prelude.{◌==◌, ◌&&◌, IfSome, IsTrue, get_or, not, slice_index_or, if◌then◌else◌}
 use Rattle.std.specs.List.{flat_map, last_or}
 use Rattle.std.proofs.lemmas.Bool.{and_parts, cases_lt, eqb-true, false_from_ne_true}
-use Rattle.std.proofs.lemmas.Option.{same_Some}
 use Rattle.pp_numbers.specs.ChannelNo.{all_channels, names_channel}
 use Rattle.pp_numbers.proofs.ChannelNoLemmas.{channel_fits}
 use Rattle.pp_numbers.specs.PpNo.{all_processors, is_named, names_processor, processor_index}
@@ -71,8 +70,7 @@ pub count_tells : (b c : Bool) (m n : ℕ) (r s : List ℕ) → (b ≡ true → 
     → (if b then [] else codes " x" ++ unpadded 10 m) ++ r ≡ (if c then [] else codes " x" ++ unpadded 10 n) ++ s → (m ≡ n) × (r ≡ s)
 count_tells true true m n r s none also low small _ _ e = (none refl ∙ sym (also refl), e)
 count_tells false false m n r s none also low small ends other e = (unpaddeds 10).tells m n r s low small (and_parts _ _ ends).0 (and_parts _ _ other).0 (ap (drop 2) e)
-count_tells true false m n r s none also low small ends _ e = let no : no_count r ≡ false = ap no_count e in absurd cc
-count_tells false true m n r s none also low small _ ends e = let no : no_count s ≡ false = ap no_count (sym e) in absurd cc
+count_tells b c m n r s none also low small ends other e = grind arith
 
 abbrev pub counts : Format (λ n. n < 10 ^ 10)
 counts = record { text = count_text; clear = λ n r. no_count r; tells = λ m n r s. count_tells (m == 0) (n == 0) m n r s (eqb-true m 0) (eqb-true n 0) }
@@ -109,15 +107,13 @@ named_rows_are {X} named line text f each =
     ∙ maybe_rows_are (λ n. if is_named named n then line n else []) text (λ n. if is_named named n then f n else None) (λ n. by_name n (is_named named n))
   where
     by_name : (n : ℕ) (b : Bool) → (if b then line n else []) ≡ maybe_text (λ x. text (n, x)) [] (if b then f n else None)
-    by_name n true = each n
-    by_name n false = refl
+    by_name n b = grind (arith, each n)
 
 pub named_rows_fit : {X : Type 0} (Fits : ℕ × X → Type 0) (named : List Bool) (f : ℕ → Option X) → ((n : ℕ) → n < 0o100 → IsTrue (is_named named n) → IfSome (f n) (λ x. Fits (n, x))) → All Fits (named_rows named f)
 named_rows_fit Fits named f fits = maybe_rows_fit Fits (λ n. if is_named named n then f n else None) (λ n low. by_name n (is_named named n) (fits n low))
   where
     by_name : (n : ℕ) (b : Bool) → (IsTrue b → IfSome (f n) (λ x. Fits (n, x))) → IfSome (if b then f n else None) (λ x. Fits (n, x))
-    by_name n true fit = fit refl
-    by_name n false fit = tt
+    by_name n b fit = grind arith
 
 pub named_rows_tell : {X : Type 0} (named others : List Bool) (f g : ℕ → Option X) → named_rows named f ≡ named_rows others g → (n : ℕ) → (if is_named named n then f n else None) ≡ (if is_named others n then g n else None)
 named_rows_tell named others f g e n =
@@ -172,9 +168,7 @@ pub channels_are : (histories : List (List Event)) → flat_map (used_channel_li
 channels_are histories = channels_by_number (used_channel_line histories) ∙ maybe_rows_are (numbered_channel_line histories) channel_row.text (named_channel histories) (λ c. each c (names_channel c) (history_on c histories))
   where
     each : (c : ℕ) (b : Bool) (h : List Event) → (if b then channel_line c h else []) ≡ maybe_text (λ x. channel_row.text (c, x)) [] (if b then channel_shown h else None)
-    each c false h = refl
-    each c true [] = refl
-    each c true (e ∷ h) = refl
+    each c b h = grind arith
 
 full_is_active : (h : List Event) → active h ≡ false → waiting h ≡ None
 full_is_active h is = ap (λ (b : Bool). if b && (length (puts (last_stretch h)) == length (takes (last_stretch h)) + 1) then last_or None (puts (last_stretch h)) else None) is
@@ -183,18 +177,10 @@ pub channels_fit : (histories : List (List Event)) → ((c : ℕ) → IsTrue (na
 channels_fit histories fits = maybe_rows_fit IsChannelLine (named_channel histories) (λ c low. each c low (names_channel c) (history_on c histories) (fits c))
   where
     each : (c : ℕ) → c < 0o100 → (b : Bool) (h : List Event) → (IsTrue b → HistoryFits h) → IfSome (if b then channel_shown h else None) (λ x. IsChannelLine (c, x))
-    each c low false h fits = tt
-    each c low true [] fits = tt
-    each c low true (e ∷ h) fits = (low, (full_is_active (e ∷ h), fits refl))
+    each c low b h fits = grind (arith, full_is_active)
 
 pub channels_same : (histories others : List (List Event)) → channels_shown histories ≡ channels_shown others → (c : ℕ) → IsTrue (names_channel c) → ShowSameChannel (history_on c histories) (history_on c others)
 channels_same histories others e c names = alike (names_channel c) (history_on c histories) (history_on c others) names (maybe_rows_tell (named_channel histories) (named_channel others) e c (channel_fits c names))
   where
     alike : (b : Bool) (h k : List Event) → IsTrue b → (if b then channel_shown h else None) ≡ (if b then channel_shown k else None) → ShowSameChannel h k
-    alike false h k names e = absurd cc
-    alike true [] [] names e = record { unused = (λ e. e, λ e. e); active = refl; waiting = refl }
-    alike true [] (y ∷ k) names e = absurd cc
-    alike true (x ∷ h) [] names e = absurd cc
-    alike true (x ∷ h) (y ∷ k) names e =
-        let same = same_Some (active (x ∷ h), waiting (x ∷ h)) (active (y ∷ k), waiting (y ∷ k)) e in
-        record { unused = (λ e. absurd cc, λ e. absurd cc); active = λ j. (same j).0; waiting = λ j. (same j).1 }
+    alike b h k names e = grind arith
