@@ -10,43 +10,26 @@ use Rattle.pp_numbers.proofs.PpNoLemmas.{numbers_of_processors, processor_fits}
 use Rattle.pp_channel.specs.History.{HasTwelveBitWord, active, waiting, last_stretch, history_on}
 use Rattle.pp_channel.specs.Session.{puts, takes}
 use Rattle.pp_channel.specs.declared.{event.Event.Event, flags.Flags.Flags}
-use Rattle.pp_channel.specs.declared.event.Event.TheVariants.{Activate, Disconnect, Put, Take, Function}
 use Rattle.pp_machine.specs.Processor.{HasFaultNumber}
-use Rattle.pp_machine.specs.declared.pp_state.PpState.TheVariants.{Running, Stopped, Fault}
 use Rattle.pp_word.specs.Numeral.{unpadded}
 use Rattle.pp_text.specs.PrintedText.{channel_line, channel_text, event_text, line_end, state_text, used_channel_line}
 use Rattle.pp_text.specs.Standing.{count_text, flags_text}
 use Rattle.pp_text.specs.TextLaw.{HistoryFits, ShowSameChannel}
 use Rattle.pp_text.proofs.Format.{Format, always, Piece, field, many, mark, maybe_rows, maybe_rows_are, maybe_rows_fit, maybe_rows_tell, maybe_text, no_digit, octals, unpaddeds, whole, within, ◌▷◌, ◌▸◌}
 use Rattle.pp_text.proofs.PrintingLemmas.{channels_by_number, numbered_channel_line}
-use Rattle.pp_text.proofs.Telling.{Tells, octal_tells}
+use Rattle.pp_text.proofs.Telling.{Tells}
 
 -- ---- events, states, flags
 
 pub event_tells : Tells HasTwelveBitWord event_text
-event_tells Activate Activate r s _ _ e = (refl, cc)
-event_tells Disconnect Disconnect r s _ _ e = (refl, cc)
-event_tells (Put v) (Put w) r s low other e = let word = octal_tells 4 v w r s low other (ap (drop 4) e) in (ap Put word.0, word.1)
-event_tells (Take v) (Take w) r s low other e = let word = octal_tells 4 v w r s low other (ap (drop 4) e) in (ap Take word.0, word.1)
-event_tells (Function v) (Function w) r s low other e = let word = octal_tells 4 v w r s low other (ap (drop 4) e) in (ap Function word.0, word.1)
-event_tells x y r s _ _ e = grind arith
+event_tells x y r s fits also e = grind arith
 
 pub state_tells : Tells HasFaultNumber state_text
-state_tells Running Running r s _ _ e = (refl, cc)
-state_tells Stopped Stopped r s _ _ e = (refl, cc)
-state_tells (Fault m) (Fault n) r s one other e = let number = octal_tells 1 m n r s (omega (arith, one.last)) (omega (arith, other.last)) (ap (drop 6) e) in (ap Fault number.0, number.1)
-state_tells x y r s _ _ e = grind arith
+state_tells x y r s fits also e = grind arith
 
 -- no register of an inactive channel is full
 abbrev pub AreFlags : Flags → Type 0
 AreFlags flags = flags.active ≡ false → flags.full ≡ false
-
-flags_tell : (a b c d : Bool) (r s : List ℕ) → (a ≡ false → b ≡ false) → (c ≡ false → d ≡ false)
-    → flags_text (record { active = a; full = b }) ++ r ≡ flags_text (record { active = c; full = d }) ++ s → (a ≡ c) × (b ≡ d) × (r ≡ s)
-flags_tell true true true true r s _ _ e = (refl, refl, ap (drop 11) e)
-flags_tell true false true false r s _ _ e = (refl, refl, ap (drop 12) e)
-flags_tell false b false d r s is also e = (refl, is refl ∙ sym (also refl), ap (drop 8) e)
-flags_tell a b c d r s _ _ e = grind arith
 
 abbrev pub events : Format HasTwelveBitWord
 events = always event_text event_tells
@@ -55,7 +38,7 @@ abbrev pub states : Format HasFaultNumber
 states = always state_text state_tells
 
 pub flags_told : Tells AreFlags flags_text
-flags_told f g r s is also e = let told = flags_tell f.active f.full g.active g.full r s is also e in ((λ j. record { active = told.0 j; full = told.1 j }), told.2)
+flags_told f g r s is also e = grind arith
 
 abbrev pub flags : Format AreFlags
 flags = always flags_text flags_told
@@ -132,12 +115,7 @@ abbrev FitsChannel : Bool × Option ℕ → Type 0
 FitsChannel (is_active, word) = (is_active ≡ false → word ≡ None) × IfSome word (λ n. n < 2 ^ 12)
 
 pub channel_state_tells : Tells FitsChannel (λ (is_active, word). channel_text is_active word)
-channel_state_tells (true, Some v) (true, Some w) r s fits also e = let word = octal_tells 4 v w r s fits.1 also.1 (ap (drop 12) e) in ((λ j. (true, Some (word.0 j))), word.1)
-channel_state_tells (false, Some v) y r s fits also e = let no : Some v ≡ None = fits.0 refl in absurd cc
-channel_state_tells x (false, Some w) r s fits also e = let no : Some w ≡ None = also.0 refl in absurd cc
-channel_state_tells (true, None) (true, None) r s _ _ e = (refl, ap (drop 12) e)
-channel_state_tells (false, None) (false, None) r s _ _ e = (refl, ap (drop 8) e)
-channel_state_tells x y r s _ _ e = grind arith
+channel_state_tells x y r s fits also e = grind arith
 
 abbrev channel_states : Format FitsChannel
 channel_states = always (λ (is_active, word). channel_text is_active word) channel_state_tells
