@@ -1,9 +1,9 @@
 -- What a text is made of, piece by piece; so made, it tells what it shows.
-use Rattle.std.proofs.Common.{All, ◌≡◌, ◌∙◌, ℕ, zero, suc, ◌+◌, ◌^◌, ◌<◌, ◌≤◌, Bool, true, List, [], ◌∷◌, ◌++◌, Option, None, Some, length, map, refl, sym, ap, arith, append-nil, append_assoc, inl, inr}
+use Rattle.std.proofs.Common.{All, ◌≡◌, ◌∙◌, ℕ, zero, suc, ◌+◌, ◌^◌, ◌<◌, ◌≤◌, Bool, true, List, [], ◌∷◌, ◌++◌, Option, None, Some, length, map, refl, sym, ap, arith, append-nil, append_assoc}
 use Rattle.std.specs.Prelude.{◌==◌, ◌&&◌, IfSome, get_or, nat_le, nat_lt, not, if◌then◌else◌}
 use Rattle.std.specs.List.{flat_map, list_all, range_with_len}
 use Rattle.std.specs.Option.{option_to_list}
-use Rattle.std.proofs.lemmas.Bool.{and_parts, cases_eq, eq-eqb, ne_eqb}
+use Rattle.std.proofs.lemmas.Bool.{and_parts, ne_eqb}
 use Rattle.std.proofs.lemmas.List.Elements.{All-append, All-cons, All-head, All-map, All-nil, All-tail}
 use Rattle.std.proofs.lemmas.Grind.{flat_map-append}
 use Rattle.pp_word.specs.Numeral.{decimal, is_digit, octal, short_decimal, unpadded, value_of}
@@ -126,8 +126,7 @@ pub maybe_tells : {X : Type 0} {Fits : X → Type 0} (F : Format Fits) (none : L
     → maybe_clear F.clear none test x r ≡ true → maybe_clear F.clear none test y s ≡ true → maybe_text F.text none x ++ r ≡ maybe_text F.text none y ++ s → (x ≡ y) × (r ≡ s)
 maybe_tells F none test front None None r s _ _ _ _ e = (refl, (parts_tell none none r s refl e).1)
 maybe_tells F none test front (Some x) (Some y) r s fits also ends other e = let told = F.tells x y r s fits also ends other e in (ap Some told.0, told.1)
-maybe_tells F none test front None (Some y) r s _ also ends _ e = let no : not true ≡ true = sym (ap (λ t. not (test t)) e ∙ ap not (front y s also)) ∙ ends in absurd cc
-maybe_tells F none test front (Some x) None r s fits _ _ ends e = let no : not true ≡ true = sym (ap (λ t. not (test t)) (sym e) ∙ ap not (front x r fits)) ∙ ends in absurd cc
+maybe_tells F none test front x y r s fits also ends other e = grind (arith, front)
 
 abbrev pub maybe : {X : Type 0} {Fits : X → Type 0} → (F : Format Fits) (none : List ℕ) (test : List ℕ → Bool) → ((x : X) (r : List ℕ) → Fits x → test (F.text x ++ r) ≡ true) → Format (λ o. IfSome o Fits)
 maybe F none test front = record { text = maybe_text F.text none; clear = maybe_clear F.clear none test; tells = maybe_tells F none test front }
@@ -137,12 +136,8 @@ pub many_tell : {X : Type 0} {Fits : X → Type 0} (F : Format Fits) (test after
     → ((x : X) (r : List ℕ) → after r ≡ true → F.clear x r ≡ true) → (xs ys : List X) (r s : List ℕ) → All Fits xs → All Fits ys
     → (not (test r) && after r) ≡ true → (not (test s) && after s) ≡ true → flat_map F.text xs ++ r ≡ flat_map F.text ys ++ s → (xs ≡ ys) × (r ≡ s)
 many_tell F test after front follows [] [] r s _ _ _ _ e = (refl, e)
-many_tell {X} {Fits} F test after front follows [] (y ∷ ys) r s _ also ends _ e =
-    let begins = (and_parts _ _ (front y (flat_map F.text ys ++ s) (All-head Fits y ys also))).0 in
-    let no : not true ≡ true = sym (ap (λ t. not (test t)) (e ∙ append_assoc (F.text y) (flat_map F.text ys) s) ∙ ap not begins) ∙ (and_parts (not (test r)) (after r) ends).0 in absurd cc
-many_tell {X} {Fits} F test after front follows (x ∷ xs) [] r s fits _ _ ends e =
-    let begins = (and_parts _ _ (front x (flat_map F.text xs ++ r) (All-head Fits x xs fits))).0 in
-    let no : not true ≡ true = sym (ap (λ t. not (test t)) (sym e ∙ append_assoc (F.text x) (flat_map F.text xs) r) ∙ ap not begins) ∙ (and_parts (not (test s)) (after s) ends).0 in absurd cc
+many_tell {X} {Fits} F test after front follows [] (y ∷ ys) r s _ also ends _ e = grind (arith, append_assoc, front y, All-head Fits y ys also)
+many_tell {X} {Fits} F test after front follows (x ∷ xs) [] r s fits _ _ ends e = grind (arith, append_assoc, front x, All-head Fits x xs fits)
 many_tell {X} {Fits} F test after front follows (x ∷ xs) (y ∷ ys) r s fits also ends other e =
     let first = F.tells x y (flat_map F.text xs ++ r) (flat_map F.text ys ++ s) (All-head Fits x xs fits) (All-head Fits y ys also)
     (follows x _ (goes_on xs r (All-tail Fits x xs fits) ends)) (follows y _ (goes_on ys s (All-tail Fits y ys also) other))
@@ -186,14 +181,8 @@ of_number n [] = []
 of_number n ((m, x) ∷ more) = if m == n then x ∷ of_number n more else of_number n more
 
 of_one : {X : Type 0} (n m : ℕ) (xs : List X) (more : List (ℕ × X)) → of_number n (map (λ x. (m, x)) xs ++ more) ≡ (if m == n then xs else []) ++ of_number n more
-of_one n m [] more = elim (cases_eq m n) [
-  | inl is ↦ rw (eq-eqb m n is) refl
-  | inr other ↦ rw (ne_eqb m n other) refl
-]
-of_one n m (x ∷ xs) more = elim (cases_eq m n) [
-  | inl is ↦ rw (eq-eqb m n is) (ap (λ t. x ∷ t) (rw (eq-eqb m n is) at (of_one n m xs more)))
-  | inr other ↦ rw (ne_eqb m n other) (rw (ne_eqb m n other) at (of_one n m xs more))
-]
+of_one n m [] more = grind arith
+of_one n m (x ∷ xs) more = grind (arith, of_one n m xs more)
 
 none_before : {X : Type 0} (f : ℕ → List X) (n a k : ℕ) → n < a → of_number n (rows f (range_with_len a k)) ≡ []
 none_before f n a zero low = refl
@@ -201,11 +190,7 @@ none_before f n a (suc k) low = of_one n a (f a) (rows f (range_with_len (a + 1)
 
 those_of : {X : Type 0} (f : ℕ → List X) (n a k : ℕ) → a ≤ n → n < a + k → of_number n (rows f (range_with_len a k)) ≡ f n
 those_of f n a zero from to = absurd (omega (arith, from, to))
-those_of f n a (suc k) from to =
-    of_one n a (f a) (rows f (range_with_len (a + 1) k)) ∙ elim (cases_eq a n) [
-      | inl is ↦ grind (arith, none_before, append-nil)
-      | inr other ↦ rw (ne_eqb a n other) (those_of f n (a + 1) k (omega (arith, from, other)) (omega (arith, to)))
-    ]
+those_of f n a (suc k) from to = grind (arith, of_one, none_before, those_of f n (a + 1) k, append-nil)
 
 -- the rows of the numbers from 0 to 77 (octal) tell what there is of each
 pub rows_tell : {X : Type 0} (f g : ℕ → List X) → rows f (range_with_len 0 0o100) ≡ rows g (range_with_len 0 0o100) → (n : ℕ) → n < 0o100 → f n ≡ g n
@@ -234,21 +219,16 @@ pub maybe_rows_are : {X : Type 0} (line : ℕ → List ℕ) (text : ℕ × X →
 maybe_rows_are {X} line text f each = flat_map_each line text (λ n. map (λ x. (n, x)) (option_to_list (f n))) (λ n. each n ∙ one_row n (f n)) (range_with_len 0 0o100)
   where
     one_row : (n : ℕ) (x : Option X) → maybe_text (λ x. text (n, x)) [] x ≡ flat_map text (map (λ x. (n, x)) (option_to_list x))
-    one_row n None = refl
-    one_row n (Some x) = sym (append-nil (text (n, x)))
+    one_row n x = grind (arith, append-nil)
 
 pub maybe_rows_tell : {X : Type 0} (f g : ℕ → Option X) → maybe_rows f ≡ maybe_rows g → (n : ℕ) → n < 0o100 → f n ≡ g n
 maybe_rows_tell {X} f g e n low = same_option (f n) (g n) (rows_tell (λ n. option_to_list (f n)) (λ n. option_to_list (g n)) e n low)
   where
     same_option : (x y : Option X) → option_to_list x ≡ option_to_list y → x ≡ y
-    same_option None None e = refl
-    same_option None (Some y) e = absurd cc
-    same_option (Some x) None e = absurd cc
-    same_option (Some x) (Some y) e = cc
+    same_option x y e = grind arith
 
 pub maybe_rows_fit : {X : Type 0} (Fits : ℕ × X → Type 0) (f : ℕ → Option X) → ((n : ℕ) → n < 0o100 → IfSome (f n) (λ x. Fits (n, x))) → All Fits (maybe_rows f)
 maybe_rows_fit {X} Fits f fits = rows_fit Fits (λ n. option_to_list (f n)) (λ n low. one n (f n) (fits n low))
   where
     one : (n : ℕ) (x : Option X) → IfSome x (λ x. Fits (n, x)) → All (λ x. Fits (n, x)) (option_to_list x)
-    one n None fit = All-nil (λ x. Fits (n, x))
-    one n (Some x) fit = All-cons (λ x. Fits (n, x)) x [] fit (All-nil (λ x. Fits (n, x)))
+    one n x fit = grind (arith, All-nil, All-cons)

@@ -3,7 +3,6 @@ use Rattle.std.proofs.Common.{All, ◌≡◌, ◌∙◌, ℕ, ◌+◌, ◌^◌, 
 use Rattle.std.specs.Prelude.{◌==◌, ◌&&◌, IfSome, IsTrue, get_or, not, slice_index_or, if◌then◌else◌}
 use Rattle.std.specs.List.{flat_map, last_or}
 use Rattle.std.proofs.lemmas.Bool.{and_parts, cases_lt, eqb-true, false_from_ne_true}
-use Rattle.std.proofs.lemmas.Option.{same_Some}
 use Rattle.pp_numbers.specs.ChannelNo.{all_channels, names_channel}
 use Rattle.pp_numbers.proofs.ChannelNoLemmas.{channel_fits}
 use Rattle.pp_numbers.specs.PpNo.{all_processors, is_named, names_processor, processor_index}
@@ -11,9 +10,7 @@ use Rattle.pp_numbers.proofs.PpNoLemmas.{numbers_of_processors, processor_fits}
 use Rattle.pp_channel.specs.History.{HasTwelveBitWord, active, waiting, last_stretch, history_on}
 use Rattle.pp_channel.specs.Session.{puts, takes}
 use Rattle.pp_channel.specs.declared.{event.Event.Event, flags.Flags.Flags}
-use Rattle.pp_channel.specs.declared.event.Event.TheVariants.{Activate, Disconnect, Put, Take, Function}
 use Rattle.pp_machine.specs.Processor.{HasFaultNumber}
-use Rattle.pp_machine.specs.declared.pp_state.PpState.TheVariants.{Running, Stopped, Fault}
 use Rattle.pp_word.specs.Numeral.{unpadded}
 use Rattle.pp_channel.specs.ChannelText.{channel_text}
 use Rattle.pp_text.specs.PrintedText.{channel_line, event_text, line_end, state_text, used_channel_line}
@@ -21,34 +18,19 @@ use Rattle.pp_text.specs.Standing.{count_text, flags_text}
 use Rattle.pp_text.specs.TextLaw.{HistoryFits, ShowSameChannel}
 use Rattle.pp_text.proofs.Format.{Format, always, Piece, field, many, mark, maybe_rows, maybe_rows_are, maybe_rows_fit, maybe_rows_tell, maybe_text, no_digit, octals, unpaddeds, whole, within, ◌▷◌, ◌▸◌}
 use Rattle.pp_text.proofs.PrintingLemmas.{channels_by_number, numbered_channel_line}
-use Rattle.pp_text.proofs.Telling.{Tells, octal_tells}
+use Rattle.pp_text.proofs.Telling.{Tells}
 
 -- ---- events, states, flags
 
 pub event_tells : Tells HasTwelveBitWord event_text
-event_tells Activate Activate r s _ _ e = (refl, cc)
-event_tells Disconnect Disconnect r s _ _ e = (refl, cc)
-event_tells (Put v) (Put w) r s low other e = let word = octal_tells 4 v w r s low other (ap (drop 4) e) in (ap Put word.0, word.1)
-event_tells (Take v) (Take w) r s low other e = let word = octal_tells 4 v w r s low other (ap (drop 4) e) in (ap Take word.0, word.1)
-event_tells (Function v) (Function w) r s low other e = let word = octal_tells 4 v w r s low other (ap (drop 4) e) in (ap Function word.0, word.1)
-event_tells x y r s _ _ e = grind arith
+event_tells x y r s fits also e = grind arith
 
 pub state_tells : Tells HasFaultNumber state_text
-state_tells Running Running r s _ _ e = (refl, cc)
-state_tells Stopped Stopped r s _ _ e = (refl, cc)
-state_tells (Fault m) (Fault n) r s one other e = let number = octal_tells 1 m n r s (omega (arith, one.last)) (omega (arith, other.last)) (ap (drop 6) e) in (ap Fault number.0, number.1)
-state_tells x y r s _ _ e = grind arith
+state_tells x y r s fits also e = grind arith
 
 -- no register of an inactive channel is full
 abbrev pub AreFlags : Flags → Type 0
 AreFlags flags = flags.active ≡ false → flags.full ≡ false
-
-flags_tell : (a b c d : Bool) (r s : List ℕ) → (a ≡ false → b ≡ false) → (c ≡ false → d ≡ false)
-    → flags_text (record { active = a; full = b }) ++ r ≡ flags_text (record { active = c; full = d }) ++ s → (a ≡ c) × (b ≡ d) × (r ≡ s)
-flags_tell true true true true r s _ _ e = (refl, refl, ap (drop 11) e)
-flags_tell true false true false r s _ _ e = (refl, refl, ap (drop 12) e)
-flags_tell false b false d r s is also e = (refl, is refl ∙ sym (also refl), ap (drop 8) e)
-flags_tell a b c d r s _ _ e = grind arith
 
 abbrev pub events : Format HasTwelveBitWord
 events = always event_text event_tells
@@ -57,7 +39,7 @@ abbrev pub states : Format HasFaultNumber
 states = always state_text state_tells
 
 pub flags_told : Tells AreFlags flags_text
-flags_told f g r s is also e = let told = flags_tell f.active f.full g.active g.full r s is also e in ((λ j. record { active = told.0 j; full = told.1 j }), told.2)
+flags_told f g r s is also e = grind arith
 
 abbrev pub flags : Format AreFlags
 flags = always flags_text flags_told
@@ -72,8 +54,7 @@ pub count_tells : (b c : Bool) (m n : ℕ) (r s : List ℕ) → (b ≡ true → 
     → (if b then [] else codes " x" ++ unpadded 10 m) ++ r ≡ (if c then [] else codes " x" ++ unpadded 10 n) ++ s → (m ≡ n) × (r ≡ s)
 count_tells true true m n r s none also low small _ _ e = (none refl ∙ sym (also refl), e)
 count_tells false false m n r s none also low small ends other e = (unpaddeds 10).tells m n r s low small (and_parts _ _ ends).0 (and_parts _ _ other).0 (ap (drop 2) e)
-count_tells true false m n r s none also low small ends _ e = let no : no_count r ≡ false = ap no_count e in absurd cc
-count_tells false true m n r s none also low small _ ends e = let no : no_count s ≡ false = ap no_count (sym e) in absurd cc
+count_tells b c m n r s none also low small ends other e = grind arith
 
 abbrev pub counts : Format (λ n. n < 10 ^ 10)
 counts = record { text = count_text; clear = λ n r. no_count r; tells = λ m n r s. count_tells (m == 0) (n == 0) m n r s (eqb-true m 0) (eqb-true n 0) }
@@ -110,15 +91,13 @@ named_rows_are {X} named line text f each =
     ∙ maybe_rows_are (λ n. if is_named named n then line n else []) text (λ n. if is_named named n then f n else None) (λ n. by_name n (is_named named n))
   where
     by_name : (n : ℕ) (b : Bool) → (if b then line n else []) ≡ maybe_text (λ x. text (n, x)) [] (if b then f n else None)
-    by_name n true = each n
-    by_name n false = refl
+    by_name n b = grind (arith, each n)
 
 pub named_rows_fit : {X : Type 0} (Fits : ℕ × X → Type 0) (named : List Bool) (f : ℕ → Option X) → ((n : ℕ) → n < 0o100 → IsTrue (is_named named n) → IfSome (f n) (λ x. Fits (n, x))) → All Fits (named_rows named f)
 named_rows_fit Fits named f fits = maybe_rows_fit Fits (λ n. if is_named named n then f n else None) (λ n low. by_name n (is_named named n) (fits n low))
   where
     by_name : (n : ℕ) (b : Bool) → (IsTrue b → IfSome (f n) (λ x. Fits (n, x))) → IfSome (if b then f n else None) (λ x. Fits (n, x))
-    by_name n true fit = fit refl
-    by_name n false fit = tt
+    by_name n b fit = grind arith
 
 pub named_rows_tell : {X : Type 0} (named others : List Bool) (f g : ℕ → Option X) → named_rows named f ≡ named_rows others g → (n : ℕ) → (if is_named named n then f n else None) ≡ (if is_named others n then g n else None)
 named_rows_tell named others f g e n =
@@ -137,12 +116,7 @@ abbrev FitsChannel : Bool × Option ℕ → Type 0
 FitsChannel (is_active, word) = (is_active ≡ false → word ≡ None) × IfSome word (λ n. n < 2 ^ 12)
 
 pub channel_state_tells : Tells FitsChannel (λ (is_active, word). channel_text is_active word)
-channel_state_tells (true, Some v) (true, Some w) r s fits also e = let word = octal_tells 4 v w r s fits.1 also.1 (ap (drop 12) e) in ((λ j. (true, Some (word.0 j))), word.1)
-channel_state_tells (false, Some v) y r s fits also e = let no : Some v ≡ None = fits.0 refl in absurd cc
-channel_state_tells x (false, Some w) r s fits also e = let no : Some w ≡ None = also.0 refl in absurd cc
-channel_state_tells (true, None) (true, None) r s _ _ e = (refl, ap (drop 12) e)
-channel_state_tells (false, None) (false, None) r s _ _ e = (refl, ap (drop 8) e)
-channel_state_tells x y r s _ _ e = grind arith
+channel_state_tells x y r s fits also e = grind arith
 
 abbrev channel_states : Format FitsChannel
 channel_states = always (λ (is_active, word). channel_text is_active word) channel_state_tells
@@ -173,9 +147,7 @@ pub channels_are : (histories : List (List Event)) → flat_map (used_channel_li
 channels_are histories = channels_by_number (used_channel_line histories) ∙ maybe_rows_are (numbered_channel_line histories) channel_row.text (named_channel histories) (λ c. each c (names_channel c) (history_on c histories))
   where
     each : (c : ℕ) (b : Bool) (h : List Event) → (if b then channel_line c h else []) ≡ maybe_text (λ x. channel_row.text (c, x)) [] (if b then channel_shown h else None)
-    each c false h = refl
-    each c true [] = refl
-    each c true (e ∷ h) = refl
+    each c b h = grind arith
 
 full_is_active : (h : List Event) → active h ≡ false → waiting h ≡ None
 full_is_active h is = ap (λ (b : Bool). if b && (length (puts (last_stretch h)) == length (takes (last_stretch h)) + 1) then last_or None (puts (last_stretch h)) else None) is
@@ -184,18 +156,10 @@ pub channels_fit : (histories : List (List Event)) → ((c : ℕ) → IsTrue (na
 channels_fit histories fits = maybe_rows_fit IsChannelLine (named_channel histories) (λ c low. each c low (names_channel c) (history_on c histories) (fits c))
   where
     each : (c : ℕ) → c < 0o100 → (b : Bool) (h : List Event) → (IsTrue b → HistoryFits h) → IfSome (if b then channel_shown h else None) (λ x. IsChannelLine (c, x))
-    each c low false h fits = tt
-    each c low true [] fits = tt
-    each c low true (e ∷ h) fits = (low, (full_is_active (e ∷ h), fits refl))
+    each c low b h fits = grind (arith, full_is_active)
 
 pub channels_same : (histories others : List (List Event)) → channels_shown histories ≡ channels_shown others → (c : ℕ) → IsTrue (names_channel c) → ShowSameChannel (history_on c histories) (history_on c others)
 channels_same histories others e c names = alike (names_channel c) (history_on c histories) (history_on c others) names (maybe_rows_tell (named_channel histories) (named_channel others) e c (channel_fits c names))
   where
     alike : (b : Bool) (h k : List Event) → IsTrue b → (if b then channel_shown h else None) ≡ (if b then channel_shown k else None) → ShowSameChannel h k
-    alike false h k names e = absurd cc
-    alike true [] [] names e = record { unused = (λ e. e, λ e. e); active = refl; waiting = refl }
-    alike true [] (y ∷ k) names e = absurd cc
-    alike true (x ∷ h) [] names e = absurd cc
-    alike true (x ∷ h) (y ∷ k) names e =
-        let same = same_Some (active (x ∷ h), waiting (x ∷ h)) (active (y ∷ k), waiting (y ∷ k)) e in
-        record { unused = (λ e. absurd cc, λ e. absurd cc); active = λ j. (same j).0; waiting = λ j. (same j).1 }
+    alike b h k names e = grind arith

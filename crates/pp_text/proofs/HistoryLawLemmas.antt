@@ -17,10 +17,7 @@ is_used [] = false
 is_used (e ∷ h) = true
 
 pub both_used : (h other : List Event) → (h ≡ []) ↔ (other ≡ []) → is_used h ≡ is_used other
-both_used [] [] both = refl
-both_used [] (e ∷ other) both = let none : e ∷ other ≡ [] = both.0 refl in absurd cc
-both_used (e ∷ h) [] both = let none : e ∷ h ≡ [] = both.1 refl in absurd cc
-both_used (e ∷ h) (f ∷ other) both = refl
+both_used h other both = grind arith
 
 abbrev opening : Bool → List Event
 opening is_open = if is_open then Activate ∷ [] else []

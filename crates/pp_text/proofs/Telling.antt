@@ -1,5 +1,5 @@
 -- What a text tells: a thing is told by its text if no other has that text, whatever follows it.
-use Rattle.std.proofs.Common.{◌≡◌, ◌∙◌, ℕ, zero, suc, ◌+◌, ◌*◌, ◌/◌, ◌%◌, ◌^◌, ◌<◌, Bool, true, false, List, [], ◌∷◌, ◌++◌, length, refl, sym, ap, arith, inl, inr}
+use Rattle.std.proofs.Common.{◌≡◌, ◌∙◌, ℕ, zero, suc, ◌+◌, ◌*◌, ◌/◌, ◌%◌, ◌^◌, ◌<◌, Bool, true, List, [], ◌∷◌, ◌++◌, length, refl, sym, ap, arith, inl, inr}
 use Rattle.std.specs.Prelude.{get_or, not}
 use Rattle.std.specs.List.{list_all}
 use Rattle.std.proofs.Math.Nat.{pow-suc}
@@ -30,10 +30,8 @@ parts_tell (x ∷ a) (y ∷ b) r s long e =
 -- first parts of characters that pass a test, up to one that does not
 pub cut : (p : ℕ → Bool) (a b r s : List ℕ) → not (p (get_or r 0 0)) ≡ true → not (p (get_or s 0 0)) ≡ true → list_all p a ≡ true → list_all p b ≡ true → a ++ r ≡ b ++ s → (a ≡ b) × (r ≡ s)
 cut p [] [] r s ends other _ _ e = (refl, e)
-cut p [] (y ∷ b) r s ends other _ all e =
-    let no : false ≡ true = ap not (sym (and_parts (p y) (list_all p b) all).0) ∙ ap (λ t. not (p (get_or t 0 0))) (sym e) ∙ ends in absurd cc
-cut p (x ∷ a) [] r s ends other all _ e =
-    let no : false ≡ true = ap not (sym (and_parts (p x) (list_all p a) all).0) ∙ ap (λ t. not (p (get_or t 0 0))) e ∙ other in absurd cc
+cut p [] (y ∷ b) r s ends other _ all e = grind (arith, and_parts)
+cut p (x ∷ a) [] r s ends other all _ e = grind (arith, and_parts)
 cut p (x ∷ a) (y ∷ b) r s ends other first also e =
     let same : x ≡ y = cc in
     let rest : a ++ r ≡ b ++ s = cc in

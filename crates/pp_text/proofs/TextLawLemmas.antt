@@ -1,7 +1,6 @@
 -- The text of a machine tells its trace, its named processors and its channels.
-use Rattle.std.proofs.Common.{All, ◌≡◌, ◌∙◌, ℕ, ◌^◌, ◌<◌, Bool, true, false, List, [], ◌++◌, Option, Some, None, refl, sym, append_assoc, codes}
+use Rattle.std.proofs.Common.{All, ◌≡◌, ◌∙◌, ℕ, ◌^◌, ◌<◌, Bool, true, false, List, [], ◌++◌, Option, Some, None, refl, sym, append_assoc, codes, arith}
 use Rattle.std.specs.Prelude.{◌==◌, IsTrue, get_or, if◌then◌else◌}
-use Rattle.std.proofs.lemmas.Option.{same_Some}
 use Rattle.pp_numbers.proofs.ChannelNoLemmas.{channel_fits}
 use Rattle.pp_machine.specs.MachineState.{MachineState, processor_of}
 use Rattle.pp_machine.specs.Processor.{HasFaultNumber}
@@ -46,10 +45,7 @@ abbrev shown : MachineState → ℕ → Option (ℕ × (ℕ × PpState))
 shown m n = let pp = processor_of n m in Some (pp.p, (pp.a, pp.state))
 
 same_shown : (b c : Bool) (n : ℕ) (one other : MachineState) → (if b then shown one n else None) ≡ (if c then shown other n else None) → (b ≡ c) × (IsTrue b → ShowSameProcessor (processor_of n one) (processor_of n other))
-same_shown false false n one other e = (refl, λ is. absurd cc)
-same_shown true false n one other e = absurd cc
-same_shown false true n one other e = absurd cc
-same_shown true true n one other e = let same = same_Some _ _ e in (refl, λ is. record { p = λ j. (same j).0; a = λ j. (same j).1.0; state = λ j. (same j).1.1 })
+same_shown b c n one other e = grind arith
 
 -- ---- the whole text
 
