@@ -1,6 +1,6 @@
 -- The text of a report tells its events, its workers' ends and its channels.
-use Rattle.std.proofs.Common.{◌≡◌, ◌∙◌, All, ℕ, zero, suc, ◌+◌, ◌<◌, ◌≤◌, length, Bool, true, false, List, [], ◌∷◌, ◌++◌, Option, None, map, take, drop, refl, sym, ap, subst, arith, length-append, append_assoc, codes}
-use Rattle.std.specs.Prelude.{◌↔◌, ◌==◌, ◌&&◌, get_or, option_map, slice_get, slice_index_or, IfSome, IsTrue, if◌then◌else◌}
+use Rattle.std.proofs.Common.{◌≡◌, ◌∙◌, All, ℕ, zero, suc, ◌+◌, ◌<◌, ◌≤◌, length, Bool, true, false, List, [], ◌∷◌, ◌++◌, Option, None, map, take, refl, sym, ap, subst, arith, length-append, append_assoc, codes}
+use Rattle.std.specs.Prelude.{◌↔◌, ◌==◌, get_or, option_map, slice_get, slice_index_or, IfSome, IsTrue, if◌then◌else◌}
 use Rattle.std.specs.List.{enumerate_from, filter_map, flat_map, range_with_len}
 use Rattle.std.proofs.lemmas.Bool.{false_from_ne_true}
 use Rattle.std.proofs.lemmas.List.Elements.{All-append, All-cons, All-head, All-nil, All-tail, filter_map-append}
@@ -16,7 +16,6 @@ use Rattle.pp_machine.specs.MachineState.{MachineState, is_opened}
 use Rattle.pp_numbers.specs.PpNo.{all_processors, names_processor, processor_index}
 use Rattle.pp_numbers.proofs.PpNoLemmas.{processor_fits}
 use Rattle.pp_runner.specs.End.{HasEndNumber}
-use Rattle.pp_runner.specs.declared.end.End.TheVariants.{Stopped, Fault, Steps, Patience, Memory, Worn}
 use Rattle.pp_runner.specs.WorkerReport.{logs_of}
 use Rattle.pp_word.specs.Numeral.{decimal, octal}
 use Rattle.pp_report.specs.PrintedReport.{author_place, channel_events, end_text, named_worker_line, numbered_event_line, printed_report, worker_line}
@@ -29,7 +28,7 @@ use Rattle.pp_report.proofs.EventLineLemmas.{enumerate_more}
 use Rattle.pp_text.proofs.HistoryLawLemmas.{both_used, one_history}
 use Rattle.pp_text.proofs.Format.{Format, Piece, always, decimal_front, decimals, field, flat_map_each, front_fails, is_digit_at, many, mark, octals, piece_tells, rows, rows_fit, rows_tell, whole, ◌▷◌, ◌▸◌}
 use Rattle.pp_text.proofs.Formats.{IsChannelLine, channel_lines, channel_row, channels_are, channels_fit, channels_same, channels_shown, events, named_rows, named_rows_are, named_rows_fit, named_rows_tell, processors}
-use Rattle.pp_text.proofs.Telling.{Tells, octal_tells}
+use Rattle.pp_text.proofs.Telling.{Tells}
 
 -- ---- the lines of events
 
@@ -43,9 +42,6 @@ event_row =
     ▸ codes " PP" ▷ field (octals 2) (λ x. x.1.author) (λ x fits. processor_fits x.1.author fits.1.author) ▸ codes " " ▷ field events (λ x. x.1.event) (λ x fits. fits.1.word) ▸ line_end)
     (λ x y ((((_, c), number), author), event) j. (c j, record { number = number j; author = author j; event = event j }))
 
-abbrev is_event : List ℕ → Bool
-is_event t = get_or t 0 0 == 67 && is_digit_at 5 t
-
 event_front : (x : ℕ × PrintedEvent) (r : List ℕ) → is_digit_at 5 (event_row.text x ++ r) ≡ true
 event_front (c, x) r = ap (is_digit_at 0) (joined (decimal x.number) (codes " PP") (octal 2 x.author) (codes " ") (event_text x.event) line_end r) ∙ decimal_front x.number _
   where
@@ -53,7 +49,7 @@ event_front (c, x) r = ap (is_digit_at 0) (joined (decimal x.number) (codes " PP
     joined d p o s e l r = simp append_assoc
 
 event_lines : Format (All IsEventLine)
-event_lines = many event_row is_event (λ _. true) (λ x r _. rw (event_front x r) refl) (λ x r _. refl)
+event_lines = many event_row (is_digit_at 5) (λ _. true) (λ x r _. rw (event_front x r) refl) (λ x r _. refl)
 
 -- what is shown of the events of each channel, and its lines
 abbrev events_on : {Z : Type 0} → Report Z → ℕ → List PrintedEvent
@@ -81,20 +77,10 @@ events_fit {Z} report fits = rows_fit IsEventLine (events_on report) (λ c low. 
     by_name c low true fits = λ k d within. (low, fits refl k d within)
     by_name c low false fits = All-nil (λ x. IsEventLine (c, x))
 
-events_same : {Y Z : Type 0} (one : Report Y) (other : Report Z) → rows (events_on one) (range_with_len 0 0o100) ≡ rows (events_on other) (range_with_len 0 0o100)
-    → (c : ℕ) → IsTrue (names_channel c) → printed_on c one ≡ printed_on c other
-events_same {Y} {Z} one other e c is = subst (λ b. (if b then printed_on c one else []) ≡ (if b then printed_on c other else [])) is (rows_tell (events_on one) (events_on other) e c (channel_fits c is))
-
 -- ---- the lines of workers
 
 end_tells : Tells HasEndNumber end_text
-end_tells Stopped Stopped r s _ _ e = (refl, ap (drop 7) e)
-end_tells (Fault m) (Fault n) r s one other e = let number = octal_tells 1 m n r s (omega (arith, one.last)) (omega (arith, other.last)) (ap (drop 6) e) in (ap Fault number.0, number.1)
-end_tells Steps Steps r s _ _ e = (refl, ap (drop 5) e)
-end_tells Patience Patience r s _ _ e = (refl, ap (drop 8) e)
-end_tells Memory Memory r s _ _ e = (refl, ap (drop 6) e)
-end_tells Worn Worn r s _ _ e = (refl, ap (drop 4) e)
-end_tells x y r s _ _ e = grind arith
+end_tells x y r s one other e = grind arith
 
 -- it fits its line, and a fault at its end is a numbered one
 abbrev IsEndLine : ℕ × ShownEnd → Type 0
@@ -140,13 +126,10 @@ all_shown named report = (rows (events_on report) (range_with_len 0 0o100), (nam
 abbrev whole_text : Piece (λ (x : Shown). All IsEventLine x.0 × (All IsEndLine x.1.0 × All IsChannelLine x.1.1))
 whole_text = field event_lines (λ x. x.0) (λ x fits. fits.0) ▷ field end_lines (λ x. x.1.0) (λ x fits. fits.1.0) ▷ field channel_lines (λ x. x.1.1) (λ x fits. fits.1.1)
 
-no_event : (x : ℕ × (Bool × Option ℕ)) (r : List ℕ) → is_event (channel_row.text x ++ r) ≡ false
-no_event x r = grind arith
-
 text_clear : (x : Shown) → whole_text.clear x [] ≡ true
 unfolding event_lines end_lines
 text_clear (es, (ps, cs)) =
-    rw (front_fails end_row.text is_event false (λ x r. refl) ps _ (front_fails channel_row.text is_event false no_event cs [] refl), front_fails channel_row.text (λ t. get_or t 0 0 == 80) false (λ x r. refl) cs [] refl) refl
+    rw (front_fails end_row.text (is_digit_at 5) false (λ x r. refl) ps _ (front_fails channel_row.text (is_digit_at 5) false (λ x r. grind arith) cs [] refl), front_fails channel_row.text (λ t. get_or t 0 0 == 80) false (λ x r. refl) cs [] refl) refl
 
 text_is : {Z : Type 0} (named : List Bool) (report : Report Z) → printed_report named report ≡ whole_text.text (all_shown named report)
 unfolding printed_report event_lines end_lines
@@ -159,7 +142,7 @@ report_tells named others one other fits also numbered too e =
     (events_fit one fits.events, (ends_fit named one fits numbered, channels_fit one.channels fits.channels))
     (events_fit other also.events, (ends_fit others other also too, channels_fit other.channels also.channels)) (sym (text_is named one) ∙ e ∙ text_is others other) in
     record {
-      events = events_same one other told.0.0;
+      events = λ c is. subst (λ b. (if b then printed_on c one else []) ≡ (if b then printed_on c other else [])) is (rows_tell (events_on one) (events_on other) told.0.0 c (channel_fits c is));
       workers = named_rows_tell named others (λ n. end_of n one) (λ n. end_of n other) told.0.1;
       channels = channels_same one.channels other.channels told.1;
     }

@@ -1,5 +1,5 @@
 -- The text of sessions tells what it shows.
-use Rattle.std.proofs.Common.{All, ◌≡◌, ◌∙◌, ℕ, ◌+◌, ◌%◌, ◌^◌, ◌<◌, Bool, true, false, List, [], ◌∷◌, ◌++◌, Option, None, Some, drop, refl, sym, ap, arith, append-nil, append_assoc, codes}
+use Rattle.std.proofs.Common.{All, ◌≡◌, ◌∙◌, ℕ, ◌+◌, ◌%◌, ◌^◌, ◌<◌, Bool, true, false, List, [], ◌∷◌, ◌++◌, Option, drop, refl, sym, ap, arith, append-nil, codes}
 use Rattle.std.specs.Prelude.{◌==◌, IfSome, get_or, is_some, not, slice_index_or, if◌then◌else◌}
 use Rattle.std.specs.List.{flat_map}
 use Rattle.std.proofs.lemmas.List.Elements.{All-head, All-tail}
@@ -10,10 +10,9 @@ use Rattle.pp_numbers.proofs.PpNoLemmas.{processor_fits}
 use Rattle.pp_machine.specs.MachineState.{MachineState}
 use Rattle.pp_text.specs.PrintedText.{line_end}
 use Rattle.pp_text.proofs.Format.{Format, Piece, decimal_front, decimals, field, flat_map_each, is_digit_at, many, mark, maybe, no_digit, octals, piece_tells, short_decimals, whole, within, ◌▷◌, ◌▸◌}
-use Rattle.pp_text.proofs.Telling.{octal_tells, parts_tell}
 use Rattle.pp_run.specs.StepCounts.{no_steps}
 use Rattle.pp_run.specs.declared.step_counts.StepCounts.{StepCounts}
-use Rattle.pp_sessions.specs.SessionsText.{channel_lines, counts_line, idle_line, lines_from, moment_text, next_number, one_word, session_line, sessions_text, shown_counts_line, tally_line, word_text, words_from}
+use Rattle.pp_sessions.specs.SessionsText.{channel_lines, counts_line, idle_line, lines_from, moment_text, next_number, session_line, sessions_text, shown_counts_line, tally_line, word_text, words_from}
 use Rattle.pp_sessions.specs.ShownStretch.{FitsItsCounts, FitsItsStretch, FitsMoment, ShownCounts, ShownStretch, counts_of, counts_shown, shown_from, stretches_shown, tally_shown}
 use Rattle.pp_sessions.specs.ShownStretch.ShownStretch.{Idle, InSession}
 use Rattle.pp_sessions.specs.Stretches.{stretches, tally_of, words_in}
@@ -43,10 +42,7 @@ abbrev no_blank : List ℕ → Bool
 no_blank r = not (get_or r 0 0 == 32)
 
 untaken_tells : (x y : Bool × Option ℕ) (r s : List ℕ) → IfSome x.1 IsWord → IfSome y.1 IsWord → no_blank r ≡ true → no_blank s ≡ true → word_text x.0 x.1 ++ r ≡ word_text y.0 y.1 ++ s → (x.1 ≡ y.1) × (r ≡ s)
-untaken_tells (b, None) (c, None) r s _ _ _ _ e = (refl, e)
-untaken_tells (true, Some v) (true, Some w) r s low small _ _ e = let word = octal_tells 4 v w r s low small (ap (drop 6) e) in (ap Some word.0, word.1)
-untaken_tells (false, Some v) (false, Some w) r s low small _ _ e = let word = octal_tells 4 v w r s low small (ap (drop 9) e) in (ap Some word.0, word.1)
-untaken_tells x y r s _ _ clear other e = grind arith
+untaken_tells x y r s low small clear other e = grind arith
 
 -- the word untaken, which a session that has ended has lost
 abbrev untaken : Piece (λ (x : Bool × Option ℕ). IfSome x.1 IsWord)
@@ -54,18 +50,10 @@ untaken = record { text = λ x. word_text x.0 x.1; clear = λ x r. no_blank r; S
 
 -- ---- words, eight a line
 
-abbrev word_row : ℕ → Format IsWord
-word_row count =
-    whole (mark (if count == 0 then codes "  " else codes " ") ▷ field (octals 4) (λ w. w) (λ w low. low) ▸ (if count == 7 then line_end else [])) (λ v w same. same.1)
-
 words_tell : (count : ℕ) (vs ws r s : List ℕ) → All IsWord vs → All IsWord ws → no_blank r ≡ true → no_blank s ≡ true → words_from count vs ++ r ≡ words_from count ws ++ s → (vs ≡ ws) × (r ≡ s)
-words_tell count [] [] r s _ _ _ _ e = (refl, (parts_tell _ _ r s refl e).1)
-words_tell count (v ∷ vs) (w ∷ ws) r s low small ends other e =
-    let next = (count + 1) % 8 in
-    let first = (word_row count).tells v w (words_from next vs ++ r) (words_from next ws ++ s) (All-head IsWord v vs low) (All-head IsWord w ws small) refl refl
-    (sym (append_assoc (one_word count v) (words_from next vs) r) ∙ e ∙ append_assoc (one_word count w) (words_from next ws) s) in
-    let more = words_tell next vs ws r s (All-tail IsWord v vs low) (All-tail IsWord w ws small) ends other first.1 in
-    ((λ j. first.0 j ∷ more.0 j), more.1)
+words_tell count [] [] r s _ _ _ _ e = grind arith
+words_tell count (v ∷ vs) (w ∷ ws) r s low small clear other e =
+    grind (arith, All-head IsWord v vs low, All-head IsWord w ws small, words_tell ((count + 1) % 8) vs ws r s (All-tail IsWord v vs low) (All-tail IsWord w ws small) clear other)
 words_tell count vs ws r s _ _ clear other e = grind arith
 
 abbrev words : Format (All IsWord)
