@@ -18,9 +18,9 @@ function pictureOf(/** @type {string} */ text) {
   const parsed = new DOMParser().parseFromString(text.replace(element, ''), 'image/svg+xml');
   const host = make('div', { role: 'img', ariaLabel: 'Drawing of the run' });
   const sheet = new CSSStyleSheet();
-  sheet.replaceSync(`${style.replaceAll(':root', ':host')}
-    @media(prefers-color-scheme:light){:host{--held:#b8730b;--lost:#8e1b10}} /* as greys too */
-    svg{display:block} g>:last-child{paint-order:stroke;stroke:var(--ground);stroke-width:5px}
+  sheet.replaceSync(`${style.replaceAll(':root', ':host')} svg{display:block}
+    rect.h{clip-path:inset(50% 0 0)} rect.l{clip-path:polygon(0 0,100% 70%,100% 100%,0 100%)}
+    g>:last-child{paint-order:stroke;stroke:var(--ground);stroke-width:5px}
     @media print{svg{width:100%;height:auto}}`);
   host.attachShadow({ mode: 'open' }).append(document.adoptNode(parsed.documentElement));
   host.shadowRoot.adoptedStyleSheets = [sheet];

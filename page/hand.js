@@ -92,11 +92,10 @@ function showHand(/** @type {Answer} */ { status, output }) {
     button.title = `One step, key ${button.ariaKeyShortcuts}\n${line}`;
     button.className = isHeld(line) ? 'held' : isRunning(line) ? '' : 'rest';
   }
-  const length = Math.min(turn(), list.length), left = list.length - length, turns = turn() - length;
-  const more = left ? `${left} more after the cursor` : '';
-  $('then').textContent = turns ? `then ${turns} turns` : more;
+  const turns = turn() - list.length;
+  $('then').textContent = turns < 0 ? `${-turns} more follow` : turns ? `then ${turns} turns` : '';
   if (document.activeElement === $('order')) return;
-  $('order').value = orderText(list, length);
+  $('order').value = orderText(list, turn());
   $('order').ariaInvalid = 'false';
 }
 
@@ -105,7 +104,7 @@ let ending = { deck, how: '', from: NaN, every: 0 };
 
 /** Finds how the run by turns ends, and says whether the run shown is cut before that. */
 async function findEnding() {
-  const asked = deck, { output } = await ask(VIEWS.Ends.words(), back);
+  const asked = deck, { output } = await ask(endsWords(), back);
   const [, how = '', from = 'none', every = 0] =
     /^(.*?) (?:FROM|AT) (\d+)(?: EVERY (\d+))?/.exec(output) ?? [];
   if (deck !== asked) return;

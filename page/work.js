@@ -27,13 +27,12 @@ function engine() {
     waiting.shift()?.(it);
     if (!waiting.length) showWork();
   };
-  const give = () => worker.postMessage({ module: library });
   const start = () => {
     source ||= URL.createObjectURL(new Blob([WORKER], { type: 'text/javascript' }));
     const it = worker = new Worker(source);
     it.onmessage = ({ data }) => { if (it === worker) answer(data); };
     it.onerror = e => stop(e.message);
-    if (library) give();
+    it.postMessage({ module: library });
   };
   const stop = (error = 'stopped') => {
     worker.terminate();
@@ -46,7 +45,7 @@ function engine() {
     return latest = new Promise(answered => { waiting.push(answered); });
   };
   const worksFor = () => (waiting.length ? performance.now() - since : 0);
-  return { start, give, stop, run, worksFor, free: () => latest };
+  return { start, stop, run, worksFor, free: () => latest };
 }
 
 /** One for what goes with the turn, one for what is asked of whole runs, and may take long. */
