@@ -1,15 +1,14 @@
 // ---- showing, and what a reader does
 
-let shows = 0, frame = 0;
+let shows = 0, choosing = 0, /** @type {Promise<void> | null} */ next = null;
 
 /** Shows all of it, once the worker is free; what has been at work for long is not waited for. */
 function showSoon() {
   $('at').textContent = turn();
   moveCursor();
   stopWork([front]);
-  frame ||= requestAnimationFrame(async () => {
-    await front.free();
-    frame = 0;
+  next ||= Promise.resolve(front.free()).then(() => {
+    next = null;
     show();
   });
 }
@@ -105,8 +104,12 @@ const DOES = {
       if (e.pointerType && e.target.type === 'radio') $('text').focus({ preventScroll: true });
     },
   },
-  change: { file: () => openFile($('file').files[0]), example: () => load($('example').value),
-    last: takeLast, order: typeOrder, processors: renew, more: showSoon, tabs: () => choose() },
+  change: { file: () => openFile($('file').files[0]), last: takeLast, order: typeOrder,
+    processors: renew, more: showSoon, tabs: () => choose(),
+    example: (/** @type {any} */ { target: it }) => { // by keys once its name is typed
+      clearTimeout(choosing);
+      choosing = setTimeout(load, it.matches(':focus-visible') ? 700 : 0, it.value);
+    } },
   input: { deck: edited, turn: showSoon, trace: showSoon, opened: showSoon,
     pp: showSoon, states: showSoon, left: showSoon, right: showSoon },
   scroll: { deck: () => showRows('deck'), trace: () => showRows('trace'),

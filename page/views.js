@@ -8,7 +8,6 @@ const stepsWords = () => (typed().length ? overRun('steps', last())
   : overRun('steps', Math.min(last(), stepsFrom() + STEPS_SHOWN), '--from', `${stepsFrom()}`));
 const endsWords = () => ['ends', '--turns', `${LAST_TURN}`, ...machineWords()];
 const statesWords = () => ['--states', $('states').value, ...machineWords()];
-const endingsWords = () => ['orders', ...statesWords()];
 /** The words that are typed behind a command; a quote keeps blanks. */
 const typed = () => [...$('more').value.matchAll(/'([^']*)'|(\S+)/g)].map(it => it[1] ?? it[2]);
 const /** @type {Record<string, View>} */ VIEWS = {
@@ -19,7 +18,8 @@ const /** @type {Record<string, View>} */ VIEWS = {
   Sessions: { words: () => overRun('sessions', last()), by: back },
   Races: { words: () => overRun('races', last()), by: back, also: endsWords },
   Ends: { words: endsWords, by: back },
-  Endings: { words: endingsWords, by: back, paint: paintEndings, keeps: ['states'] },
+  Endings: { words: () => ['orders', ...statesWords()], by: back, paint: paintEndings,
+    keeps: ['states'] },
   Compare: { before: () => Promise.all([findEndings(), findEnding()]),
     words: () => sideWords('right'), paint: paintCompared, keeps: ['states', 'left', 'right'] },
   Test: { words: () => wordsOver([], 'test', last()), by: back, paint: paintTest, keeps: ['states'] },
@@ -54,9 +54,8 @@ let painted = { text: '', from: -1, lines: linesOf('') };
 /** Shows the lines of a text, at most so many round the turn; what lies after it is grey. A line
  * that leads somewhere is a button. What is shown already stays, and keeps the focus. */
 function paintLines(/** @type {string} */ text) {
-  const isShown = painted.text === text;
-  const lines = isShown ? painted.lines : linesOf(text), length = lines.length;
-  const next = lines.findIndex(({ at }) => at >= turn());
+  const isShown = painted.text === text, lines = isShown ? painted.lines : linesOf(text);
+  const { length } = lines, next = lines.findIndex(({ at }) => at >= turn());
   const middle = (next < 0 ? length : next) - ROWS_BEFORE;
   const from = length > MOST_ROWS ? Math.max(0, middle - middle % ROWS_BEFORE) : 0;
   if (!isShown || painted.from !== from) {
@@ -136,7 +135,7 @@ let /** @type {{ order: number[], text: string }[]} */ endings = [];
 
 /** Finds the endings, lists them as what can be compared, and says how many there are. */
 async function findEndings() {
-  const { output } = await ask(endingsWords(), back);
+  const { output } = await ask(VIEWS.Endings.words(0), back);
   const [found, ...texts] = output.split(/^(?=ORDER)/m);
   endings = texts.slice(0, MOST_ENDINGS).map(text =>
     ({ order: orderOf(text.split('\n', 1)[0].slice(6)) ?? [], text }));
@@ -148,8 +147,7 @@ async function findEndings() {
   return found.trimEnd();
 }
 
-/** Shows the endings, and which words each order loses: a click on an order loads it, and another
- * lays it beside the turn order.
+/** Shows the endings, each with an order, which a click loads, and the words that this order loses.
  * @type {Paint} */
 async function paintEndings({ output }, isOld) {
   const found = await findEndings();

@@ -51,9 +51,8 @@ function engine() {
 /** One for what goes with the turn, one for what is asked of whole runs, and may take long. */
 const front = engine(), back = engine();
 
-const showWork = () => {
-  $('busy').hidden = Math.max(front.worksFor(), back.worksFor()) < SIGN_AFTER - 10;
-};
+const showWork = () => Object.assign($('busy'),
+  { hidden: Math.max(front.worksFor(), back.worksFor()) < SIGN_AFTER - 10 });
 
 /** Stops these workers, if they have been at work for so long. */
 const stopWork = (engines = [front, back], longest = PATIENCE) =>

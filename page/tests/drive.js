@@ -412,25 +412,28 @@ async function decks() {
 }
 
 /** A newcomer finds the word that lost_word loses, an order that keeps it, and a link that shows it:
- * by the names on the page, in five clicks. */
+ * by the names on the page, with keys for the deck and five clicks. */
 async function newcomer() {
   await show();
-  const named = async (selector, name) => {
+  const began = Date.now(), named = async (selector, name) => {
     await value(`[...document.querySelectorAll('${selector}')]
       .find(it => it.textContent.trim() === '${name}').setAttribute('data-named', '')`);
     await click(`${selector}[data-named]`);
     await value(`document.querySelector('[data-named]')?.removeAttribute('data-named')`);
   };
   const lost = `$('picture').shadowRoot.querySelector('rect.l[y]')`;
-  await pick('example', 'lost_word');
-  await becomes('the drawing has a lost word', lost);
+  for (const key of ['Tab', 'Tab', ...'lost']) await press(key);
+  await becomes('a deck is chosen by its name, and the drawing has a lost word', `${lost}
+    && $('example').value === 'lost_word'`);
   await named('#views label', 'Endings');
-  await becomes('there is another ending', `$('text').querySelectorAll('.ending').length === 2`);
+  await becomes('one of two endings loses it', `$('text').querySelectorAll('.ending').length === 2
+    && $('text').textContent.match(/loses/g).length === 1`);
   await named('#text button', '2  ORDER 0:3,1:5,0:5');
   await becomes('in its order no word is lost', `turn() === 13 && !${lost}`);
   await named('#views label', 'State');
   await becomes('processor 1 has it', `$('text').textContent.includes('PP01 P=0204 A=000007')`);
   await named('header button', 'Link');
+  console.log(`a newcomer's keys and clicks: ${((Date.now() - began) / 1000).toFixed(1)} s`);
   const words = Object.fromEntries(new URLSearchParams((await value(`location.hash`)).slice(1)));
   await show(words);
   await becomes('a link shows it', `$('order').value === '0:3,1:5,0:5' && turn() === 13 && view() === 'State'
