@@ -99,22 +99,19 @@ function showHand(/** @type {Answer} */ { status, output }) {
   $('order').ariaInvalid = 'false';
 }
 
-/** How the run by turns of a deck ends, from which turn on, and its period; once it is known. */
-let ending = { deck, how: '', from: NaN, every: 0 };
+/** The turn at which the run by turns has come to its end, as far as that is known. */
+let endTurn = LAST_TURN;
 
 /** Finds how the run by turns ends, and says whether the run shown is cut before that. */
 async function findEnding() {
   const asked = deck, { output } = await ask(endsWords(), back);
-  const [, how = '', from = 'none', every = 0] =
+  const [, how = '', from = LAST_TURN, every = 0] =
     /^(.*?) (?:FROM|AT) (\d+)(?: EVERY (\d+))?/.exec(output) ?? [];
   if (deck !== asked) return;
-  ending = { deck, how, from: Number(from), every: Number(every) };
-  const to = ending.from + ending.every, isCut = last() < to, goesOn = how === 'GOING ON';
+  endTurn = Number(from);
+  const to = endTurn + Number(every), isCut = last() < to, goesOn = how === 'GOING ON';
   $('cut').hidden = list.length || !how;
   $('cut').textContent = goesOn ? 'goes on' : isCut ? `cut: still running. Run to the end, ${to}`
-    : `${how.toLowerCase()} from ${ending.from}${every ? ` every ${every}` : ''}`;
-  $('cut').onclick = () => (goesOn ? choose('Ends') : go(isCut ? to : ending.from));
+    : `${how.toLowerCase()} from ${endTurn}${every ? ` every ${every}` : ''}`;
+  $('cut').onclick = () => (goesOn ? choose('Ends') : go(isCut ? to : endTurn));
 }
-
-/** The turn at which the run by turns has come to its end, as far as that is known. */
-const endTurn = () => (ending.deck === deck && ending.from >= 0 ? ending.from : LAST_TURN);

@@ -46,6 +46,7 @@ function renew() {
   forget();
   drawn = null;
   endings = [];
+  endTurn = LAST_TURN;
   stopWork();
   for (const it of $('pp').options) it.hidden = !numbers().includes(parseInt(it.value, 8));
   if (!$('pp').value || $('pp').selectedOptions[0].hidden) $('pp').value = 0;
@@ -62,11 +63,14 @@ async function takeLast() {
   say('');
   go(wasAtEnd ? last() : turn());
   if (wasAtEnd) await findEnding();
-  if (wasAtEnd && !list.length && turn() === last()) go(Math.min(endTurn(), last()));
+  if (wasAtEnd && !list.length && turn() === last()) go(Math.min(endTurn, last()));
 }
 
-const takeEvents = () => ask(overRun('barrel', last()), back)
-  .then(({ output }) => { $('trace').value = output; showSoon(); });
+/** Takes the first events of the run, as many whole lines as the address has room for. */
+const takeEvents = () => ask(overRun('barrel', last()), back).then(({ output }) => {
+  $('trace').value = output.slice(0, MOST_IN_ADDRESS).replace(/.*$/, '');
+  showSoon();
+});
 
 function choose(/** @type {string} */ name = view()) {
   $('views').elements.view.value = name;

@@ -2,18 +2,17 @@
 
 const MOST_ROWS = 2000, ROWS_BEFORE = 500, STEPS_SHOWN = 600, MOST_ENDINGS = 200;
 
-const stepsFrom = () => Math.max(0, Math.floor((turn() - 100) / 400) * 400);
-/** The steps round the turn, or those of the whole run that what is typed chooses. */
-const stepsWords = () => (typed().length ? overRun('steps', last())
-  : overRun('steps', Math.min(last(), stepsFrom() + STEPS_SHOWN), '--from', `${stepsFrom()}`));
+// The steps round the turn, or all, if what is typed chooses among them.
+const stepsFrom = () => (typed().length ? 0 : Math.max(0, Math.floor((turn() - 100) / 400) * 400));
+const stepsTo = () => (typed().length ? last() : Math.min(last(), stepsFrom() + STEPS_SHOWN));
 const endsWords = () => ['ends', '--turns', `${LAST_TURN}`, ...machineWords()];
 const statesWords = () => ['--states', $('states').value, ...machineWords()];
 /** The words that are typed behind a command; a quote keeps blanks. */
 const typed = () => [...$('more').value.matchAll(/'([^']*)'|(\S+)/g)].map(it => it[1] ?? it[2]);
 const /** @type {Record<string, View>} */ VIEWS = {
   State: { words: t => overRun('state', t), paint: paintMarked },
-  Steps: { words: stepsWords, paint: ({ output }) => paintLines(output
-    || `No step ${typed().length ? 'like that' : `from turn ${stepsFrom()} on`}.\n`) },
+  Steps: { words: () => overRun('steps', stepsTo(), '--from', `${stepsFrom()}`),
+    paint: ({ output }) => paintLines(output || `No step from turn ${stepsFrom()} on.\n`) },
   Events: { words: () => overRun('barrel', last()), by: back },
   Sessions: { words: () => overRun('sessions', last()), by: back },
   Races: { words: () => overRun('races', last()), by: back, also: endsWords },
@@ -179,7 +178,7 @@ const orderButton = (text = '', /** @type {number[]} */ order) => buttonOf(text,
 function sideWords(/** @type {string} */ id, command = 'state') {
   const name = $(id).value, order = endings[parseInt(name.slice(7), 10) - 1]?.order;
   const [steps, to] = order ? [order, order.length]
-    : name === TURN_ORDER ? [[], endTurn()] : [list, turn()];
+    : name === TURN_ORDER ? [[], endTurn] : [list, turn()];
   const window = ['--from', `${Math.max(0, to - MOST_DRAWN)}`, '--to', `${to}`];
   return wordsOver(steps, command, to, ...(command === 'draw' ? window : []));
 }

@@ -155,7 +155,7 @@ async function options() {
   expect('another view has none', await value(`$('more').value === '' && $('more').offsetWidth > 0`));
   await given('Steps', "--pp 1 --where 'CH05 TAK'", '000061 PP01 0203 7005');
   expect('the command has them', await value(`$('words').textContent
-    === "ppsim steps --turns 80 --pp 1 --where 'CH05 TAK'"`));
+    === "ppsim steps --turns 80 --from 0 --pp 1 --where 'CH05 TAK'"`));
   await reload();
   await becomes('so has the address', `$('more').value === "--pp 1 --where 'CH05 TAK'"
     && $('text').textContent.startsWith('000061 PP01')`);
