@@ -62,14 +62,14 @@ async function findStep(condition = '', from = 0, end = LAST_TURN) {
 async function runTo(/** @type {string} */ condition) {
   const start = turn(), asked = deck;
   $('target').value = condition;
-  if (!condition) return say('Say where to: CH05, an event of channel 5; PP00 P=0105, a place.');
   const next = await findStep(condition, start), isNext = next.fault || next.at >= 0;
   const { at, fault } = isNext ? next : await findStep(condition, 0, start), none = !(at >= 0);
-  const isAtLoad = none && (await ask(overRun('state', 0))).output.includes(`${condition} `);
+  const load = none && !fault ? (await ask(overRun('state', 0))).output : '';
   if (deck !== asked || turn() !== start) return;
+  const isAtLoad = load.includes(`${condition} `), how = isAtLoad ? ': at the load.'
+    : none ? ' does not come.' : `: after turn ${at}${isNext ? '' : ', the first of the run'}.`;
   if (!none || isAtLoad) go(none ? 0 : at + 1);
-  say(fault || `${condition}${isAtLoad ? ': at the load.' : none ? ' does not come.'
-    : `: after turn ${at}${isNext ? '' : ', the first of the run'}.`}`);
+  say(fault === 'number out of range' ? $('target').title : fault || `${condition}${how}`);
 }
 
 /** Plays on from the cursor, or pauses. */

@@ -308,6 +308,8 @@ async function hand() {
   await becomes('a run to an event', `turn() === 22`);
   await value(`$('run').click()`);
   await becomes('and to the next one', `turn() > 22`);
+  await value(`$('target').value = 'LUST'; $('run').click()`);
+  await becomes('what is no condition is said to be none', `$('ran').textContent.startsWith('Say where to')`);
   const times = await value(`(async () => {
     load('handoff', { ...EXAMPLES.bubble_sort, order: '', turns: 0 });
     list = Array.from({ length: 10000 }, (_, n) => n % 3 ? 0 : 1);
