@@ -13,10 +13,10 @@ function drawingWords() {
 
 /** A drawing as an element. Its text is the only one that is read as markup: it is proved
  * well-formed, and has no text of a deck in it. */
-function pictureOf(/** @type {string} */ text) {
+function pictureOf(/** @type {string} */ text, ariaLabel = 'Drawing of the run') {
   const [element, style] = /<style>(.*?)<\/style>/s.exec(text) ?? ['', ''];
   const parsed = new DOMParser().parseFromString(text.replace(element, ''), 'image/svg+xml');
-  const host = make('div', { role: 'img', ariaLabel: 'Drawing of the run' });
+  const host = make('div', { role: 'img', ariaLabel });
   const sheet = new CSSStyleSheet();
   sheet.replaceSync(`${style.replaceAll(':root', ':host')} svg{display:block}
     rect.h{clip-path:inset(50% 0 0)} rect.l{clip-path:polygon(0 0,100% 70%,100% 100%,0 100%)}

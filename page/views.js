@@ -188,10 +188,10 @@ async function paintCompared(_, isOld) {
   const words = ['state', 'draw'].flatMap(it => [sideWords('left', it), sideWords('right', it)]);
   const texts = (await Promise.all(words.map(it => ask(it)))).map(it => it.output);
   if (isOld()) return;
-  const [left, right, ...pictures] = texts;
+  const [left, right, one, other] = texts;
   paintParts(`Compare ${texts}`, () => [
     make('p', { textContent: left === right ? 'The same.' : 'What differs is marked.' }),
-    make('div', { className: 'two' }, ...pictures.map(pictureOf),
+    make('div', { className: 'two' }, pictureOf(one, 'Left run'), pictureOf(other, 'Right run'),
       make('pre', { ariaLabel: 'Left' }, ...marked(left, right)),
       make('pre', { ariaLabel: 'Right' }, ...marked(right, left)))]);
 }

@@ -360,6 +360,8 @@ async function endings() {
     && $('right').value === 'ending 2' && $('text').textContent === ${JSON.stringify(text)}`);
   expect('from their beginnings on', await value(`[...$('text').querySelectorAll('[role=img]')]
     .every(it => it.shadowRoot.querySelector('title').textContent.includes('turns 0 to '))`));
+  expect('each drawing with its name', await value(`[...$('text').querySelectorAll('[role=img]')]
+    .map(it => it.ariaLabel).join() === 'Left run,Right run'`));
   await pick('right', 'ending 1');
   await becomes('that of the turn order is the same', `$('text').textContent.startsWith('The same')`);
   await show({ example: 'lost_word', view: 'Endings' });
