@@ -133,6 +133,11 @@ async function views() {
   expect('only the machine\'s processors are offered', await value(`[...$('pp').options].filter(it => !it.hidden).length === 10`));
   await show({ example: 'handoff', view: 'Check' });
   await becomes('without a trace it is the run\'s', `$('text').textContent.startsWith('lawful: 3 events on')`);
+  const ringing = 'PP 0\n0100 7405 7205 0376\nSTART 0100\nPP 1\n0100 7005 0376\nSTART 0100\n';
+  await show({ deck: ringing, turns: 999999, view: 'Check' });
+  await becomes('of a long run it has the first events', `$('text').textContent.startsWith('lawful: ')
+    && $('trace').value.length > 32000 && $('trace').value.length <= 32768
+    && $('trace').value.endsWith('\\n') && $('kept').textContent === ''`);
   await show({ deck: 'PP 0\n0100 1401 7005 0300\nSTART 0100\n', view: 'Races' });
   await becomes('what is the same in every order may yet be stuck',
     `$('text').textContent.startsWith('SAME IN EVERY ORDER\\n\\nBy turns:\\nSTUCK FROM')`);
