@@ -1,6 +1,6 @@
 // ---- the drawing
 
-const MOST_DRAWN = 2000;
+const MOST_DRAWN = 1000;
 let /** @type {Drawn | null} */ drawn = null;
 
 /** The command that draws the part of the run in which the turn is. */
