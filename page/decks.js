@@ -54,7 +54,6 @@ function listDecks() {
 function load(/** @type {string} */ choice, /** @type {Run} */ run = decks()[choice]) {
   const text = run.deck, editor = $('deck'), focused = document.activeElement;
   keepMine();
-  chosen = choice;
   isLoading = true;
   const length = Math.max(text.length, editor.value.length);
   if (!editor.value || length > MOST_INSERTED) editor.value = text;
@@ -67,18 +66,20 @@ function load(/** @type {string} */ choice, /** @type {Run} */ run = decks()[cho
     /** @type {HTMLElement | null} */ (focused)?.focus({ preventScroll: true });
   }
   isLoading = false;
-  takeRun(run);
+  takeRun(choice, run);
 }
 
-/** Takes the machine, the list, the length, the turn and the view of the run of the deck chosen. */
-function takeRun(/** @type {Run} */ { processors, order = '', turns, turn = turns, view }) {
+/** Takes the machine, the list, the length, the turn and the view of the run of a deck.
+ * @type {(choice: string, run: Run) => void} */
+function takeRun(choice, { processors, order = '', turns, turn = turns, view }) {
+  chosen = choice;
   $('processors').value = String(processors) === '20' ? 20 : 10;
   list = orderOf(order) ?? [];
   setLast(Math.trunc(Number(turns)) || 0);
   $('turn').value = Math.trunc(Number(turn)) || 0;
-  if (view) pickView(view);
   listDecks();
   renew();
+  if (view) choose(view);
 }
 
 /** The text in the editor is another; by undo it may be that of another deck. */
@@ -86,10 +87,7 @@ function edited(/** @type {InputEvent} */ e) {
   if (isLoading) return;
   const isUndo = e.inputType?.startsWith('history'), all = decks();
   const same = isUndo && Object.keys(all).find(it => all[it].deck === $('deck').value);
-  if (same && same !== chosen) {
-    chosen = same;
-    return takeRun(all[same]);
-  }
+  if (same && same !== chosen) return takeRun(same, all[same]);
   if (!mine()) chosen = adopt(runShown(), `my ${chosen}`);
   listDecks();
   renew();
@@ -106,19 +104,20 @@ function saveFile() {
   make('a', { href, download: `${(mine()?.name ?? chosen).replaceAll(' ', '_')}.deck` }).click();
 }
 
-/** The address keeps the example, or else the deck itself, and the run, the turn and the view. What
- * is too long for it the storage keeps, under a number that the address has. */
+/** The address keeps the example, or else the deck itself, and the run, the turn, the view and its
+ * controls. What is too long for it the storage keeps, under a number that the address has. */
 function remember() {
   const { deck, order, ...run } = runShown(), it = mine(), isStored = keepMine();
-  const isLong = deck.length + order.length > MOST_IN_ADDRESS, opened = $('opened').value;
-  const pp = $('pp').value, states = $('states').value;
+  const isLong = deck.length + order.length > MOST_IN_ADDRESS;
+  const keeps = ['more', ...VIEWS[run.view].keeps ?? []].map($).filter(it => it.value);
+  const fits = keeps.filter(it => it.value.length <= MOST_IN_ADDRESS);
   const words = new URLSearchParams(/** @type {any} */ ({
     ...(!it ? { example: chosen } : isLong ? { kept: it.id } : { deck }), ...run,
-    ...(order && !isLong && { order }), ...(opened && { opened }), ...(pp !== '0' && { pp }),
-    ...(run.view === 'Endings' && { states }) }));
+    ...(order && !isLong && { order }), ...Object.fromEntries(fits.map(it => [it.id, it.value])) }));
   history.replaceState(null, '', isLong && it && !isStored ? '#' : `#${words}`);
-  $('kept').textContent = !isStored ? 'This browser does not keep the deck: save it.' : !isLong ? ''
-    : `Too long for the address: to share it, ${it ? 'save the deck' : 'copy the order'}.`;
+  const what = !isLong ? 'copy the trace' : it ? 'save the deck' : 'copy the order';
+  $('kept').textContent = !isStored ? 'This browser does not keep the deck: save it.'
+    : isLong || fits.length < keeps.length ? `Too long for the address: to share it, ${what}.` : '';
 }
 
 /** Shows what the address says, or else the first example. */
@@ -127,11 +126,11 @@ function recall() {
   const example = Object.hasOwn(EXAMPLES, given.example) ? given.example : Object.keys(EXAMPLES)[0];
   const stored = own.find(it => it.id === given.kept);
   const run = /** @type {any} */ ({ processors: 10, turns: 200, ...given });
-  $('opened').value = given.opened ?? '';
-  if (given.states) $('states').value = given.states;
-  $('pp').value = given.pp ?? 0;
+  for (const id of ['opened', 'trace', 'states', 'pp']) $(id).value = given[id] ?? $(id).defaultValue;
+  for (const id of ['left', 'right']) $(id).replaceChildren(new Option(given[id] ?? ''));
   if (stored) load(OWN + stored.id, { ...stored, ...given, deck: stored.deck });
   else if ('deck' in given) load(adopt(run), run);
   else load(example, { ...EXAMPLES[example], ...given, deck: EXAMPLES[example].deck });
+  $('more').value = given.more ?? '';
   if (given.kept && !stored) say('The deck of this address is not in this browser: open its file.');
 }

@@ -1,6 +1,6 @@
 // ---- the drawing
 
-const MOST_DRAWN = 2000;
+const MOST_DRAWN = 1000;
 let /** @type {Drawn | null} */ drawn = null;
 
 /** The command that draws the part of the run in which the turn is. */
@@ -13,14 +13,14 @@ function drawingWords() {
 
 /** A drawing as an element. Its text is the only one that is read as markup: it is proved
  * well-formed, and has no text of a deck in it. */
-function pictureOf(/** @type {string} */ text) {
+function pictureOf(/** @type {string} */ text, ariaLabel = 'Drawing of the run') {
   const [element, style] = /<style>(.*?)<\/style>/s.exec(text) ?? ['', ''];
   const parsed = new DOMParser().parseFromString(text.replace(element, ''), 'image/svg+xml');
-  const host = make('div', { role: 'img', ariaLabel: 'Drawing of the run' });
+  const host = make('div', { role: 'img', ariaLabel });
   const sheet = new CSSStyleSheet();
-  sheet.replaceSync(`${style.replaceAll(':root', ':host')}
-    @media(prefers-color-scheme:light){:host{--held:#b8730b;--lost:#8e1b10}} /* as greys too */
-    svg{display:block} g>:last-child{paint-order:stroke;stroke:var(--ground);stroke-width:5px}
+  sheet.replaceSync(`${style.replaceAll(':root', ':host')} svg{display:block}
+    rect.h{clip-path:inset(50% 0 0)} rect.l{clip-path:polygon(0 0,100% 70%,100% 100%,0 100%)}
+    g>:last-child{paint-order:stroke;stroke:var(--ground);stroke-width:5px}
     @media print{svg{width:100%;height:auto}}`);
   host.attachShadow({ mode: 'open' }).append(document.adoptNode(parsed.documentElement));
   host.shadowRoot.adoptedStyleSheets = [sheet];

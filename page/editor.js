@@ -34,18 +34,15 @@ async function explain(/** @type {Answer} */ state, /** @type {Answer} */ { stat
   }
 }
 
-/** The line that sets each place, as `PP00 P=0105`. */
+/** The line that sets each place, as `PP00 P=0105`. Of other lines the place is no number. */
 function placesOf(/** @type {string[]} */ lines) {
-  /** @type {Map<string, number>} */
-  const lineOf = new Map();
+  const /** @type {Map<string, number>} */ lineOf = new Map();
   let section = '';
   for (const [n, line] of lines.entries()) {
     const [first = '', ...words] = line.replace(/(^|\s)\*.*/, '').trim().split(/\s+/);
-    const isPlace = /^[0-7]{1,4}$/.test(first), from = parseInt(first, 8);
     if (first === 'PP') section = words[0]?.padStart(2, '0') ?? '';
-    for (const k of isPlace ? words.keys() : []) {
-      lineOf.set(`PP${section} P=${(from + k).toString(8).padStart(4, '0')}`, n);
-    }
+    const placeOf = (k = 0) => (parseInt(first, 8) + k).toString(8).padStart(4, '0');
+    for (const k of words.keys()) lineOf.set(`PP${section} P=${placeOf(k)}`, n);
   }
   return lineOf;
 }

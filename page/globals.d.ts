@@ -12,10 +12,12 @@ type Run = { deck: string, processors: number, turns: number, turn?: number, ord
 type Own = Run & { id: string, name: string };
 /** Shows an answer, unless by then another is to be shown. */
 type Paint = (answer: Answer, isOld: () => boolean) => unknown;
-/** A view: the words of its command, its worker if it is of the whole run, what the command reads if
- * not the deck, and how its answer is shown, if not line by line. */
-type View = { words: () => string[], by?: ReturnType<typeof engine>, input?: () => Uint8Array,
-  paint?: Paint };
+/** A view: the words of its command at a turn; its worker if it is of the whole run; what has to be
+ * known before; what the command reads if not the deck; the words of one whose text stands below; how
+ * its answer is shown, if not line by line; and which of its controls the address keeps. */
+type View = { words: (turn: number) => string[], by?: ReturnType<typeof engine>,
+  before?: () => Promise<unknown>, input?: () => Uint8Array, also?: () => string[], paint?: Paint,
+  keeps?: string[] };
 /** The drawing that is shown: the turns it has, how wide one is, and what stays in sight. */
 type Drawn = { answer: Answer, from: number, to: number, width: number, names: Element[],
   legend: Element };

@@ -62,14 +62,14 @@ async function findStep(condition = '', from = 0, end = LAST_TURN) {
 async function runTo(/** @type {string} */ condition) {
   const start = turn(), asked = deck;
   $('target').value = condition;
-  if (!condition) return say('Say where to: CH05, an event of channel 5; PP00 P=0105, a place.');
   const next = await findStep(condition, start), isNext = next.fault || next.at >= 0;
   const { at, fault } = isNext ? next : await findStep(condition, 0, start), none = !(at >= 0);
-  const isAtLoad = none && (await ask(overRun('state', 0))).output.includes(`${condition} `);
+  const load = none && !fault ? (await ask(overRun('state', 0))).output : '';
   if (deck !== asked || turn() !== start) return;
+  const isAtLoad = load.includes(`${condition} `), how = isAtLoad ? ': at the load.'
+    : none ? ' does not come.' : `: after turn ${at}${isNext ? '' : ', the first of the run'}.`;
   if (!none || isAtLoad) go(none ? 0 : at + 1);
-  say(fault || `${condition}${isAtLoad ? ': at the load.' : none ? ' does not come.'
-    : `: after turn ${at}${isNext ? '' : ', the first of the run'}.`}`);
+  say(fault === 'number out of range' ? $('target').title : fault || `${condition}${how}`);
 }
 
 /** Plays on from the cursor, or pauses. */
@@ -92,30 +92,26 @@ function showHand(/** @type {Answer} */ { status, output }) {
     button.title = `One step, key ${button.ariaKeyShortcuts}\n${line}`;
     button.className = isHeld(line) ? 'held' : isRunning(line) ? '' : 'rest';
   }
-  const length = Math.min(turn(), list.length), left = list.length - length, turns = turn() - length;
-  const more = left ? `${left} more after the cursor` : '';
-  $('then').textContent = turns ? `then ${turns} turns` : more;
+  const turns = turn() - list.length;
+  $('then').textContent = turns < 0 ? `${-turns} more follow` : turns ? `then ${turns} turns` : '';
   if (document.activeElement === $('order')) return;
-  $('order').value = orderText(list, length);
+  $('order').value = orderText(list, turn());
   $('order').ariaInvalid = 'false';
 }
 
-/** How the run by turns of a deck ends, from which turn on, and its period; once it is known. */
-let ending = { deck, how: '', from: NaN, every: 0 };
+/** The turn at which the run by turns has come to its end, as far as that is known. */
+let endTurn = LAST_TURN;
 
 /** Finds how the run by turns ends, and says whether the run shown is cut before that. */
 async function findEnding() {
-  const asked = deck, { output } = await ask(VIEWS.Ends.words(), back);
-  const [, how = '', from = 'none', every = 0] =
+  const asked = deck, { output } = await ask(endsWords(), back);
+  const [, how = '', from = LAST_TURN, every = 0] =
     /^(.*?) (?:FROM|AT) (\d+)(?: EVERY (\d+))?/.exec(output) ?? [];
   if (deck !== asked) return;
-  ending = { deck, how, from: Number(from), every: Number(every) };
-  const to = ending.from + ending.every, isCut = last() < to, goesOn = how === 'GOING ON';
+  endTurn = Number(from);
+  const to = endTurn + Number(every), isCut = last() < to, goesOn = how === 'GOING ON';
   $('cut').hidden = list.length || !how;
   $('cut').textContent = goesOn ? 'goes on' : isCut ? `cut: still running. Run to the end, ${to}`
-    : `${how.toLowerCase()} from ${ending.from}${every ? ` every ${every}` : ''}`;
-  $('cut').onclick = () => (goesOn ? choose('Ends') : go(isCut ? to : ending.from));
+    : `${how.toLowerCase()} from ${endTurn}${every ? ` every ${every}` : ''}`;
+  $('cut').onclick = () => (goesOn ? choose('Ends') : go(isCut ? to : endTurn));
 }
-
-/** The turn at which the run by turns has come to its end, as far as that is known. */
-const endTurn = () => (ending.deck === deck && ending.from >= 0 ? ending.from : LAST_TURN);

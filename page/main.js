@@ -1,42 +1,43 @@
 // ---- showing, and what a reader does
 
-let shows = 0, frame = 0;
+let shows = 0, choosing = 0, /** @type {Promise<void> | null} */ next = null;
 
 /** Shows all of it, once the worker is free; what has been at work for long is not waited for. */
 function showSoon() {
   $('at').textContent = turn();
   moveCursor();
   stopWork([front]);
-  frame ||= requestAnimationFrame(async () => {
-    await front.free();
-    frame = 0;
+  next ||= Promise.resolve(front.free()).then(() => {
+    next = null;
     show();
   });
 }
 
 async function show() {
-  const it = ++shows, isOld = () => it !== shows, { words, by, input, paint } = VIEWS[view()];
+  const it = ++shows, isOld = () => it !== shows, { before, by, input, also, paint } = VIEWS[view()];
   clearTimeout(saving);
   const stands = ask(overRun('state', turn())), lint = ask(['lint', ...machineWords()]);
-  const drawing = drawingWords(), picture = ask(drawing), state = await stands, asked = words();
+  const drawing = drawingWords(), picture = ask(drawing), state = await stands;
   if (isOld()) return;
   showHand(state);
   picture.then(it => { if (!isOld()) draw(drawing, it); });
   await explain(state, await lint);
+  await before?.();
   if (isOld()) return;
   showRows('deck');
   saving = setTimeout(() => { remember(); findEnding(); }, 300);
-  const quoted = asked.map(it => (/[^\w:,.-]/.test(it) ? `'${it}'` : it));
-  $('words').textContent = asked.length ? `ppsim ${quoted.join(' ')}` : '';
-  const told = asked.length ? ask(asked, by, input?.()) : { status: 0, output: '', error: '' };
-  const answer = await told, { status, output } = answer, fault = faultOf(answer);
+  const asked = viewWords(), quoted = asked.map(it => (/[^\w:,.-]/.test(it) ? `'${it}'` : it));
+  $('words').textContent = `ppsim ${quoted.join(' ')}`;
+  const answer = await ask(asked, by, input?.()), { status, output } = answer;
+  const below = also ? `\nBy turns:\n${(await ask(also(), back)).output}` : '';
   const isWritten = status === 0 || output !== '';
   if (isOld()) return;
+  const fault = faultOf(answer);
   if (input) noteFound('trace', [...fault.matchAll(/^line (\d+).*/g)]);
   $('text').classList.toggle('bad', !isWritten);
   if (!isWritten) paintParts(`fault ${fault}`, () => [fault]);
   else if (paint) paint(answer, isOld);
-  else paintLines(output);
+  else paintLines(output + below);
 }
 
 /** The deck, the machine or the length of the run has changed. */
@@ -45,6 +46,7 @@ function renew() {
   forget();
   drawn = null;
   endings = [];
+  endTurn = LAST_TURN;
   stopWork();
   for (const it of $('pp').options) it.hidden = !numbers().includes(parseInt(it.value, 8));
   if (!$('pp').value || $('pp').selectedOptions[0].hidden) $('pp').value = 0;
@@ -61,15 +63,18 @@ async function takeLast() {
   say('');
   go(wasAtEnd ? last() : turn());
   if (wasAtEnd) await findEnding();
-  if (wasAtEnd && !list.length && turn() === last()) go(Math.min(endTurn(), last()));
+  if (wasAtEnd && !list.length && turn() === last()) go(Math.min(endTurn, last()));
 }
 
-const takeEvents = () => ask(overRun('barrel', last()), back)
-  .then(({ output }) => { $('trace').value = output; showSoon(); });
+/** Takes the first events of the run, as many whole lines as the address has room for. */
+const takeEvents = () => ask(overRun('barrel', last()), back).then(({ output }) => {
+  $('trace').value = output.slice(0, MOST_IN_ADDRESS).replace(/.*$/, '');
+  showSoon();
+});
 
-const choose = (/** @type {string} */ name) => { pickView(name); changeView(); };
-
-function changeView() {
+function choose(/** @type {string} */ name = view()) {
+  $('views').elements.view.value = name;
+  $('more').value = '';
   paintParts('', () => []);
   return view() === 'Check' && !$('trace').value ? takeEvents() : showSoon();
 }
@@ -99,12 +104,16 @@ const DOES = {
     load: () => go(0), back: () => go(turn() - 1), turnOn: () => go(turn() + 1),
     roundOn: () => go(turn() + processors()), stop: () => stopWork([front, back], 0),
     steps: (/** @type {any} */ e) => stepBy(parseInt(e.target.value, 8)),
-    views: (/** @type {any} */ e) => { // by a mouse: keys go to the text
+    tabs: (/** @type {any} */ e) => { // by a mouse: keys go to the text
       if (e.pointerType && e.target.type === 'radio') $('text').focus({ preventScroll: true });
     },
   },
   change: { file: () => openFile($('file').files[0]), last: takeLast, order: typeOrder,
-    views: changeView, example: () => load($('example').value), processors: renew },
+    processors: renew, more: showSoon, tabs: () => choose(),
+    example: (/** @type {any} */ { target: it }) => { // by keys once its name is typed
+      clearTimeout(choosing);
+      choosing = setTimeout(load, it.matches(':focus-visible') ? 700 : 0, it.value);
+    } },
   input: { deck: edited, turn: showSoon, trace: showSoon, opened: showSoon,
     pp: showSoon, states: showSoon, left: showSoon, right: showSoon },
   scroll: { deck: () => showRows('deck'), trace: () => showRows('trace'),
@@ -114,12 +123,10 @@ const DOES = {
 };
 
 async function begin() {
-  front.start();
-  back.start();
   const deflated = /** @type {any} */ (Uint8Array).fromBase64(MODULE, { alphabet: 'base64url' });
   const plain = new Blob([deflated]).stream().pipeThrough(new DecompressionStream('deflate'));
   library = await WebAssembly.compile(await new Response(plain).arrayBuffer());
-  for (const it of [front, back]) it.give();
+  for (const it of [front, back]) it.start();
   for (const [event, all] of Object.entries(DOES)) {
     for (const [id, does] of Object.entries(all)) $(id).addEventListener(event, does);
   }

@@ -1,33 +1,39 @@
 // ---- the views of a run, and their texts
 
 const MOST_ROWS = 2000, ROWS_BEFORE = 500, STEPS_SHOWN = 600, MOST_ENDINGS = 200;
-const MORE_TURNS = 1000; // after an order, to see how the run ends
 
-const stepsFrom = () => Math.max(0, Math.floor((turn() - 100) / 400) * 400);
-const stepsTo = () => Math.min(last(), stepsFrom() + STEPS_SHOWN);
-const endingsWords = () => ['orders', '--states', $('states').value, ...machineWords()];
+// The steps round the turn, or all, if what is typed chooses among them.
+const stepsFrom = () => (typed().length ? 0 : Math.max(0, Math.floor((turn() - 100) / 400) * 400));
+const stepsTo = () => (typed().length ? last() : Math.min(last(), stepsFrom() + STEPS_SHOWN));
+const endsWords = () => ['ends', '--turns', `${LAST_TURN}`, ...machineWords()];
+const statesWords = () => ['--states', $('states').value, ...machineWords()];
+/** The words that are typed behind a command; a quote keeps blanks. */
+const typed = () => [...$('more').value.matchAll(/'([^']*)'|(\S+)/g)].map(it => it[1] ?? it[2]);
 const /** @type {Record<string, View>} */ VIEWS = {
-  State: { words: () => overRun('state', turn()), paint: paintMarked },
+  State: { words: t => overRun('state', t), paint: paintMarked },
   Steps: { words: () => overRun('steps', stepsTo(), '--from', `${stepsFrom()}`),
     paint: ({ output }) => paintLines(output || `No step from turn ${stepsFrom()} on.\n`) },
   Events: { words: () => overRun('barrel', last()), by: back },
   Sessions: { words: () => overRun('sessions', last()), by: back },
-  Races: { words: () => overRun('races', last()), by: back },
-  Ends: { words: () => ['ends', '--turns', `${LAST_TURN}`, ...machineWords()], by: back },
-  Endings: { words: endingsWords, by: back, paint: paintEndings },
-  Compare: { words: () => sideWords('right'), paint: paintCompared },
-  Test: { words: () => wordsOver([], 'test', last()), by: back, paint: paintTest },
-  Memory: { words: () => overRun('memory', turn(), '--pp', $('pp').value), paint: paintMarked },
-  Central: { words: () => overRun('central', turn()), paint: paintMarked },
+  Races: { words: () => overRun('races', last()), by: back, also: endsWords },
+  Ends: { words: endsWords, by: back },
+  Endings: { words: () => ['orders', ...statesWords()], by: back, paint: paintEndings,
+    keeps: ['states'] },
+  Compare: { before: () => Promise.all([findEndings(), findEnding()]),
+    words: () => sideWords('right'), paint: paintCompared, keeps: ['states', 'left', 'right'] },
+  Test: { words: () => wordsOver([], 'test', last()), by: back, paint: paintTest, keeps: ['states'] },
+  Memory: { words: t => overRun('memory', t, '--pp', $('pp').value), keeps: ['pp'],
+    paint: paintMarked },
+  Central: { words: t => overRun('central', t), paint: paintMarked },
   Listing: { words: () => ['list', ...machineWords()] },
-  Dump: { words: () => overRun('dump', turn()) },
+  Dump: { words: t => overRun('dump', t) },
   Check: { words: () => ['check', ...($('opened').value ? ['--opened', $('opened').value] : [])],
-    input: () => bytesOf($('trace').value) },
-  Help: { words: () => [],
+    input: () => bytesOf($('trace').value), keeps: ['opened', 'trace'] },
+  Help: { words: () => ['--help'],
     paint: () => paintParts('Help', () => [$('help').content.cloneNode(true)]) },
 };
 const view = () => $('views').elements.view.value;
-const pickView = (/** @type {string} */ name) => { $('views').elements.view.value = name; };
+const viewWords = (t = turn()) => [...VIEWS[view()].words(t), ...typed()];
 
 // ---- a text line by line
 
@@ -42,18 +48,17 @@ function linesOf(text = '') {
   });
 }
 
-let painted = { text: '', name: '', from: -1, lines: linesOf('') };
+let painted = { text: '', from: -1, lines: linesOf('') };
 
 /** Shows the lines of a text, at most so many round the turn; what lies after it is grey. A line
  * that leads somewhere is a button. What is shown already stays, and keeps the focus. */
 function paintLines(/** @type {string} */ text) {
-  const name = view(), isShown = painted.text === text && painted.name === name;
-  const lines = isShown ? painted.lines : linesOf(text), length = lines.length;
-  const next = lines.findIndex(({ at }) => at >= turn());
+  const isShown = painted.text === text, lines = isShown ? painted.lines : linesOf(text);
+  const { length } = lines, next = lines.findIndex(({ at }) => at >= turn());
   const middle = (next < 0 ? length : next) - ROWS_BEFORE;
   const from = length > MOST_ROWS ? Math.max(0, middle - middle % ROWS_BEFORE) : 0;
   if (!isShown || painted.from !== from) {
-    painted = { text, name, from, lines };
+    painted = { text, from, lines };
     const to = Math.min(length, from + MOST_ROWS), rows = lines.slice(from, to).map(rowOf);
     const left = rows.length < length ? `${from} lines before these, ${length - to} after\n` : '';
     $('text').replaceChildren(make('small', { textContent: left }), ...rows);
@@ -88,7 +93,7 @@ function markLines(/** @type {Line[]} */ lines) {
 /** Shows these parts, but if they are shown already. */
 function paintParts(/** @type {string} */ key, /** @type {() => (Node | string)[]} */ parts) {
   if (painted.text === key && painted.from < 0) return;
-  painted = { text: key, name: '', from: -1, lines: [] };
+  painted = { text: key, from: -1, lines: [] };
   $('text').replaceChildren(...parts());
 }
 
@@ -116,11 +121,10 @@ function marked(/** @type {string} */ text, /** @type {string} */ before) {
 /** Marks in a text of this turn what has changed since the turn before.
  * @type {Paint} */
 async function paintMarked({ output }, isOld) {
-  const [name, , , ...more] = VIEWS[view()].words(), pp = name === 'memory' ? more.slice(0, 2) : [];
-  const before = turn() ? (await ask(overRun(name, turn() - 1, ...pp))).output : output;
+  const before = turn() ? (await ask(viewWords(turn() - 1))).output : output;
   if (isOld()) return;
-  const parts = () => (output ? marked(output, before) : ['All words are 0.']);
-  paintParts(`${name} ${before} ${output}`, parts);
+  paintParts(`${view()} ${before} ${output}`, () =>
+    (output ? marked(output, before) : ['All words are 0.']));
 }
 
 // ---- every ending, and two runs side by side
@@ -130,7 +134,7 @@ let /** @type {{ order: number[], text: string }[]} */ endings = [];
 
 /** Finds the endings, lists them as what can be compared, and says how many there are. */
 async function findEndings() {
-  const { output } = await ask(endingsWords(), back);
+  const { output } = await ask(VIEWS.Endings.words(0), back);
   const [found, ...texts] = output.split(/^(?=ORDER)/m);
   endings = texts.slice(0, MOST_ENDINGS).map(text =>
     ({ order: orderOf(text.split('\n', 1)[0].slice(6)) ?? [], text }));
@@ -142,20 +146,23 @@ async function findEndings() {
   return found.trimEnd();
 }
 
-/** Shows the endings: a click on an order loads it, and another lays it beside the turn order.
+/** Shows the endings, each with an order, which a click loads, and the words that this order loses.
  * @type {Paint} */
 async function paintEndings({ output }, isOld) {
   const found = await findEndings();
+  const sessions = await Promise.all(endings.map(({ order }) =>
+    ask(wordsOver(order, 'sessions', order.length), back)));
   if (isOld()) return;
   paintParts(`Endings ${output}`, () => [`${found}\n`, ...endings.flatMap(({ order, text }, n) => {
-    const [head, ...lines] = text.split('\n'), onclick = () => {
+    const [head, ...lines] = text.split('\n'), aside = buttonOf('compare', () => {
       [$('left').value, $('right').value] = [TURN_ORDER, `ending ${n + 1}`];
       choose('Compare');
-    };
-    const aside = buttonOf('compare', onclick, 'Beside the turn order');
+    }, 'Beside the turn order');
     Object.assign(aside, { className: 'aside', ariaLabel: `Compare ending ${n + 1}` });
     const shown = orderButton(`${n + 1}  ${head}`, order);
-    return [make('div', { className: 'ending' }, shown, aside), lines.join('\n')];
+    const lost = [...sessions[n].output.matchAll(/^(CH\d+) .* LOST (\d+)$/gm)];
+    return [make('div', { className: 'ending' }, shown, aside), make('strong', { className: 'lost',
+      textContent: lost.map(([, ch, word]) => `${ch} loses ${word}\n`).join('') }), lines.join('\n')];
   })]);
 }
 
@@ -171,21 +178,20 @@ const orderButton = (text = '', /** @type {number[]} */ order) => buttonOf(text,
 function sideWords(/** @type {string} */ id, command = 'state') {
   const name = $(id).value, order = endings[parseInt(name.slice(7), 10) - 1]?.order;
   const [steps, to] = order ? [order, order.length]
-    : name === TURN_ORDER ? [[], endTurn()] : [list, turn()];
+    : name === TURN_ORDER ? [[], endTurn] : [list, turn()];
   const window = ['--from', `${Math.max(0, to - MOST_DRAWN)}`, '--to', `${to}`];
   return wordsOver(steps, command, to, ...(command === 'draw' ? window : []));
 }
 
 /** @type {Paint} */
 async function paintCompared(_, isOld) {
-  await findEndings();
   const words = ['state', 'draw'].flatMap(it => [sideWords('left', it), sideWords('right', it)]);
   const texts = (await Promise.all(words.map(it => ask(it)))).map(it => it.output);
   if (isOld()) return;
-  const [left, right, ...pictures] = texts;
+  const [left, right, one, other] = texts;
   paintParts(`Compare ${texts}`, () => [
     make('p', { textContent: left === right ? 'The same.' : 'What differs is marked.' }),
-    make('div', { className: 'two' }, ...pictures.map(pictureOf),
+    make('div', { className: 'two' }, pictureOf(one, 'Left run'), pictureOf(other, 'Right run'),
       make('pre', { ariaLabel: 'Left' }, ...marked(left, right)),
       make('pre', { ariaLabel: 'Right' }, ...marked(right, left)))]);
 }
@@ -196,15 +202,12 @@ async function paintCompared(_, isOld) {
  * @type {Paint} */
 async function paintTest({ status, output }, isOld) {
   const [task = ''] = /^(?:\*(?![=!]).*\n)+/.exec($('deck').value) ?? [];
-  const found = status ? '' : await findEndings(), looked = status ? [] : endings;
-  const tests = await Promise.all(looked.map(({ order }) =>
-    ask(wordsOver(order, 'test', order.length + MORE_TURNS), back)));
+  const every = status ? null : await ask(['test', '--every-order', ...statesWords()], back);
   if (isOld()) return;
-  const wrong = tests.findIndex(it => it.status !== 0), { order } = looked[wrong] ?? { order: [] };
-  const isAll = found === `ENDINGS ${looked.length}`;
-  const every = wrong >= 0 ? [orderButton(`ORDER ${orderText(order)}`, order), tests[wrong].output]
-    : [isAll ? 'Right in every order.' : `So in all seen. ${found}`];
-  paintParts(`Test ${task} ${output} ${wrong} ${found}`, () => [
-    make('p', { textContent: task.replace(/^\* ?/gm, '') }), 'In the turn order:\n', output,
-    ...(status ? [] : ['\nIn every order:\n', ...every])]);
+  const text = every && `\nIn every order:\n${every.output || faultOf(every)}`;
+  const [all = '', order, one = ''] = text?.split(/^ORDER (.*)\n/m) ?? [];
+  paintParts(`Test ${task} ${output} ${text}`, () => [
+    make('p', { textContent: task.replace(/^\* ?/gm, '') }), 'In the turn order:\n', output, all,
+    order ? orderButton(`ORDER ${order}`, orderOf(order) ?? []) : '', one,
+    every?.status === 0 ? 'Right in every order.' : '']);
 }

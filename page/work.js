@@ -27,13 +27,12 @@ function engine() {
     waiting.shift()?.(it);
     if (!waiting.length) showWork();
   };
-  const give = () => worker.postMessage({ module: library });
   const start = () => {
     source ||= URL.createObjectURL(new Blob([WORKER], { type: 'text/javascript' }));
     const it = worker = new Worker(source);
     it.onmessage = ({ data }) => { if (it === worker) answer(data); };
     it.onerror = e => stop(e.message);
-    if (library) give();
+    it.postMessage({ module: library });
   };
   const stop = (error = 'stopped') => {
     worker.terminate();
@@ -46,15 +45,14 @@ function engine() {
     return latest = new Promise(answered => { waiting.push(answered); });
   };
   const worksFor = () => (waiting.length ? performance.now() - since : 0);
-  return { start, give, stop, run, worksFor, free: () => latest };
+  return { start, stop, run, worksFor, free: () => latest };
 }
 
 /** One for what goes with the turn, one for what is asked of whole runs, and may take long. */
 const front = engine(), back = engine();
 
-const showWork = () => {
-  $('busy').hidden = Math.max(front.worksFor(), back.worksFor()) < SIGN_AFTER - 10;
-};
+const showWork = () => Object.assign($('busy'),
+  { hidden: Math.max(front.worksFor(), back.worksFor()) < SIGN_AFTER - 10 });
 
 /** Stops these workers, if they have been at work for so long. */
 const stopWork = (engines = [front, back], longest = PATIENCE) =>

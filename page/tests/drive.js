@@ -125,13 +125,53 @@ async function views() {
       && $('trace').ariaInvalid === 'true'
       && $('trace-rows').querySelector('.bad b')?.textContent === '2'`);
   await picture('check');
-  expect('only the machine\'s processors are offered', await value(`[...$('pp').options].filter(it => !it.hidden).length === 10`));
-  await pause(500);
+  await write('opened', '5');
+  await becomes('channels may have been open', `$('text').textContent.startsWith('line 1: ACN')`);
   await reload();
-  await becomes('the processor chosen is in the address', `$('pp').value === '1'`);
+  await becomes('the trace and these channels are in the address', `$('opened').value === '5'
+    && $('trace').value.endsWith('TAK 0007\\n') && $('text').textContent.startsWith('line 1: ACN')`);
+  expect('only the machine\'s processors are offered', await value(`[...$('pp').options].filter(it => !it.hidden).length === 10`));
+  await show({ example: 'handoff', view: 'Check' });
+  await becomes('without a trace it is the run\'s', `$('text').textContent.startsWith('lawful: 3 events on')`);
+  const ringing = 'PP 0\n0100 7405 7205 0376\nSTART 0100\nPP 1\n0100 7005 0376\nSTART 0100\n';
+  await show({ deck: ringing, turns: 999999, view: 'Check' });
+  await becomes('of a long run it has the first events', `$('text').textContent.startsWith('lawful: ')
+    && $('trace').value.length > 32000 && $('trace').value.length <= 32768
+    && $('trace').value.endsWith('\\n') && $('kept').textContent === ''`);
+  await show({ deck: 'PP 0\n0100 1401 7005 0300\nSTART 0100\n', view: 'Races' });
+  await becomes('what is the same in every order may yet be stuck',
+    `$('text').textContent.startsWith('SAME IN EVERY ORDER\\n\\nBy turns:\\nSTUCK FROM')`);
   await show({ example: 'central_block', view: 'Central' });
   await becomes('central memory is shown', `$('text').textContent.startsWith('000005  0001000200')
     && $('words').textContent === 'ppsim central --turns 50'`);
+}
+
+/** More options of a command, typed beside it. */
+async function options() {
+  const given = async (name, more, start) => {
+    await choose(name);
+    await pick('more', more);
+    await becomes(`${name} takes ${more}`, `$('text').textContent.startsWith(${JSON.stringify(start)})`);
+  };
+  await show({ example: 'lost_word', turns: 80 });
+  await given('Sessions', '--words', 'CH05 SESSION 1 FROM 000000 TO 000030 PUT 1 TAKEN 0 LOST 0007  0007\n');
+  await given('Memory', '--first 100 --last 107', '0100  7405 1407 7205 7505 7405 1403 7205 0300');
+  await choose('Central');
+  expect('another view has none', await value(`$('more').value === '' && $('more').offsetWidth > 0`));
+  await given('Steps', "--pp 1 --where 'CH05 TAK'", '000061 PP01 0203 7005');
+  expect('the command has them', await value(`$('words').textContent
+    === "ppsim steps --turns 80 --from 0 --pp 1 --where 'CH05 TAK'"`));
+  await reload();
+  await becomes('so has the address', `$('more').value === "--pp 1 --where 'CH05 TAK'"
+    && $('text').textContent.startsWith('000061 PP01')`);
+  await pick('more', '--bogus');
+  await becomes('what is none is refused', `$('text').matches('.bad')
+    && $('text').textContent.startsWith("error: unexpected argument '--bogus'")`);
+  await choose('State');
+  await becomes('a view without options has no field', `$('more').offsetWidth === 0
+    && $('text').textContent.startsWith('PP00')`);
+  await show({ example: 'lost_word', view: 'Memory', pp: 1 });
+  await becomes('the processor chosen is in the address', `$('text').textContent.startsWith('0200  2400')`);
 }
 
 async function faults() {
@@ -241,7 +281,7 @@ async function hand() {
     && $('words').textContent === 'ppsim state --turns 5 --order 0:3,2,0'`);
   for (let n = 0; n < 3; n++) await click('#back');
   await becomes('back undoes steps', `turn() === 2 && $('order').value === '0:2'
-    && $('then').textContent === '3 more after the cursor'`);
+    && $('then').textContent === '3 more follow'`);
   await press('ArrowRight');
   await becomes('they are made again', `turn() === 3 && $('order').value === '0:3'`);
   await press('1');
@@ -273,25 +313,33 @@ async function hand() {
   await becomes('a run to an event', `turn() === 22`);
   await value(`$('run').click()`);
   await becomes('and to the next one', `turn() > 22`);
+  await value(`$('target').value = 'LUST'; $('run').click()`);
+  await becomes('what is no condition is said to be none', `$('ran').textContent.startsWith('Say where to')`);
   const times = await value(`(async () => {
     load('handoff', { ...EXAMPLES.bubble_sort, order: '', turns: 0 });
     list = Array.from({ length: 10000 }, (_, n) => n % 3 ? 0 : 1);
     go(10000);
     await new Promise(done => setTimeout(done, 1500));
-    const times = [];
-    for (let n = 0; n < 20; n++) {
+    const times = [], isShown = () => $('words').textContent.includes('--turns ' + turn() + ' ');
+    for (let n = 0; n < 40; n++) {
+      const shown = new Promise(done => {
+        const observer = new MutationObserver(() => {
+          if (!isShown()) return;
+          observer.disconnect();
+          done();
+        });
+        observer.observe($('words'), { childList: true });
+      });
       const began = performance.now();
       stepBy(n % 2);
-      while (!$('words').textContent.includes('--turns ' + turn() + ' ')) {
-        await new Promise(requestAnimationFrame);
-      }
+      await shown;
       times.push(performance.now() - began);
       await front.free();
     }
     return times.sort((a, b) => a - b);
   })()`);
-  console.log(`a step by hand after 10,000: from ${times[0].toFixed(1)} ms, median ${times[10].toFixed(1)} ms`);
-  expect('how things stand after a step by hand is shown within 50 ms, by the median', times[10] < 50);
+  console.log(`a step by hand after 10,000: from ${times[0].toFixed(1)} ms, median ${times[20].toFixed(1)} ms`);
+  expect('how things stand after a step by hand is shown within 50 ms, by the median', times[20] < 50);
 }
 
 async function endings() {
@@ -310,8 +358,21 @@ async function endings() {
     && $('left').value === 'the turn order, at its end' && $('right').value === 'ending 2'
     && $('text').querySelectorAll('.two mark').length > 1`);
   await picture('compare');
+  const [hash, text] = await value(`new Promise(done => setTimeout(() =>
+    done([location.hash, $('text').textContent]), 500))`);
+  await show(Object.fromEntries(new URLSearchParams(hash.slice(1))));
+  await becomes('a link shows the same two', `$('left').value === 'the turn order, at its end'
+    && $('right').value === 'ending 2' && $('text').textContent === ${JSON.stringify(text)}`);
+  expect('from their beginnings on', await value(`[...$('text').querySelectorAll('[role=img]')]
+    .every(it => it.shadowRoot.querySelector('title').textContent.includes('turns 0 to '))`));
+  expect('each drawing with its name', await value(`[...$('text').querySelectorAll('[role=img]')]
+    .map(it => it.ariaLabel).join() === 'Left run,Right run'`));
   await pick('right', 'ending 1');
   await becomes('that of the turn order is the same', `$('text').textContent.startsWith('The same')`);
+  await show({ example: 'lost_word', view: 'Endings' });
+  await becomes('an ending says which word its order loses, and where',
+    `[...$('text').querySelectorAll('.lost')].map(it => it.textContent).join() === 'CH05 loses 0007\\n,'`);
+  await picture('lost');
 }
 
 /** The exercises as they stand fail, and their solutions hold in every order. */
@@ -324,8 +385,13 @@ async function exercises() {
     await becomes(`${name} is not so yet`, `view() === 'Test' && $('example').value === '${name}'
       && $('text').textContent.includes('${says}')`);
     await write('deck', fs.readFileSync(path.join(folder, `${name}.deck`), 'ascii'));
-    await becomes(`${name} can be solved`, `$('text').textContent.includes('Right in every order.')`);
+    await becomes(`${name} can be solved`, `$('text').textContent.includes('Right in every order.')
+      && /^HELD \\d+ IN \\d+ ENDINGS?$/m.test($('text').textContent)`);
   }
+  await pick('states', '1');
+  await becomes('where endings may be missing it claims nothing', `view() === 'Test'
+    && /OR MORE|HELD 0 IN 0/.test($('text').textContent) && !$('text').textContent.includes('Right in')`);
+  await pick('states', '1000');
   await pick('example', 'two_readers');
   await becomes('an order that is wrong is a button', `$('text').querySelector('button')`);
   await picture('test');
@@ -355,25 +421,28 @@ async function decks() {
 }
 
 /** A newcomer finds the word that lost_word loses, an order that keeps it, and a link that shows it:
- * by the names on the page, in five clicks. */
+ * by the names on the page, with keys for the deck and five clicks. */
 async function newcomer() {
   await show();
-  const named = async (selector, name) => {
+  const began = Date.now(), named = async (selector, name) => {
     await value(`[...document.querySelectorAll('${selector}')]
       .find(it => it.textContent.trim() === '${name}').setAttribute('data-named', '')`);
     await click(`${selector}[data-named]`);
     await value(`document.querySelector('[data-named]')?.removeAttribute('data-named')`);
   };
   const lost = `$('picture').shadowRoot.querySelector('rect.l[y]')`;
-  await pick('example', 'lost_word');
-  await becomes('the drawing has a lost word', lost);
+  for (const key of ['Tab', 'Tab', ...'lost']) await press(key);
+  await becomes('a deck is chosen by its name, and the drawing has a lost word', `${lost}
+    && $('example').value === 'lost_word'`);
   await named('#views label', 'Endings');
-  await becomes('there is another ending', `$('text').querySelectorAll('.ending').length === 2`);
+  await becomes('one of two endings loses it', `$('text').querySelectorAll('.ending').length === 2
+    && $('text').textContent.match(/loses/g).length === 1`);
   await named('#text button', '2  ORDER 0:3,1:5,0:5');
   await becomes('in its order no word is lost', `turn() === 13 && !${lost}`);
   await named('#views label', 'State');
   await becomes('processor 1 has it', `$('text').textContent.includes('PP01 P=0204 A=000007')`);
   await named('header button', 'Link');
+  console.log(`a newcomer's keys and clicks: ${((Date.now() - began) / 1000).toFixed(1)} s`);
   const words = Object.fromEntries(new URLSearchParams((await value(`location.hash`)).slice(1)));
   await show(words);
   await becomes('a link shows it', `$('order').value === '0:3,1:5,0:5' && turn() === 13 && view() === 'State'
@@ -494,7 +563,7 @@ async function frames() {
 
 async function main() {
   browser = await browsers[which]();
-  const all = { first, views, faults, moving, lists, hand, endings, exercises, newcomer, decks, edits,
+  const all = { first, views, options, faults, moving, lists, hand, endings, exercises, newcomer, decks, edits,
     work, screens, names, frames };
   for (const [name, part] of Object.entries(all)) {
     if (!only || only.split(',').includes(name)) await part();
