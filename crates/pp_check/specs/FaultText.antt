@@ -39,12 +39,13 @@ abbrev pub flaw_text : TraceFlaw → List ℕ
 flaw_text Malformed = codes "not a line of a trace"
 flaw_text (TurnNotRising turn last) =
     codes "turn " ++ short_decimal turn ++ codes " after turn " ++ short_decimal last
-flaw_text (WrongNumber c number next) =
-    codes "number " ++ short_decimal number ++ codes " where " ++ short_decimal next ++ codes " is next"
+flaw_text (WrongNumber c number next) = codes "number " ++ short_decimal number
+    ++ codes " where " ++ short_decimal next ++ codes " is next"
 flaw_text (UnlawfulEvent c e state) = unlawful_text c e state
-flaw_text (WrongState c shown state) =
-    codes "CH" ++ octal 2 c ++ codes " " ++ state_text shown ++ codes ", expected " ++ state_text state
+flaw_text (WrongState c shown state) = codes "CH" ++ octal 2 c ++ codes " "
+    ++ state_text shown ++ codes ", expected " ++ state_text state
 
 -- `line 3: not a line of a trace`
 abbrev pub trace_fault_text : TraceFault → List ℕ
-trace_fault_text fault = codes "line " ++ short_decimal fault.line ++ codes ": " ++ flaw_text fault.flaw
+trace_fault_text fault =
+    codes "line " ++ short_decimal fault.line ++ codes ": " ++ flaw_text fault.flaw
