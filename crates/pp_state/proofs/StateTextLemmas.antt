@@ -274,8 +274,11 @@ module _ (shown : List Bool) (before after : MachineState) (counts : List StepCo
   text_is =
       let sections = flat_map deck_line (changed_sections before after) in
       let central = flat_map deck_line (changed_central before.central after.central) in
-      rw (named_rows_are shown (λ n. processor_line n (processor_of n after) (standing n after (held n))) standing_row.text shown_of_each (λ n. standing_is n after (held n)),
-      channels_are after.histories, flat_map-append deck_line (changed_sections before after) (changed_central before.central after.central))
+      rw (
+        named_rows_are shown (λ n. processor_line n (processor_of n after) (standing n after (held n))) standing_row.text shown_of_each (λ n. standing_is n after (held n)),
+        channels_are after.histories,
+        flat_map-append deck_line (changed_sections before after) (changed_central before.central after.central),
+      )
       (sym (append_assoc (flat_map standing_row.text (named_rows shown shown_of_each)) (sections ++ central) (channel_lines.text (channels_shown after.histories))))
 
   text_fits : FitsItsState shown before after counts → All IsStandingLine (named_rows shown shown_of_each) × (All FitsItsWords (words_changed before after) × All IsChannelLine (channels_shown after.histories))
