@@ -9,10 +9,10 @@ use Rattle.pp_text.proofs.PrintingLemmas.{range_flat}
 use Rattle.pp_lint.specs.ChannelUse.{alone_at, alone_finding, alone_findings, alone_text, first_use, is_alone, is_shared, is_user_beside}
 use Rattle.pp_lint.specs.Finding.{Finding}
 use Rattle.pp_lint.specs.Given.{Note}
-use Rattle.pp_lint.specs.InstructionEffect.{channel_used}
+use Rattle.pp_instructions.specs.InstructionEffect.{channel_used}
 use Rattle.pp_lint.specs.LintText.{is_something_found}
 use Rattle.pp_lint.specs.StraightLine.{is_at}
-use Rattle.pp_lint.specs.declared.instruction.Instruction.{Instruction}
+use Rattle.pp_instructions.specs.declared.instruction.Instruction.{Instruction}
 use Rattle.pp_lint.proofs.FindingLemmas.{found_more}
 use Rattle.pp_lint.proofs.WarningLemmas.{any_next, any_there}
 

@@ -8,13 +8,13 @@ use Rattle.pp_text.specs.TextWriter.{Prints}
 use Rattle.pp_text.specs.declared.text_writer.TextWriter.{TextWriter}
 use Rattle.pp_deck.specs.DeckLine.{words}
 use Rattle.pp_deck.specs.DeckText.{fields_of}
-use Rattle.pp_lint.specs.Claim.{Claim, claims, comment_place}
-use Rattle.pp_lint.specs.Column.{column_of}
+use Rattle.pp_instructions.specs.Claim.{Claim, claims, comment_place}
+use Rattle.pp_instructions.specs.Column.{column_of}
 use Rattle.pp_lint.specs.CommentFindings.{claim_findings, claims_findings, comment_findings}
 use Rattle.pp_lint.specs.Finding.{Finding}
-use Rattle.pp_lint.specs.Instruction.{instructions}
+use Rattle.pp_instructions.specs.Instruction.{instructions}
 use Rattle.pp_lint.specs.LintText.{finding_line, is_something_found}
-use Rattle.pp_lint.specs.declared.instruction.Instruction.{Instruction}
+use Rattle.pp_instructions.specs.declared.instruction.Instruction.{Instruction}
 use Rattle.pp_lint.proofs.FindingLemmas.{found_more}
 
 pub none_claimed : (k : ℕ) (column : ℕ → ℕ) (is : List Instruction) → claims_findings k column [] is ≡ []

@@ -1,22 +1,19 @@
 -- What is found in a line, and line by line.
-use Rattle.std.proofs.Common.{◌≡◌, ℕ, ◌+◌, ◌-◌, ◌<◌, ◌≤◌, Bool, true, false, List, [], ◌∷◌, ◌++◌, length, take, drop, get_or, map, Option, Some, None, refl, subst, sym, ap, ◌∙◌, arith}
-use Rattle.std.specs.Prelude.{◌||◌, ◌&&◌, ◌==◌, bytes_eq, codes, filter, filter_map, find, if◌then◌else◌, nat_le, not, position, slice_index, unwrap_or}
-use Rattle.std.specs.List.{cons_option, flat_map, last_or, list_any, prefix_len, range_with_len, slice_split}
-use Rattle.std.specs.Str.Lines.{strip_carriage_return}
-use Rattle.std.proofs.lemmas.List.{append-nil, drop_more, get_or-map, length-drop, length-map, length-take, take_more}
+use Rattle.std.proofs.Common.{◌≡◌, ℕ, ◌+◌, ◌<◌, ◌≤◌, Bool, true, false, List, [], ◌∷◌, ◌++◌, length, take, drop, get_or, map, Option, Some, None, refl, subst, sym, ap, ◌∙◌, arith}
+use Rattle.std.specs.Prelude.{◌||◌, ◌&&◌, bytes_eq, codes, filter_map, find, if◌then◌else◌, nat_le, position, unwrap_or}
+use Rattle.std.specs.List.{cons_option, flat_map, last_or, list_any, range_with_len, slice_split}
+use Rattle.std.proofs.lemmas.List.{append-nil, drop_more, get_or-map, length-drop, length-map, take_more}
 use Rattle.std.proofs.lemmas.List.Elements.{filter_map-append}
 use Rattle.std.proofs.lemmas.List.Folds.{list_any-append}
-use Rattle.std.proofs.lemmas.List.Sums.{count_by-le-length, length-filter}
 use Rattle.std.proofs.lemmas.Bool.{le-ltb, lt-ltb}
 use Rattle.std.proofs.lemmas.Slice.Eq.{bytes_eq-Decides}
-use Rattle.std.proofs.lemmas.List.Splits.{length-slice_split}
 use Rattle.pp_numbers.proofs.GrowingLists.{range_more}
 use Rattle.pp_numbers.proofs.LastElements.{last_or-push}
 use Rattle.pp_numbers.specs.declared.profile.Profile.{Profile}
 use Rattle.pp_deck.specs.OctalNumber.{number}
 use Rattle.pp_deck.specs.DeckLine.{central_line, keyword_of}
 use Rattle.pp_deck.specs.DeckMeaning.{begins_section, has_fields, is_foreign, size_by, size_in, size_of, stated_size}
-use Rattle.pp_deck.specs.DeckText.{Fields, fields_in, fields_of, is_blank, is_comment, is_line_feed, is_nonempty, lines_of}
+use Rattle.pp_deck.specs.DeckText.{Fields, fields_of, is_line_feed, lines_of}
 use Rattle.pp_deck.specs.declared.deck_fault.DeckCode.{DeckCode}
 use Rattle.pp_text.proofs.PrintingLemmas.{prints_on, range_flat}
 use Rattle.pp_text.specs.PrintedText.{line_end}
@@ -31,23 +28,6 @@ use Rattle.pp_lint.specs.LintText.{finding_line, is_something_found, lint_text}
 use Rattle.pp_lint.specs.StraightLine.{reached_at}
 use Rattle.pp_lint.specs.declared.{line_fault.Before.Before, line_fault.Fault.Fault}
 use Rattle.pp_lint.proofs.FaultLemmas.{code_is, field_is}
-
-fewer : {A : Type 0} (n : ℕ) (xs : List A) → length (take n xs) ≤ length xs
-fewer n xs = omega (arith, length-take n xs)
-
-no_longer : (line : List ℕ) (b : Bool) → length (if b then take (length line - 1) line else line) ≤ length line
-no_longer line true = fewer (length line - 1) line
-no_longer line false = omega arith
-
--- a line has no more fields than characters and one
-pub few_fields : (line : List ℕ) → length (fields_of line) ≤ length line + 1
-unfolding fields_in
-few_fields line =
-    let text = strip_carriage_return line in
-    let pieces = slice_split is_blank text in
-    let some = filter is_nonempty pieces in
-    let shorter : length text ≤ length line = no_longer line (slice_index line (length line - 1) == 13) in
-    omega (arith, shorter, length-slice_split is_blank text, count_by-le-length is_blank text, length-filter is_nonempty pieces, count_by-le-length is_nonempty pieces, fewer (prefix_len (λ field. not (is_comment field)) some) some)
 
 -- ---- a line
 

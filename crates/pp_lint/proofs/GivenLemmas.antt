@@ -16,7 +16,7 @@ use Rattle.pp_lint.specs.FieldAtFault.{fault_in}
 use Rattle.pp_lint.specs.FirstLines.{IsOfProcessor, IsRow}
 use Rattle.pp_lint.specs.LineFault.{before_line, fault_after, said_after}
 use Rattle.pp_lint.specs.RowOfLine.{Gives, central_row, named_row, place_in_second, start_row, words_row}
-use Rattle.pp_lint.specs.WordsOfLine.{word_in, words_in_fields}
+use Rattle.pp_instructions.specs.WordsInFields.{word_in, words_in_fields}
 use Rattle.pp_lint.specs.declared.{line_fault.Before.Before, row.Kind.Kind, row.Row.Row}
 use Rattle.pp_lint.specs.declared.row.Kind.TheVariants.{Central, Channel, Dead, Fault, Name, Start, Target, Word}
 use Rattle.pp_lint.proofs.FindingLemmas.{begins_is, fields_at}

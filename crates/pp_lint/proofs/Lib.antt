@@ -1,6 +1,4 @@
 mod ChannelUseLemmas
-mod ClaimLemmas
-mod ColumnLemmas
 mod CommentLemmas
 mod FaultLemmas
 mod FaultOfLineLemmas
@@ -9,7 +7,6 @@ mod GivenLemmas
 mod LoadLemmas
 mod RunLemmas
 mod StraightLineLemmas
-mod SureFaultLemmas
 mod WarningLemmas
 mod WordsLemmas
 -- facts of the definitions, which proofs of other crates cite

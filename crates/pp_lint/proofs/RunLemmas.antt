@@ -7,7 +7,7 @@ use Rattle.pp_deck.specs.DeckLine.{Line}
 use Rattle.pp_deck.specs.DeckText.{Fields}
 use Rattle.pp_lint.specs.ChannelUse.{alone_findings}
 use Rattle.pp_lint.specs.Given.{Note, given, given_at, note_if, notes, notes_of_instruction, notes_within, said_at, start_place}
-use Rattle.pp_lint.specs.Instruction.{first_place, instructions_of}
+use Rattle.pp_lint.specs.InstructionsOfLine.{first_place, instructions_of}
 use Rattle.pp_lint.specs.RunFindings.{run_findings}
 use Rattle.pp_lint.specs.StraightLine.{behind_all, behind_line, fault_findings, reached_at}
 use Rattle.pp_lint.specs.declared.{row.Kind.Kind, row.Row.Row}

@@ -7,11 +7,11 @@ use Rattle.pp_numbers.specs.declared.profile.Profile.{Profile}
 use Rattle.pp_text.specs.TextWriter.{Prints}
 use Rattle.pp_text.specs.declared.text_writer.TextWriter.{TextWriter}
 use Rattle.pp_lint.specs.Given.{Note}
-use Rattle.pp_lint.specs.Instruction.{words_and_text}
-use Rattle.pp_lint.specs.InstructionEffect.{goes_on, place_behind}
+use Rattle.pp_instructions.specs.Instruction.{words_and_text}
+use Rattle.pp_instructions.specs.InstructionEffect.{goes_on, place_behind}
 use Rattle.pp_lint.specs.LintText.{finding_line, is_something_found}
 use Rattle.pp_lint.specs.StraightLine.{behind, behind_all, fault_finding, fault_findings, fault_text, is_reached}
-use Rattle.pp_lint.specs.declared.instruction.Instruction.{Instruction}
+use Rattle.pp_instructions.specs.declared.instruction.Instruction.{Instruction}
 use Rattle.pp_lint.proofs.CommentLemmas.{or_on}
 use Rattle.pp_lint.proofs.FindingLemmas.{found_more}
 use Rattle.pp_lint.proofs.WarningLemmas.{prints_both}

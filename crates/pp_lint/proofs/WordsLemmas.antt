@@ -1,12 +1,12 @@
 -- What a line of words says, by its fields.
 use Rattle.std.proofs.Common.{◌≡◌, ℕ, ◌+◌, ◌-◌, ◌<◌, Bool, true, false, List, [], ◌∷◌, Option, Some, None, Result, Ok, Err, refl, sym, ap, ◌∙◌, arith, inl, inr, length}
-use Rattle.std.specs.Prelude.{◌&&◌, bytes_eq, codes, nat_le, nat_lt, if◌then◌else◌, IfNone, IfSome, drop, is_some, not, slice_get, slice_index, unwrap_or}
+use Rattle.std.specs.Prelude.{◌&&◌, bytes_eq, codes, nat_le, nat_lt, if◌then◌else◌, IfNone, IfSome, drop, slice_get, slice_index, unwrap_or}
 use Rattle.std.specs.Char.{is_ascii_digit}
 use Rattle.std.specs.Option.{ok_or}
 use Rattle.std.specs.Result.{result_ok}
 use Rattle.std.proofs.lemmas.Bool.{cases_lt, ltb-true}
 use Rattle.std.proofs.lemmas.Slice.Eq.{bytes_eq-Decides}
-use Rattle.pp_word.specs.Address.{next_place, place_count}
+use Rattle.pp_word.specs.Address.{place_count}
 use Rattle.pp_word.specs.Numeral.{numeral}
 use Rattle.pp_numbers.specs.Profile.{has_processor}
 use Rattle.pp_numbers.specs.declared.profile.Profile.{Profile}
@@ -14,16 +14,17 @@ use Rattle.pp_deck.specs.DeckLine.{◌>>=◌, Line, central_line, central_size, 
 use Rattle.pp_deck.specs.DeckText.{Field, Fields, fields_of}
 use Rattle.pp_deck.specs.Flaw.{code_of}
 use Rattle.pp_deck.specs.OctalNumber.{number}
-use Rattle.pp_text.specs.InstructionText.{is_long}
-use Rattle.pp_lint.specs.Claim.{claims, comment_place}
-use Rattle.pp_lint.specs.Column.{column_of}
+use Rattle.pp_instructions.specs.Claim.{claims, comment_place}
+use Rattle.pp_instructions.specs.Column.{column_of}
 use Rattle.pp_lint.specs.CommentFindings.{claims_findings, comment_findings}
 use Rattle.pp_lint.specs.FieldAtFault.{fault_in}
-use Rattle.pp_lint.specs.Instruction.{first_place, instructions, instructions_of}
+use Rattle.pp_instructions.specs.Instruction.{instructions}
+use Rattle.pp_lint.specs.InstructionsOfLine.{first_place, instructions_of}
 use Rattle.pp_lint.specs.LineFault.{fault_after, said_after}
-use Rattle.pp_lint.specs.WordsOfLine.{word_in, words_in_fields}
+use Rattle.pp_instructions.specs.WordsInFields.{word_in, words_in_fields}
 use Rattle.pp_lint.proofs.CommentLemmas.{comment_is}
-use Rattle.pp_lint.specs.declared.{instruction.Instruction.Instruction, line_fault.Before.Before}
+use Rattle.pp_instructions.specs.declared.instruction.Instruction.{Instruction}
+use Rattle.pp_lint.specs.declared.line_fault.Before.{Before}
 
 -- ---- the words
 
@@ -215,60 +216,6 @@ no_comment_said k line (Some (start p a)) none = refl
 no_comment_said k line (Some (words x ws)) none = rw none refl
 no_comment_said k line (Some dead_start) none = refl
 
--- ---- instructions
-
-pub no_instruction : (place : ℕ) → instructions place [] ≡ []
-unfolding instructions
-no_instruction place = refl
-
-pub short_first : (place word : ℕ) (ws : List ℕ) → is_long word ≡ false
-    → instructions place (word ∷ ws) ≡ record { place = place; word = word; second = None } ∷ instructions (next_place place) ws
-unfolding instructions
-short_first place word [] short = refl
-short_first place word (m ∷ ws) short = rw short refl
-
-pub long_first : (place word m : ℕ) (ws : List ℕ) → is_long word ≡ true
-    → instructions place (word ∷ m ∷ ws) ≡ record { place = place; word = word; second = Some m } ∷ instructions (next_place (next_place place)) ws
-unfolding instructions
-long_first place word m ws long = rw long refl
-
-cut_first : (place word : ℕ) → instructions place (word ∷ []) ≡ record { place = place; word = word; second = None } ∷ []
-unfolding instructions
-cut_first place word = refl
-
--- what is left, unless it is ended
-pub left_is : (ended : Bool) (all now : List Instruction) → (if ended then [] else all) ≡ now → ended ≡ false → now ≡ all
-left_is false all now is goes = sym is
-left_is true all now is goes = absurd (cc)
-
--- a field of the line, and its word
-abbrev pub TakesWord : Fields → Fields → ℕ → Type 0
-TakesWord old new word = (field : List ℕ) × ((old ≡ field ∷ new) × (word_in field ≡ word))
-
-first_word : (old new : Fields) (word : ℕ) → TakesWord old new word → words_in_fields old ≡ word ∷ words_in_fields new
-first_word old new word taken = ap words_in_fields taken.1.0 ∙ ap (λ w. w ∷ words_in_fields new) taken.1.1
-
-pub short_step : (place next word : ℕ) (ended : Bool) (left rest : Fields) → is_long word ≡ false → next ≡ next_place place → ended ≡ false → TakesWord left rest word
-    → instructions place (words_in_fields left) ≡ record { place = place; word = word; second = None } ∷ (if ended then [] else instructions next (words_in_fields rest))
-short_step place next word ended left rest short after goes taken =
-    ap (instructions place) (first_word left rest word taken) ∙ short_first place word (words_in_fields rest) short ∙ rw (after, goes) refl
-
-on : (ended : Bool) → true ≡ not ended → ended ≡ false
-on false goes = refl
-on true goes = absurd (cc)
-
-over : (ended : Bool) → false ≡ not ended → ended ≡ true
-over true goes = refl
-over false goes = absurd (cc)
-
-pub long_step : (place next after word : ℕ) (ended : Bool) (fields left rest : Fields) (o : Option ℕ) → is_long word ≡ true → next ≡ next_place place → after ≡ next_place next → is_some o ≡ not ended
-    → TakesWord fields left word → IfSome o (TakesWord left rest) → IfNone o (left ≡ [])
-    → instructions place (words_in_fields fields) ≡ record { place = place; word = word; second = o } ∷ (if ended then [] else instructions after (words_in_fields rest))
-long_step place next after word ended fields left rest (Some m) long is1 is2 goes taken some none =
-    ap (instructions place) (first_word fields left word taken ∙ ap (λ ws. word ∷ ws) (first_word left rest m some)) ∙ long_first place word m (words_in_fields rest) long ∙ rw (is2, is1, on ended goes) refl
-long_step place next after word ended fields left rest None long is1 is2 goes taken some none =
-    ap (instructions place) (first_word fields left word taken ∙ ap (λ fs. word ∷ words_in_fields fs) none) ∙ cut_first place word ∙ rw (over ended goes) refl
-
 -- ---- the instructions of a line
 
 nothing_run : (said : Option Line) → says_words said ≡ false → ([] ≡ instructions_of said) × (0 ≡ first_place said)
@@ -312,16 +259,6 @@ words_run b line first rest begins digit none =
     let same = ap (said_after b) begins ∙ is in
     let run = run_are (word_in first) (words_in_fields rest) in
     record { are = run.0 ∙ ap instructions_of (sym same); first = run.1 ∙ ap first_place (sym same) }
-
-run_by : (b : Before) (line : List ℕ) (first : Field) (rest : Fields) (digit : Bool) → fields_of line ≡ first ∷ rest → digit ≡ is_ascii_digit (slice_index first 0) → fault_after b (fields_of line) ≡ None
-    → (if not digit then [] else instructions (word_in first) (words_in_fields rest)) ≡ instructions_of (said_after b (fields_of line))
-run_by b line first rest true begins is none = let run = words_run b line first rest begins (sym is) none in run.are
-run_by b line first rest false begins is none = let run = others_run b line first rest begins (sym is) in run.are
-
-pub line_runs : (b : Before) (line : List ℕ) (first : Field) (rest : Fields) (digit : Bool) (x : ℕ) → fields_of line ≡ first ∷ rest → digit ≡ is_ascii_digit (slice_index first 0) → x ≡ word_in first → fault_after b (fields_of line) ≡ None
-    → (if not digit then [] else instructions x (words_in_fields rest)) ≡ instructions_of (said_after b (fields_of line))
-line_runs b line first rest digit x begins is word none =
-    ap (λ place. if not digit then [] else instructions place (words_in_fields rest)) word ∙ run_by b line first rest digit begins is none
 
 pub first_is : (old new : List Instruction) (o : Option Instruction) → IfSome o (λ i. old ≡ i ∷ new) → IfNone o ((old ≡ []) × (new ≡ [])) → slice_get old 0 ≡ o
 first_is old new (Some i) some none = ap (λ is. slice_get is 0) some

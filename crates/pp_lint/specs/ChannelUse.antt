@@ -7,10 +7,10 @@ use Rattle.pp_numbers.specs.Profile.{has_processor}
 use Rattle.pp_numbers.specs.declared.profile.Profile.{Profile}
 use Rattle.pp_lint.specs.Finding.{Finding}
 use Rattle.pp_lint.specs.Given.{Note, first_line}
-use Rattle.pp_lint.specs.InstructionEffect.{channel_used}
+use Rattle.pp_instructions.specs.InstructionEffect.{channel_used}
 use Rattle.pp_lint.specs.StraightLine.{field_of, is_at}
 use Rattle.pp_lint.specs.Warnings.{field_finding}
-use Rattle.pp_lint.specs.declared.instruction.Instruction.{Instruction}
+use Rattle.pp_instructions.specs.declared.instruction.Instruction.{Instruction}
 use Rattle.pp_lint.specs.declared.row.Kind.TheVariants.{Channel, Dead, Fault, Name}
 
 -- whether dead start opens a channel: that of a processor that no line names

@@ -3,11 +3,11 @@ use Rattle.std.specs.Prelude.{ℕ, ◌+◌, ◌==◌, ◌&&◌, ◌||◌, Bool, 
 use Rattle.std.specs.Str.{bytes_eq}
 use Rattle.pp_deck.specs.DeckLine.{Line, words}
 use Rattle.pp_deck.specs.DeckText.{fields_of}
-use Rattle.pp_lint.specs.Claim.{Claim, claims, comment_place}
-use Rattle.pp_lint.specs.Column.{column_of}
+use Rattle.pp_instructions.specs.Claim.{Claim, claims, comment_place}
+use Rattle.pp_instructions.specs.Column.{column_of}
 use Rattle.pp_lint.specs.Finding.{Finding}
-use Rattle.pp_lint.specs.Instruction.{instructions, may_have, mnemonic_of, words_and_text}
-use Rattle.pp_lint.specs.declared.instruction.Instruction.{Instruction}
+use Rattle.pp_instructions.specs.Instruction.{instructions, may_have, mnemonic_of, words_and_text}
+use Rattle.pp_instructions.specs.declared.instruction.Instruction.{Instruction}
 
 -- `UJN 0205`, `LJM`
 abbrev pub claim_text : Claim → List ℕ

@@ -8,7 +8,7 @@ use Rattle.pp_deck.specs.DeckText.{Fields, fields_of, is_line_feed}
 use Rattle.pp_deck.specs.Flaw.{code_of}
 use Rattle.pp_deck.specs.declared.deck_fault.DeckCode.{DeckCode}
 use Rattle.pp_deck.specs.declared.deck_fault.DeckCode.TheVariants.{TooLong, NotAscii}
-use Rattle.pp_lint.specs.Column.{column_of}
+use Rattle.pp_instructions.specs.Column.{column_of}
 use Rattle.pp_lint.specs.CommentFindings.{comment_findings}
 use Rattle.pp_lint.specs.FaultWords.{fault_words}
 use Rattle.pp_lint.specs.FieldAtFault.{fault_in, field_at_fault}

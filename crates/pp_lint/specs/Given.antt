@@ -7,9 +7,9 @@ use Rattle.pp_deck.specs.DeckLine.{Line, central_words, dead_start, line_after, 
 use Rattle.pp_deck.specs.DeckLoad.{processor_in}
 use Rattle.pp_deck.specs.DeckMeaning.{begins_section, has_fields, size_of}
 use Rattle.pp_deck.specs.DeckText.{Fields}
-use Rattle.pp_lint.specs.Instruction.{instructions_of}
-use Rattle.pp_lint.specs.InstructionEffect.{channel_used, leads_to}
-use Rattle.pp_lint.specs.declared.instruction.Instruction.{Instruction}
+use Rattle.pp_lint.specs.InstructionsOfLine.{instructions_of}
+use Rattle.pp_instructions.specs.InstructionEffect.{channel_used, leads_to}
+use Rattle.pp_instructions.specs.declared.instruction.Instruction.{Instruction}
 use Rattle.pp_lint.specs.declared.{row.Kind.Kind, row.Row.Row}
 use Rattle.pp_lint.specs.declared.row.Kind.TheVariants.{Fault, Name, Start, Word, Central, Dead, Target, Channel}
 

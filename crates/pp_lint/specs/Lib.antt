@@ -1,8 +1,5 @@
-pub mod Column
 pub mod Finding
-pub mod Claim
-pub mod Instruction
-pub mod InstructionEffect
+pub mod InstructionsOfLine
 pub mod CommentFindings
 pub mod FieldAtFault
 pub mod FaultWords
@@ -15,7 +12,6 @@ pub mod Findings
 pub mod LintText
 -- cited only by private contracts: nobody has to read these to believe what the crate promises
 pub mod LineFault
-pub mod FieldsBefore
 pub mod WordsOfLine
 pub mod FirstLines
 pub mod RowOfLine

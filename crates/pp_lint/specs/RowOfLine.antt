@@ -5,7 +5,8 @@ use Rattle.pp_lint.specs.Findings.{mark}
 use Rattle.pp_lint.specs.Given.{row, start_place}
 use Rattle.pp_lint.specs.LineFault.{said_after}
 use Rattle.pp_lint.specs.Warnings.{is_set}
-use Rattle.pp_lint.specs.WordsOfLine.{HasNoFault, word_in}
+use Rattle.pp_lint.specs.WordsOfLine.{HasNoFault}
+use Rattle.pp_instructions.specs.WordsInFields.{word_in}
 use Rattle.pp_word.specs.Numeral.{numeral}
 use Rattle.pp_lint.specs.declared.{line_fault.Before.Before, row.Kind.Kind, row.Row.Row}
 use Rattle.pp_lint.specs.declared.row.Kind.TheVariants.{Fault, Name, Start, Word, Central}

@@ -5,7 +5,7 @@ use Rattle.pp_deck.specs.DeckLine.{Line}
 use Rattle.pp_lint.specs.ChannelUse.{alone_findings}
 use Rattle.pp_lint.specs.Finding.{Finding}
 use Rattle.pp_lint.specs.Given.{Note}
-use Rattle.pp_lint.specs.Instruction.{first_place, instructions_of}
+use Rattle.pp_lint.specs.InstructionsOfLine.{first_place, instructions_of}
 use Rattle.pp_lint.specs.StraightLine.{fault_findings}
 use Rattle.pp_lint.specs.declared.{row.Kind.Kind}
 use Rattle.pp_lint.specs.declared.row.Kind.TheVariants.{Word}

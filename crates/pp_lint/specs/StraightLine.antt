@@ -7,10 +7,11 @@ use Rattle.pp_deck.specs.DeckLine.{Line}
 use Rattle.pp_deck.specs.DeckText.{Fields}
 use Rattle.pp_lint.specs.Finding.{Finding}
 use Rattle.pp_lint.specs.Given.{Note, first_line, given_at, notes, said_at}
-use Rattle.pp_lint.specs.Instruction.{instructions_of, words_and_text}
-use Rattle.pp_lint.specs.InstructionEffect.{goes_on, place_behind, sure_fault}
+use Rattle.pp_instructions.specs.Instruction.{words_and_text}
+use Rattle.pp_lint.specs.InstructionsOfLine.{instructions_of}
+use Rattle.pp_instructions.specs.InstructionEffect.{goes_on, place_behind, sure_fault}
 use Rattle.pp_lint.specs.Warnings.{field_finding}
-use Rattle.pp_lint.specs.declared.instruction.Instruction.{Instruction}
+use Rattle.pp_instructions.specs.declared.instruction.Instruction.{Instruction}
 use Rattle.pp_lint.specs.declared.{row.Kind.Kind}
 use Rattle.pp_lint.specs.declared.row.Kind.TheVariants.{Name, Word, Target}
 

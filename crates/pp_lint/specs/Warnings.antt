@@ -4,7 +4,7 @@ use Rattle.std.specs.List.{list_any, range_with_len}
 use Rattle.pp_word.specs.Address.{place_count}
 use Rattle.pp_word.specs.Numeral.{octal, short_decimal, short_octal}
 use Rattle.pp_deck.specs.DeckLine.{Line, section, start}
-use Rattle.pp_lint.specs.Column.{column_of}
+use Rattle.pp_instructions.specs.Column.{column_of}
 use Rattle.pp_lint.specs.Finding.{Finding}
 use Rattle.pp_lint.specs.Given.{Note, first_line, given}
 use Rattle.pp_lint.specs.declared.{row.Kind.Kind, row.Row.Row}

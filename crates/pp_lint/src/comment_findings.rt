@@ -3,8 +3,8 @@
 ghost use Rattle.std.specs.Prelude.{ℕ, ◌≡◌, ◌+◌, ◌<◌, ◌≤◌, ◌^◌, ◌++◌, length, codes};
 ghost use Rattle.std.specs.List.{flat_map};
 ghost use Rattle.pp_deck.specs.DeckText.{fields_of};
-ghost use Rattle.pp_lint.specs.Claim.{claim, claims};
-ghost use Rattle.pp_lint.specs.Column.{column_of};
+ghost use Rattle.pp_instructions.specs.Claim.{claim, claims};
+ghost use Rattle.pp_instructions.specs.Column.{column_of};
 ghost use Rattle.pp_lint.specs.CommentFindings.{against, claim_findings, claim_text, claims_findings, comment_findings, is_so_there};
 ghost use Rattle.pp_lint.specs.LineFault.{said_after};
 ghost use Rattle.pp_lint.specs.LintText.{finding_line, is_something_found};
@@ -12,13 +12,11 @@ ghost use Rattle.pp_lint.specs.WordsOfLine.{HasNoFault};
 ghost use Rattle.pp_lint.specs.declared.line_fault.Before.{Before};
 ghost use Rattle.pp_text.specs.TextWriter.{Prints};
 
-use crate::claim::{Claim, Claims, comment_place};
-use crate::column::Columns;
 use crate::fault_words::print_bytes;
-use crate::instruction::{Instruction, Instructions, word_of};
 use crate::line_fault::begins_with_digit;
 use crate::line_findings::print_place;
 use pp_deck::Fields;
+use pp_instructions::{Claim, Claims, Columns, Instruction, Instructions, comment_place, word_of};
 use pp_text::TextWriter;
 use std::io::Write;
 

@@ -7,9 +7,10 @@ ghost use Rattle.pp_lint.specs.LineFault.{said_after};
 ghost use Rattle.pp_lint.specs.RowOfLine.{Gives};
 ghost use Rattle.pp_lint.specs.declared.{line_fault.Before.Before, row.Kind.Kind};
 
-use crate::instruction::{Instruction, Instructions, instructions_of};
 use crate::row::{Kind, Row, place_of_start};
+use crate::words::instructions_of;
 use pp_channel::Memory;
+use pp_instructions::{Instruction, Instructions};
 use pp_numbers::{PpNo, Profile};
 use pp_word::{Word6, Word12};
 use std::alloc::Allocator;

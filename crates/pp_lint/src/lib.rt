@@ -4,13 +4,9 @@
 #![tactic(auto)]
 
 mod channel_use;
-mod claim;
-mod column;
 mod comment_findings;
 mod fault_words;
 mod first_lines;
-mod instruction;
-mod instruction_effect;
 mod law;
 mod line_fault;
 mod line_findings;
@@ -20,8 +16,9 @@ mod run_findings;
 mod straight_line;
 mod text_lines;
 mod warnings;
+mod words;
 
 pub use fault_words::print_bytes;
-pub use law::{lint_law, sure_fault_law};
+pub use law::lint_law;
 pub use lint_text::write_lint;
 pub use text_lines::TextLines;

@@ -10,9 +10,9 @@ ghost use Rattle.pp_lint.specs.LineFault.{fault_after, said_after};
 ghost use Rattle.pp_lint.specs.declared.row.Kind.{Kind};
 ghost use Rattle.pp_lint.specs.RowOfLine.{central_row, named_row, place_in_second, start_row, words_row};
 
-use crate::instruction::word_of;
 use crate::line_fault::{Before, begins_with_digit, is};
 use pp_deck::Fields;
+use pp_instructions::word_of;
 use pp_numbers::{PpNo, Profile};
 use pp_word::{Word12, numeral};
 

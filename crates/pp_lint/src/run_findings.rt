@@ -14,10 +14,10 @@ ghost use Rattle.pp_text.specs.TextWriter.{Prints};
 
 use crate::channel_use::print_alone_findings;
 use crate::first_lines::FirstLines;
-use crate::instruction::{first_place, instructions_of};
 use crate::line_fault::Before;
 use crate::row::{Kind, row_of};
 use crate::straight_line::print_fault_findings;
+use crate::words::{first_place, instructions_of};
 use pp_deck::Fields;
 use pp_numbers::PpNo;
 use pp_text::TextWriter;

@@ -12,11 +12,11 @@ ghost use Rattle.pp_lint.specs.RowOfLine.{Gives};
 ghost use Rattle.pp_lint.specs.declared.line_fault.Before.{Before};
 ghost use Rattle.pp_text.specs.TextWriter.{Prints};
 
-use crate::column::Columns;
 use crate::first_lines::FirstLines;
-use crate::instruction::{Instruction, Instructions, instructions_of};
 use crate::line_findings::print_place;
 use crate::row::Kind;
+use crate::words::instructions_of;
+use pp_instructions::{Columns, Instruction, Instructions};
 use pp_numbers::{PpNo, Profile};
 use pp_text::{TextWriter, print_short_decimal};
 use pp_word::Word12;

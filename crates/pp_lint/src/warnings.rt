@@ -13,12 +13,12 @@ ghost use Rattle.pp_lint.specs.Warnings.{field_finding, first_field, first_twice
 ghost use Rattle.pp_lint.specs.WordsOfLine.{HasNoFault};
 ghost use Rattle.pp_text.specs.TextWriter.{Prints};
 
-use crate::column::Columns;
 use crate::first_lines::FirstLines;
 use crate::line_fault::Before;
 use crate::line_findings::print_place;
 use crate::row::{Kind, Row, place_of_start, row_of};
 use pp_deck::Fields;
+use pp_instructions::Columns;
 use pp_numbers::PpNo;
 use pp_text::{TextWriter, octal4, print_short_decimal, print_short_octal};
 use pp_word::Word12;

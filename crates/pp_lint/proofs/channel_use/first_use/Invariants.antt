@@ -1,7 +1,7 @@
 use Rattle.std.proofs.Common.{◌≡◌, length}
 use Rattle.pp_deck.specs.DeckText.{fields_of}
 use Rattle.pp_lint.specs.ChannelUse.{first_use}
-use Rattle.pp_lint.specs.Instruction.{instructions_of}
+use Rattle.pp_lint.specs.InstructionsOfLine.{instructions_of}
 use Rattle.pp_lint.specs.LineFault.{said_after}
 use Rattle.pp_lint.specs.WordsOfLine.{HasNoFault}
 use Rattle.pp_lint.specs.declared.line_fault.Before.{Before}

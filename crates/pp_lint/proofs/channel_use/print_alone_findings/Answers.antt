@@ -6,7 +6,7 @@ use Rattle.pp_deck.specs.DeckText.{fields_of}
 use Rattle.pp_text.proofs.PrintingLemmas.{prints_more, prints_nothing}
 use Rattle.pp_text.specs.TextWriter.{Prints}
 use Rattle.pp_lint.specs.ChannelUse.{alone_finding}
-use Rattle.pp_lint.specs.Instruction.{instructions_of}
+use Rattle.pp_lint.specs.InstructionsOfLine.{instructions_of}
 use Rattle.pp_lint.specs.LineFault.{said_after}
 use Rattle.pp_lint.specs.LintText.{finding_line, is_something_found}
 use Rattle.pp_lint.proofs.ChannelUseLemmas.{all_alone, alone_more}

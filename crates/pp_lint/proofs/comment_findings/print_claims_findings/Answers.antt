@@ -1,7 +1,7 @@
 use Rattle.std.proofs.Common.{◌≡◌, ℕ, ◌+◌, ap, refl, subst, sym, ◌∙◌}
 use Rattle.std.specs.Prelude.{◌||◌}
-use Rattle.pp_lint.specs.Claim.{claim}
-use Rattle.pp_lint.specs.Column.{column_of}
+use Rattle.pp_instructions.specs.Claim.{claim}
+use Rattle.pp_instructions.specs.Column.{column_of}
 use Rattle.pp_lint.specs.CommentFindings.{claim_findings, claims_findings}
 use Rattle.pp_lint.specs.LintText.{is_something_found}
 use Rattle.pp_lint.proofs.CommentLemmas.{already, found_step, none_claimed, none_found, none_more, prints_none, prints_step}

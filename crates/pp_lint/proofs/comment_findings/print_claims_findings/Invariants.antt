@@ -4,8 +4,8 @@ use Rattle.std.specs.List.{flat_map}
 use Rattle.pp_deck.specs.DeckText.{fields_of}
 use Rattle.pp_text.specs.TextWriter.{Prints}
 use Rattle.pp_text.specs.declared.text_writer.TextWriter.{TextWriter}
-use Rattle.pp_lint.specs.Claim.{claims}
-use Rattle.pp_lint.specs.Column.{column_of}
+use Rattle.pp_instructions.specs.Claim.{claims}
+use Rattle.pp_instructions.specs.Column.{column_of}
 use Rattle.pp_lint.specs.CommentFindings.{claims_findings}
 use Rattle.pp_lint.specs.LintText.{finding_line, is_something_found}
 use Rattle.pp_lint.proofs.comment_findings.print_claims_findings.Given as goal

@@ -2,7 +2,8 @@ use Rattle.std.proofs.Common.{refl, sym, ap, arith, length, ◌∙◌}
 use Rattle.std.specs.Prelude.{◌||◌}
 use Rattle.pp_lint.specs.LineFault.{fault_after}
 use Rattle.pp_lint.specs.LintText.{is_something_found}
-use Rattle.pp_lint.proofs.FindingLemmas.{others_are_found, fault_is_found, few_fields, foreign_found, prints_finding}
+use Rattle.pp_lint.proofs.FindingLemmas.{others_are_found, fault_is_found, foreign_found, prints_finding}
+use Rattle.pp_instructions.proofs.FieldLemmas.{few_fields}
 use Rattle.pp_lint.proofs.WarningLemmas.{found_both, prints_both}
 use Rattle.pp_lint.proofs.line_findings.print_line_findings.Goals as goal
 

@@ -2,7 +2,7 @@ use Rattle.std.proofs.Common.{ap, arith, length, ◌∙◌}
 use Rattle.pp_deck.specs.DeckText.{fields_of}
 use Rattle.pp_lint.specs.LineFault.{fault_after}
 use Rattle.pp_lint.proofs.FaultLemmas.{code_is}
-use Rattle.pp_lint.proofs.FindingLemmas.{few_fields}
+use Rattle.pp_instructions.proofs.FieldLemmas.{few_fields}
 use Rattle.pp_lint.proofs.GivenLemmas.{fault_gives, fault_is_given}
 use Rattle.pp_lint.proofs.lint_text.row_after.Goals as goal
 

@@ -3,7 +3,7 @@ use Rattle.std.specs.List.{flat_map}
 use Rattle.pp_text.specs.TextWriter.{Prints}
 use Rattle.pp_lint.specs.LintText.{finding_line, is_something_found}
 use Rattle.pp_lint.proofs.CommentLemmas.{none_found, prints_none}
-use Rattle.pp_lint.proofs.FindingLemmas.{few_fields}
+use Rattle.pp_instructions.proofs.FieldLemmas.{few_fields}
 use Rattle.pp_lint.proofs.RunLemmas.{run_given, run_nothing}
 use Rattle.pp_lint.proofs.run_findings.print_run_findings.Goals as goal
 

@@ -2,7 +2,7 @@ use Rattle.std.proofs.Common.{ap, arith, length, sym, subst, ◌∙◌}
 use Rattle.std.specs.List.{flat_map}
 use Rattle.pp_lint.specs.LintText.{finding_line, is_something_found}
 use Rattle.pp_lint.proofs.CommentLemmas.{none_found, prints_none}
-use Rattle.pp_lint.proofs.FindingLemmas.{few_fields}
+use Rattle.pp_instructions.proofs.FieldLemmas.{few_fields}
 use Rattle.pp_lint.proofs.WarningLemmas.{warned_central, warned_channel, warned_dead, warned_name, warned_nothing, warned_start, warned_target, warned_word}
 use Rattle.pp_text.specs.TextWriter.{Prints}
 use Rattle.pp_lint.proofs.warnings.print_warnings.Goals as goal

@@ -1,5 +1,5 @@
 use Rattle.std.proofs.Common.{ap, arith, length}
-use Rattle.pp_lint.proofs.FindingLemmas.{few_fields}
+use Rattle.pp_instructions.proofs.FieldLemmas.{few_fields}
 use Rattle.pp_test.proofs.nearest.in_common.Goals as goal
 
 pub overflow_add-count : goal.overflow_add-count

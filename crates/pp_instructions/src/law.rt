@@ -1,0 +1,16 @@
+ghost use Rattle.std.specs.Prelude.{ℕ, ◌≡◌, ◌<◌, ◌/◌, ◌%◌, ◌^◌, Some};
+ghost use Rattle.pp_instructions.specs.InstructionEffect.{sure_fault};
+ghost use Rattle.pp_machine.specs.Effect.{faults};
+ghost use Rattle.pp_machine.specs.InstructionTable.{instruction};
+ghost use Rattle.pp_machine.specs.Processor.{Processor};
+ghost use Rattle.pp_machine.specs.Step.{local};
+ghost use Rattle.pp_word.specs.Opcode.{opcode_at};
+
+/// An instruction that is said to fault wherever it is run does: whatever its processor holds, the
+/// fault is all that its step leads to.
+#[tactic(auto, using(crate::proofs::SureFaultLemmas::surely_faults))]
+pub fn sure_fault_law()
+    ensures { (pp : Processor) (word fault : ℕ) → word < 2 ^ 12
+        → sure_fault pp.profile word ≡ Some fault
+        → instruction (opcode_at (word / 2 ^ 6)) pp (word % 2 ^ 6) ≡ local (faults pp fault) }
+{}
