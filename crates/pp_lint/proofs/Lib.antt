@@ -2,6 +2,7 @@ mod ChannelUseLemmas
 mod CommentLemmas
 mod FaultLemmas
 mod FaultOfLineLemmas
+mod FindingLemmas
 mod FirstLinesLemmas
 mod GivenLemmas
 mod LoadLemmas
@@ -9,5 +10,3 @@ mod RunLemmas
 mod StraightLineLemmas
 mod WarningLemmas
 mod WordsLemmas
--- facts of the definitions, which proofs of other crates cite
-pub mod FindingLemmas
