@@ -12,13 +12,13 @@ use Rattle.pp_check.specs.declared.trace_fault.TraceFlaw.TheVariants.{Malformed,
 abbrev pub state_text : ChannelState → List ℕ
 state_text state = channel_text state.flags.active state.register
 
--- what prevents that a word passes
+-- what keeps a word from passing
 abbrev pub passing_text : Flags → List ℕ
 passing_text flags = if flags.active
     then (if flags.full then codes "which is full" else codes "which is empty")
     else codes "which is inactive"
 
--- what prevents that a word is taken: if one waits it is another
+-- what keeps a word from being taken: if one waits it is another
 abbrev pub taking_text : Option ℕ → Flags → List ℕ
 taking_text (Some word) flags = codes "expected TAK " ++ octal 4 word
 taking_text None flags = passing_text flags

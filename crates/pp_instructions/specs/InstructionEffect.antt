@@ -1,6 +1,6 @@
 -- What an instruction does wherever it is run: whether it faults, where it leads, and which channel
 -- it uses. (Its code is the upper six bits of its word, its d the lower six.)
-use Rattle.std.specs.Prelude.{ℕ, ◌/◌, ◌%◌, ◌^◌, ◌==◌, ◌&&◌, Bool, not, nat_le, Option, None, Some, is_some, option_map, if◌then◌else◌}
+use Rattle.std.specs.Prelude.{ℕ, ◌/◌, ◌%◌, ◌^◌, ◌==◌, ◌&&◌, ◌||◌, Bool, not, nat_le, Option, None, Some, is_some, option_map, if◌then◌else◌}
 use Rattle.pp_word.specs.Address.{next_place, relative_to}
 use Rattle.pp_numbers.specs.Profile.{has_channel}
 use Rattle.pp_numbers.specs.declared.profile.Profile.{Profile}
@@ -8,7 +8,7 @@ use Rattle.pp_text.specs.InstructionText.{is_long, is_within}
 use Rattle.pp_instructions.specs.declared.instruction.Instruction.{Instruction}
 
 -- the fault of an instruction wherever it is run: 1 of EXN, 2 of RPN, 3 of one that works on a
--- channel that the machine has not
+-- channel that the machine does not have
 abbrev pub fault_of_code : Profile → ℕ → ℕ → Option ℕ
 fault_of_code profile code d =
     if code == 0o26 then Some 1
@@ -38,17 +38,22 @@ jump_of_code profile code place d m =
     else if is_within 0o64 0o67 code && has_channel profile d then m
     else None
 
--- a jump to its own place leads nowhere
-abbrev pub unless_own : ℕ → Option ℕ → Option ℕ
-unless_own place None = None
-unless_own place (Some target) = if target == place then None else Some target
+-- a jump to its own place leads nowhere, and none to place 0000: so a subroutine ends, until RJM
+-- stores the place to return to
+abbrev pub unless_idle : ℕ → Option ℕ → Option ℕ
+unless_idle place None = None
+unless_idle place (Some target) = if target == place || target == 0 then None else Some target
 
 unfoldable pub leads_to : Profile → Instruction → Option ℕ
-leads_to profile i = unless_own i.place
+leads_to profile i = unless_idle i.place
     (jump_of_code profile (i.word / 2 ^ 6) i.place (i.word % 2 ^ 6) i.second)
 
--- the channel that an instruction uses; a function code, of FAN or FNC, needs no second processor
-unfoldable pub channel_used : Profile → ℕ → Option ℕ
-channel_used profile word =
-    if is_within 0o64 0o75 (word / 2 ^ 6) && has_channel profile (word % 2 ^ 6)
+-- the channel that an instruction works on
+unfoldable pub channel_named : Profile → ℕ → Option ℕ
+channel_named profile word =
+    if nat_le 0o64 (word / 2 ^ 6) && has_channel profile (word % 2 ^ 6)
     then Some (word % 2 ^ 6) else None
+
+-- whether it is FAN or FNC, which send a function code to equipment
+unfoldable pub sends_function : ℕ → Bool
+sends_function word = nat_le 0o76 (word / 2 ^ 6)

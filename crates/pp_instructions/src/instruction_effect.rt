@@ -1,7 +1,7 @@
 //! What an instruction does wherever it is run.
 
 ghost use Rattle.std.specs.Prelude.{◌≡◌, ◌/◌, ◌%◌, ◌^◌, ◌<◌, IfSome};
-ghost use Rattle.pp_instructions.specs.InstructionEffect.{channel_used, fault_of_code, goes_on, jump_of_code, leads_to, place_behind, sure_fault};
+ghost use Rattle.pp_instructions.specs.InstructionEffect.{channel_named, fault_of_code, goes_on, jump_of_code, leads_to, place_behind, sends_function, sure_fault};
 ghost use Rattle.pp_word.specs.Opcode.{code_of};
 
 use crate::instruction::Instruction;
@@ -38,29 +38,37 @@ impl Instruction {
         }
     }
 
-    /// The place that it leads to, if it is a jump to another place.
+    /// The place that it leads to, if it is a jump to another place than its own and 0000.
     #[tactic(auto, unfolding(crate::specs::InstructionEffect::leads_to))]
     pub fn leads_to(&self, profile: Profile) -> Option<Word12>
         ensures { result ≡ leads_to profile self.now }
     {
         let (operation, d) = decode(self.word);
         let target = jump_of(profile, operation, self.place, d, self.second)?;
-        if target.get() == self.place.get() {
+        if target.get() == self.place.get() || target.get() == 0 {
             return None;
         }
         Some(target)
     }
 
-    /// The channel that it uses, if it uses one.
-    #[tactic(auto, unfolding(crate::specs::InstructionEffect::channel_used))]
-    pub fn channel_used(&self, profile: Profile) -> Option<Word6>
-        ensures { result ≡ channel_used profile self.now.word }
+    /// The channel that it works on, if it is for one that the machine has.
+    #[tactic(auto, unfolding(crate::specs::InstructionEffect::channel_named))]
+    pub fn channel_named(&self, profile: Profile) -> Option<Word6>
+        ensures { result ≡ channel_named profile self.now.word }
     {
         let (operation, d) = decode(self.word);
-        if matches!(operation.code(), 0o64..=0o75) && profile.channel(d.get()).is_some() {
+        if operation.code() >= 0o64 && profile.channel(d.get()).is_some() {
             return Some(d);
         }
         None
+    }
+
+    /// Whether it sends a function code to equipment.
+    #[tactic(auto, unfolding(crate::specs::InstructionEffect::sends_function))]
+    pub fn sends_function(&self) -> bool
+        ensures { result ≡ sends_function self.now.word }
+    {
+        decode(self.word).0.code() >= 0o76
     }
 }
 

@@ -3,28 +3,17 @@ use Rattle.std.specs.Prelude.{ℕ, ◌==◌, Bool, not, length, take, filter, Op
 use Rattle.std.specs.List.{last_or, range_with_len}
 use Rattle.std.specs.Result.{result_err}
 use Rattle.pp_deck.specs.DeckText.{Fields}
+use Rattle.pp_deck.specs.FaultText.{code_number}
 use Rattle.pp_deck.specs.declared.deck_fault.DeckCode.{DeckCode}
 
 -- the fault in what was read, if there is one, by the code of what is wrong
 abbrev pub fault_in : {A Flaw : Type 0} → (Flaw → DeckCode) → Result A Flaw → Option DeckCode
 fault_in code_of read = option_map code_of (result_err read)
 
--- the number of a fault, as in `deck fault 4`
-abbrev pub number_of : DeckCode → ℕ
-number_of DeckCode.TooLong = 1
-number_of DeckCode.NotAscii = 2
-number_of DeckCode.UnknownLine = 3
-number_of DeckCode.BadDigits = 4
-number_of DeckCode.BadProcessor = 5
-number_of DeckCode.NoProcessor = 6
-number_of DeckCode.PastEnd = 7
-number_of DeckCode.CentralRange = 8
-number_of DeckCode.Memory = 9
-
--- the same of a line, and 0 if it has none
+-- the number of a fault, as in `deck fault 4`, and 0 if there is none
 abbrev pub fault_number : Option DeckCode → ℕ
 fault_number None = 0
-fault_number (Some code) = number_of code
+fault_number (Some code) = code_number code
 
 -- by the fault that fields have as a line: whether they have another, or none, without field i and
 -- those after it

@@ -8,7 +8,7 @@ use Rattle.pp_deck.specs.DeckLoad.{processor_in}
 use Rattle.pp_deck.specs.DeckMeaning.{begins_section, has_fields, size_of}
 use Rattle.pp_deck.specs.DeckText.{Fields}
 use Rattle.pp_lint.specs.InstructionsOfLine.{instructions_of}
-use Rattle.pp_instructions.specs.InstructionEffect.{channel_used, leads_to}
+use Rattle.pp_instructions.specs.InstructionEffect.{channel_named, leads_to}
 use Rattle.pp_instructions.specs.declared.instruction.Instruction.{Instruction}
 use Rattle.pp_lint.specs.declared.{row.Kind.Kind, row.Row.Row}
 use Rattle.pp_lint.specs.declared.row.Kind.TheVariants.{Fault, Name, Start, Word, Central, Dead, Target, Channel}
@@ -75,7 +75,7 @@ note_if number kind (Some place) =
 -- what an instruction of processor n gives: the place that it leads to, the channel that it uses
 abbrev pub notes_of_instruction : ℕ → Profile → ℕ → Instruction → List Note
 notes_of_instruction number profile n i = note_if number (Target n) (leads_to profile i)
-    ++ note_if number (Channel n) (channel_used profile i.word)
+    ++ note_if number (Channel n) (channel_named profile i.word)
 
 -- where a line starts its processor; 0 if it starts none
 abbrev pub start_place : Option Line → ℕ

@@ -3,13 +3,13 @@
 ghost use Rattle.std.specs.Prelude.{ℕ, ◌≡◌, ◌+◌, List};
 ghost use Rattle.std.specs.List.{flat_map};
 ghost use Rattle.pp_deck.specs.DeckText.{fields_of};
-ghost use Rattle.pp_lint.specs.ChannelUse.{alone_finding, alone_findings, alone_text, first_use, is_alone, is_opened, is_shared, is_user_beside};
+ghost use Rattle.pp_lint.specs.ChannelUse.{alone_finding, alone_findings, alone_text, first_use, is_alone, is_opened, is_shared, is_used_by_another};
 ghost use Rattle.pp_lint.specs.FirstLines.{Shows};
 ghost use Rattle.pp_lint.specs.Given.{Note};
 ghost use Rattle.pp_lint.specs.InstructionsOfLine.{instructions_of};
 ghost use Rattle.pp_lint.specs.LineFault.{said_after};
 ghost use Rattle.pp_lint.specs.LintText.{finding_line, is_something_found};
-ghost use Rattle.pp_instructions.specs.InstructionEffect.{channel_used};
+ghost use Rattle.pp_instructions.specs.InstructionEffect.{channel_named};
 ghost use Rattle.pp_lint.specs.StraightLine.{is_at};
 ghost use Rattle.pp_lint.specs.Warnings.{field_finding};
 ghost use Rattle.pp_lint.specs.WordsOfLine.{HasNoFault};
@@ -69,8 +69,8 @@ pub(crate) fn print_alone_findings<A: Allocator, W: Write>(
     is_found
 }
 
-/// Whether the line of a number is the first to use a channel that this processor alone uses, and
-/// no dead start opens.
+/// Whether the line of a number is the first to name a channel that this processor alone names,
+/// and no dead start opens.
 #[tactic(auto, unfolding(crate::specs::ChannelUse::is_alone))]
 fn is_alone<A: Allocator>(
     firsts: &FirstLines<A>,
@@ -101,28 +101,29 @@ fn is_opened<A: Allocator>(firsts: &FirstLines<A>, profile: Profile, c: Word6) -
     }
 }
 
-/// Whether a processor other than n uses a channel.
+/// Whether a processor other than n names a channel.
 fn is_shared<A: Allocator>(firsts: &FirstLines<A>, n: PpNo, c: Word6) -> bool
     ensures { (notes : List Note) → Shows firsts.now notes → result ≡ is_shared notes n c }
 {
     for place in 0..PROCESSORS {
-        if is_user_beside(firsts, n, c, PpNo::at(place)) {
+        if is_used_by_another(firsts, n, c, PpNo::at(place)) {
             return true;
         }
     }
     false
 }
 
-/// Whether processor m, which is not n, uses a channel.
-fn is_user_beside<A: Allocator>(firsts: &FirstLines<A>, n: PpNo, c: Word6, m: PpNo) -> bool
+/// Whether processor m, which is not n, names a channel.
+fn is_used_by_another<A: Allocator>(firsts: &FirstLines<A>, n: PpNo, c: Word6, m: PpNo) -> bool
     ensures { (notes : List Note) → Shows firsts.now notes
-        → result ≡ is_user_beside notes n c m }
+        → result ≡ is_used_by_another notes n c m }
 {
     m.get() != n.get() && firsts.line_of(&Kind::Channel(m), usize::from(c.get())) != 0
 }
 
-/// Prints that a processor alone uses a channel, at the first instruction of a line that does, if
-/// that is so and no earlier line does; and returns whether it is printed.
+/// Prints that a processor alone uses a channel, at the first instruction of a line that names it,
+/// if that is so, no earlier line does and it sends no function code; and returns whether it is
+/// printed.
 fn print_alone_finding<A: Allocator, W: Write>(
     text: &mut TextWriter<W>,
     firsts: &FirstLines<A>,
@@ -149,6 +150,9 @@ fn print_alone_finding<A: Allocator, W: Write>(
     let Some(i) = first_use(profile, c, line) else {
         return false;
     };
+    if i.sends_function() {
+        return false;
+    }
     print_alone(text, n, c, number, line, field_of(first, &i));
     true
 }
@@ -182,26 +186,26 @@ fn print_alone_text<W: Write>(text: &mut TextWriter<W>, n: PpNo, c: Word6)
     text.print(b" alone");
 }
 
-/// The first instruction of a line that uses a channel.
+/// The first instruction of a line that names a channel.
 fn first_use(profile: Profile, c: Word6, line: &[u8]) -> Option<Instruction>
     ensures { (before : Before) → HasNoFault before line.now → result
         ≡ first_use profile c (instructions_of (said_after before (fields_of line.now))) }
 {
     let mut instructions = instructions_of(line);
     while let Some(i) = instructions.next_instruction() {
-        if uses(profile, c, &i) {
+        if names(profile, c, &i) {
             return Some(i);
         }
     }
     None
 }
 
-/// Whether an instruction uses a channel.
-fn uses(profile: Profile, c: Word6, i: &Instruction) -> bool
-    ensures { result ≡ is_at c (channel_used profile i.now.word) }
+/// Whether an instruction names a channel.
+fn names(profile: Profile, c: Word6, i: &Instruction) -> bool
+    ensures { result ≡ is_at c (channel_named profile i.now.word) }
 {
-    match i.channel_used(profile) {
-        Some(used) => used.get() == c.get(),
+    match i.channel_named(profile) {
+        Some(named) => named.get() == c.get(),
         None => false,
     }
 }

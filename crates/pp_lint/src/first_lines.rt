@@ -142,7 +142,7 @@ impl<A: Allocator> FirstLines<A> {
             → Shows self.new (notes ++ notes_of_instruction number profile n i.now) }
     {
         self.note_target(n, i.leads_to(profile), number);
-        self.note_channel(n, i.channel_used(profile), number);
+        self.note_channel(n, i.channel_named(profile), number);
     }
 
     /// Notes a place that START or a jump of a processor leads to, if there is one.

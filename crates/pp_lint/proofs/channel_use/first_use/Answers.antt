@@ -8,11 +8,11 @@ loop-i-init c = λ before clean. ap (first_use c.args.profile c.args.c) (c.instr
 
 pub loop-i-preserved : goal.loop-i-preserved
 loop-i-preserved c = λ before clean.
-    use_later c.args.profile c.args.c _ _ c.in-Some.i c.in-Some.ensures.taken (sym c.if-uses.false ∙ c.uses.ensures) ∙ c.loop-i.invariant before clean
+    use_later c.args.profile c.args.c _ _ c.in-Some.i c.in-Some.ensures.taken (sym c.if-names.false ∙ c.names.ensures) ∙ c.loop-i.invariant before clean
 
-pub returns-then-uses : goal.returns-then-uses
-returns-then-uses c = λ before clean.
-    use_here c.args.profile c.args.c _ _ c.in-Some.i c.in-Some.ensures.taken (sym c.if-uses.true ∙ c.uses.ensures) ∙ c.loop-i.invariant before clean
+pub returns-then-names : goal.returns-then-names
+returns-then-names c = λ before clean.
+    use_here c.args.profile c.args.c _ _ c.in-Some.i c.in-Some.ensures.taken (sym c.if-names.true ∙ c.names.ensures) ∙ c.loop-i.invariant before clean
 
 pub returns : goal.returns
 returns c = λ before clean.

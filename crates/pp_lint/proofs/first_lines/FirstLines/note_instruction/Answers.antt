@@ -8,5 +8,5 @@ pub returns : goal.returns
 returns g c = λ notes shows.
     let both = c.note_channel.ensures _ (c.note_target.ensures notes shows) in
     let target = note_if c.args.number (Target c.args.n) c.leads_to.result in
-    let channel = note_if c.args.number (Channel c.args.n) c.channel_used.result in
-    rw (← c.leads_to.ensures, ← c.channel_used.ensures) (subst (Shows c.note_channel.new.self) (append_assoc notes target channel) both)
+    let channel = note_if c.args.number (Channel c.args.n) c.channel_named.result in
+    rw (← c.leads_to.ensures, ← c.channel_named.ensures) (subst (Shows c.note_channel.new.self) (append_assoc notes target channel) both)
