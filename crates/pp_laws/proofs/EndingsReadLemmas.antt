@@ -1,15 +1,12 @@
 -- The orders that are read from the text of all endings are those that it was printed of.
-use Rattle.std.proofs.Common.{◌≡◌, ℕ, zero, suc, ◌+◌, ◌<◌, ◌≤◌, Bool, true, false, cond, eqb, List, [], ◌∷◌, ◌++◌, append-nil, append_assoc, get_or, length, take, Option, Some, None, refl, sym, ap, ◌∙◌, subst, arith}
+use Rattle.std.proofs.Common.{◌≡◌, ℕ, zero, suc, ◌+◌, ◌<◌, ◌≤◌, Bool, true, false, cond, eqb, List, [], ◌∷◌, ◌++◌, append-nil, append_assoc, length, take, Option, Some, refl, sym, ap, ◌∙◌, subst, arith}
 use Rattle.std.specs.Prelude.{All, codes, slice_index_or}
 use Rattle.std.specs.List.{flat_map, slice_split}
-use Rattle.std.specs.Option.{option_map}
 use Rattle.std.proofs.lemmas.Bool.{ne_eqb}
 use Rattle.std.proofs.lemmas.List.{take_more}
 use lib.Seq.{take_all}
 use Rattle.std.proofs.lemmas.List.Elements.{All-get_or}
 use Rattle.std.proofs.lemmas.List.Splits.{slice_split_at}
-use Rattle.std.proofs.lemmas.List.Sums.{AllPass-from_list_all}
-use Rattle.std.proofs.lemmas.Option.{none-some, option_and_then_some, same_Some}
 use Rattle.pp_numbers.specs.PpNo.{all_processors, is_named}
 use Rattle.pp_numbers.specs.ChannelNo.{all_channels}
 use Rattle.pp_numbers.specs.declared.profile.Profile.{Profile}
@@ -23,7 +20,7 @@ use Rattle.pp_deck.specs.DeckLine.{Line}
 use Rattle.pp_deck.specs.DeckMeaning.{LoadedDeck}
 use Rattle.pp_deck.specs.DeckText.{is_line_feed}
 use Rattle.pp_deck.specs.InUse.{in_use}
-use Rattle.pp_deck.proofs.FieldTextLemmas.{is_plain, plain_least}
+use Rattle.pp_deck.proofs.FieldTextLemmas.{is_plain}
 use Rattle.pp_listing.specs.ListedLine.{deck_line, line_text}
 use Rattle.pp_command.specs.OrderList.{listed_steps}
 use Rattle.pp_text.specs.OrderText.{order_text}
@@ -34,14 +31,12 @@ use Rattle.pp_state.specs.StateText.{changes_text}
 use Rattle.pp_orders.specs.Endings.{CanBeListed}
 use Rattle.pp_endings.specs.EndingsText.{ending_at, ending_text, endings_text, going_line, going_text, head_line, order_line}
 use Rattle.pp_laws.specs.OrdersRead.{SaysMore, names_order, order_named, orders_on, orders_read}
-use Rattle.pp_laws.proofs.PlainLemmas.{IsPlain, decimal_plain, line_no_order, line_plain, order_plain, said_plain}
-use Rattle.pp_laws.proofs.PrintedLineLemmas.{channel_body, channel_line_is, plain_channel, plain_more, plain_processor, processor_body, processor_line_is}
+use Rattle.pp_laws.proofs.PlainLemmas.{line_no_order, said_plain}
+use Rattle.pp_listing.proofs.ListedLineLemmas.{IsPlain, bare_plain, no_line_feed, plain_append}
+use Rattle.pp_listing.proofs.OrderCommentLemmas.{order_plain, plain_digit}
+use Rattle.pp_text.proofs.Telling.{short_decimal_pass}
+use Rattle.pp_laws.proofs.PrintedLineLemmas.{channel_body, channel_line_is, plain_channel, plain_processor, processor_body, processor_line_is}
 use Rattle.pp_laws.proofs.OrderReadLemmas.{read_back}
-
-no_line_feed : (body : List ℕ) → IsPlain body → All (λ c. is_line_feed c ≡ false) body
-no_line_feed body plain = λ k d lt.
-    let least = plain_least (get_or body k d) (AllPass-from_list_all is_plain body plain k d lt) in
-    ne_eqb (get_or body k d) 10 (λ e. absurd (omega (arith, least, e)))
 
 split_line : (body rest : List ℕ) → IsPlain body → slice_split is_line_feed ((body ++ line_end) ++ rest) ≡ body ∷ slice_split is_line_feed rest
 split_line body rest plain =
@@ -98,7 +93,7 @@ module _ (profile : Profile) where
   body_plain : (order : List ℕ) → IsPlain (order_body order)
   unfolding order_body
   body_plain [] = refl
-  body_plain (n ∷ ns) = plain_more (codes "ORDER ") (order_text (n ∷ ns)) refl (order_plain (n ∷ ns))
+  body_plain (n ∷ ns) = plain_append (codes "ORDER ") (order_text (n ∷ ns)) refl (order_plain (n ∷ ns))
 
   body_names : (order : List ℕ) → names_order (order_body order) ≡ true
   unfolding order_body
@@ -146,7 +141,7 @@ module _ (profile : Profile) where
       (other_line (processor_body n (processor_of n m) said) (plain_processor n (processor_of n m) said (said_plain n m (is_named going n))) (no_order n (processor_of n m) said)))
 
   passes_deck_line : (line : Line) → Passes (deck_line line)
-  passes_deck_line line = other_line (line_text line) (line_plain line) (line_no_order line)
+  passes_deck_line line = other_line (line_text line) (bare_plain line) (line_no_order line)
 
   no_channel_order : (c : ℕ) (is_active : Bool) (word : Option ℕ) → names_order (channel_body c is_active word) ≡ false
   unfolding channel_body
@@ -171,10 +166,7 @@ module _ (profile : Profile) where
   passes_processors shown going m = passes_each (going_line shown going m) all_processors (passes_processor shown going m)
 
   passes_head : (count : ℕ) (more : Bool) → Passes (head_line count more)
-  passes_head count more =
-      let behind = cond more (codes " OR MORE") [] in
-      let counted = codes "ENDINGS " ++ short_decimal count in
-      other_line (counted ++ behind) (plain_more counted behind (plain_more (codes "ENDINGS ") (short_decimal count) refl (decimal_plain count)) (plain_behind more)) refl
+  passes_head count more = other_line (codes "ENDINGS " ++ short_decimal count ++ cond more (codes " OR MORE") []) (search (plain_append, short_decimal_pass is_plain plain_digit count, plain_behind more)) refl
     where
       plain_behind : (more : Bool) → IsPlain (cond more (codes " OR MORE") [])
       plain_behind true = refl

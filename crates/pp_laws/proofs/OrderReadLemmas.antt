@@ -1,19 +1,18 @@
 -- An order is read as it is printed.
-use Rattle.std.proofs.Common.{◌≡◌, ℕ, zero, suc, ◌+◌, ◌-◌, ◌*◌, ◌/◌, ◌%◌, ◌^◌, ◌<◌, ◌≤◌, Bool, true, false, cond, eqb, IsTrue, List, [], ◌∷◌, ◌++◌, append-nil, drop, get_or, length, length-append, map, replicate, Option, Some, None, refl, sym, ap, ◌∙◌, inl, inr, arith}
-use Rattle.std.specs.Prelude.{All, codes, nat_le, nat_lt, not, position, take}
+use Rattle.std.proofs.Common.{◌≡◌, ℕ, zero, suc, ◌+◌, ◌-◌, ◌/◌, ◌%◌, ◌^◌, ◌<◌, ◌≤◌, Bool, true, false, cond, eqb, IsTrue, List, [], ◌∷◌, ◌++◌, append-nil, drop, get_or, length, length-append, map, replicate, Some, None, refl, sym, ap, ◌∙◌, inl, inr, arith}
+use Rattle.std.specs.Prelude.{All, codes, nat_lt, not, position, take}
 use Rattle.std.specs.List.{join_with_byte, list_all, position_or_len, slice_split}
-use Rattle.std.specs.Option.{option_and_then, option_map}
 use lib.Seq.{drop-append_seam, drop-drop, take-append-le, take_all}
 use Rattle.std.proofs.Math.Nat.{pow-suc, pow-zero}
 use Rattle.std.proofs.lemmas.Bool.{and_parts, cases_eq, eqb-true, le-leb, le-ltb, lt-ltb, ne_eqb}
 use Rattle.std.proofs.lemmas.List.{length-drop, length-replicate}
 use Rattle.std.proofs.lemmas.List.Elements.{All-append, All-drop, All-head, All-nil, All-push, All-tail}
-use Rattle.std.proofs.lemmas.List.Folds.{list_all-append}
 use Rattle.std.proofs.lemmas.List.Splits.{slice_split_at, slice_split_none}
-use Rattle.std.proofs.lemmas.List.Sums.{AllPass-from_list_all, fold-append, prefix_len_is}
-use Rattle.std.proofs.lemmas.Nat.{div-add-mod'}
+use Rattle.std.proofs.lemmas.List.Sums.{AllPass-from_list_all, prefix_len_is}
 use Rattle.pp_word.specs.Numeral.{digit, is_digit, numeral, short_decimal, short_octal, unpadded, value_of}
 use Rattle.pp_word.proofs.NumeralLemmas.{Pass, short_pass, short_read}
+use Rattle.pp_text.proofs.Telling.{decimal_digit, short_decimal_pass, short_decimal_value}
+use Rattle.pp_listing.proofs.OrderCommentLemmas.{row_pass}
 use Rattle.pp_numbers.specs.Profile.{has_processor, processor_in_turn, processors_in}
 use Rattle.pp_numbers.specs.declared.profile.Profile.{Profile}
 use Rattle.pp_numbers.specs.declared.profile.Profile.TheVariants.{Ten, Twenty}
@@ -23,25 +22,10 @@ use Rattle.pp_machine.specs.Run.{barrel}
 use Rattle.pp_machine.proofs.RunLemmas.{length-barrel}
 use Rattle.pp_listing.specs.RestOfOrder.{order_left, turns_of_rounds}
 use Rattle.pp_command.specs.NumberList.{is_comma, numbered, numbers_of}
-use Rattle.pp_command.specs.OrderList.{all_steps, is_colon, item_by, item_steps, listed_steps, steps_of}
+use Rattle.pp_command.specs.OrderList.{all_steps, is_colon, item_steps, listed_steps, steps_of}
 use Rattle.pp_text.specs.OrderText.{StepsInARow, order_text, row_text, rows_of, step_and_rows}
 
 -- ---- counts
-
-value_end : (characters : List ℕ) (d : ℕ) → value_of 10 (characters ++ digit d) ≡ value_of 10 characters * 10 + d
-value_end characters d = grind (arith, fold-append)
-
-unpadded_value : (most n : ℕ) → n < 10 ^ most → value_of 10 (unpadded most n) ≡ n
-unpadded_value zero n h = omega arith
-unpadded_value (suc most) n h =
-    elim (cases_eq n 0) [
-      | inl z ↦ rw z refl
-      | inr some ↦
-          let rest : n / 10 < 10 ^ most = omega (arith, pow-suc 10 most) in
-          rw (ne_eqb n 0 some) (value_end (unpadded most (n / 10)) (n % 10)
-          ∙ ap (λ (x : ℕ). x * 10 + n % 10) (unpadded_value most (n / 10) rest)
-          ∙ div-add-mod' n 10)
-    ]
 
 unpadded_short : (most k n : ℕ) → n < 10 ^ k → length (unpadded most n) ≤ k
 unpadded_short zero k n h = omega arith
@@ -56,34 +40,9 @@ unpadded_short (suc most) (suc k) n h =
           rw (ne_eqb n 0 some) (omega (arith, short, all))
     ]
 
-passes : (p : ℕ → Bool) (xs ys : List ℕ) → list_all p xs ≡ true → list_all p ys ≡ true → list_all p (xs ++ ys) ≡ true
-passes p xs ys h k = list_all-append p xs ys ∙ rw (h, k) refl
-
-passes_if : (p : ℕ → Bool) (b : Bool) (xs ys : List ℕ) → list_all p xs ≡ true → list_all p ys ≡ true → list_all p (cond b xs ys) ≡ true
-passes_if p true xs ys h k = h
-passes_if p false xs ys h k = k
-
-digit_passes : (p : ℕ → Bool) → Pass 10 p → (n : ℕ) → list_all p (digit (n % 10)) ≡ true
-digit_passes p h n = rw (h (n % 10) (omega arith)) refl
-
-unpadded_passes : (p : ℕ → Bool) → Pass 10 p → (most n : ℕ) → list_all p (unpadded most n) ≡ true
-unpadded_passes p h zero n = refl
-unpadded_passes p h (suc most) n = passes_if p (eqb n 0) [] (unpadded most (n / 10) ++ digit (n % 10)) refl (passes p (unpadded most (n / 10)) (digit (n % 10)) (unpadded_passes p h most (n / 10)) (digit_passes p h n))
-
-decimal_passes : (p : ℕ → Bool) → Pass 10 p → (n : ℕ) → list_all p (short_decimal n) ≡ true
-unfolding short_decimal
-decimal_passes p h n = passes p (unpadded 19 (n / 10)) (digit (n % 10)) (unpadded_passes p h 19 (n / 10)) (digit_passes p h n)
-
-ten_digit : Pass 10 (is_digit 10)
-ten_digit d low = grind (arith, le-leb, lt-ltb)
-
 read_number : (n : ℕ) (text : List ℕ) → 1 ≤ length text → length text ≤ 6 → list_all (is_digit 10) text ≡ true → value_of 10 text ≡ n → numeral 10 6 text ≡ Some n
 unfolding numeral
 read_number n text some short digits value = grind (arith, le-leb)
-
-decimal_value : (n : ℕ) → n ≤ 999999 → value_of 10 (short_decimal n) ≡ n
-unfolding short_decimal
-decimal_value n few = value_end (unpadded 19 (n / 10)) (n % 10) ∙ ap (λ (x : ℕ). x * 10 + n % 10) (unpadded_value 19 (n / 10) (omega (arith, few))) ∙ div-add-mod' n 10
 
 decimal_length : (n : ℕ) → n ≤ 999999 → (1 ≤ length (short_decimal n)) × (length (short_decimal n) ≤ 6)
 unfolding short_decimal
@@ -93,7 +52,7 @@ decimal_length n few =
     (omega (arith, all), omega (arith, all, short))
 
 pub count_read : (n : ℕ) → n ≤ 999999 → numeral 10 6 (short_decimal n) ≡ Some n
-count_read n few = let long = decimal_length n few in read_number n (short_decimal n) long.0 long.1 (decimal_passes (is_digit 10) ten_digit n) (decimal_value n few)
+count_read n few = let long = decimal_length n few in read_number n (short_decimal n) long.0 long.1 (short_decimal_pass (is_digit 10) decimal_digit n) (short_decimal_value n (omega (arith, few)))
 
 -- ---- what a text is cut at
 
@@ -122,10 +81,7 @@ octal_lacks mark n h = short_pass (λ c. not (eqb c mark)) (λ d low. h d (omega
 
 row_lacks : (row : StepsInARow) → Lacks 44 (row_text row)
 unfolding Lacks
-row_lacks row =
-    passes (λ c. not (eqb c 44)) (short_octal 2 row.processor) (cond (eqb row.count 1) [] (codes ":" ++ short_decimal row.count)) (short_pass (λ c. not (eqb c 44)) (λ d low. digit_before 44 (omega arith) d (omega (arith, low))) 2 row.processor)
-    (passes_if (λ c. not (eqb c 44)) (eqb row.count 1) [] (codes ":" ++ short_decimal row.count) refl
-    (passes (λ c. not (eqb c 44)) (codes ":") (short_decimal row.count) refl (decimal_passes (λ c. not (eqb c 44)) (digit_before 44 (omega arith)) row.count)))
+row_lacks row = row_pass (λ c. not (eqb c 44)) (digit_before 44 (omega arith)) refl row
 
 rows_split : (row : StepsInARow) (rows : List StepsInARow) → slice_split is_comma (join_with_byte 44 (map row_text (row ∷ rows))) ≡ map row_text (row ∷ rows)
 rows_split row [] = slice_split_none is_comma (row_text row) (each_lacks 44 (row_text row) (row_lacks row))
@@ -164,16 +120,11 @@ steps_some n (suc k) some = refl
 module _ (profile : Profile) where
   number_read : (n : ℕ) → IsTrue (has_processor profile n) → numbered (has_processor profile) (short_octal 2 n) ≡ Some n
   unfolding numbered
-  number_read n has =
-      let fits = processor_fits n (processor_named profile n has) in
-      ap (option_and_then (λ m. cond (has_processor profile m) (Some m) None)) (short_read 2 n (omega arith) (omega (arith, fits)))
-      ∙ ap (λ (b : Bool). cond b (Some n) None) has
+  number_read n has = rw (short_read 2 n (omega arith) (omega (arith, processor_fits n (processor_named profile n has))), has) refl
 
   item_one : (n : ℕ) → IsTrue (has_processor profile n) → item_steps profile (short_octal 2 n) ≡ Some (replicate 1 n)
   unfolding item_steps
-  item_one n has =
-      ap (item_by profile (short_octal 2 n)) (no_colon (short_octal 2 n) (octal_lacks 58 n (digit_other 58 (omega arith))))
-      ∙ ap (λ (o : Option ℕ). steps_of o (Some 1)) (number_read n has)
+  item_one n has = rw (no_colon (short_octal 2 n) (octal_lacks 58 n (digit_other 58 (omega arith))), number_read n has) refl
 
   item_more : (n k : ℕ) → IsTrue (has_processor profile n) → 1 ≤ k → k ≤ 999999 → item_steps profile (short_octal 2 n ++ 58 ∷ short_decimal k) ≡ Some (replicate k n)
   unfolding item_steps
@@ -183,12 +134,7 @@ module _ (profile : Profile) where
       let place = length number in
       let before : take place (number ++ 58 ∷ count) ≡ number = take-append-le place number (58 ∷ count) (omega arith) ∙ take_all place number (omega arith) in
       let behind : drop (place + 1) (number ++ 58 ∷ count) ≡ count = sym (drop-drop 1 place (number ++ 58 ∷ count)) ∙ ap (drop 1) (drop-append_seam number (58 ∷ count)) in
-      ap (item_by profile (number ++ 58 ∷ count)) (first_colon number count (octal_lacks 58 n (digit_other 58 (omega arith))))
-      ∙ ap (λ (ns : List ℕ). steps_of (numbered (has_processor profile) ns) (numeral 10 6 (drop (place + 1) (number ++ 58 ∷ count)))) before
-      ∙ ap (λ (ns : List ℕ). steps_of (numbered (has_processor profile) number) (numeral 10 6 ns)) behind
-      ∙ ap (λ (o : Option ℕ). steps_of o (numeral 10 6 count)) (number_read n has)
-      ∙ ap (steps_of (Some n)) (count_read k few)
-      ∙ steps_some n k some
+      rw (first_colon number count (octal_lacks 58 n (digit_other 58 (omega arith))), before, behind, number_read n has, count_read k few) (steps_some n k some)
 
   item_by_count : (n k : ℕ) (b : Bool) → eqb k 1 ≡ b → IsTrue (has_processor profile n) → 1 ≤ k → k ≤ 999999 → item_steps profile (short_octal 2 n ++ cond b [] (codes ":" ++ short_decimal k)) ≡ Some (replicate k n)
   item_by_count n k true one has some few =
@@ -215,8 +161,7 @@ all_read profile [] exist few = refl
 all_read profile (row ∷ rows) exist few =
     let long = length-append (replicate row.count row.processor) (steps_in rows) in
     let own = length-replicate row.count row.processor in
-    ap (option_and_then (λ steps. option_map (λ more. steps ++ more) (all_steps profile (map row_text rows)))) (item_read profile row exist.0.0 exist.0.1 (omega (arith, few, long, own)))
-    ∙ ap (option_map (λ more. replicate row.count row.processor ++ more)) (all_read profile rows exist.1 (omega (arith, few, long, own)))
+    rw (item_read profile row exist.0.0 exist.0.1 (omega (arith, few, long, own)), all_read profile rows exist.1 (omega (arith, few, long, own))) refl
 
 step_in : (n : ℕ) (rows : List StepsInARow) → steps_in (step_and_rows n rows) ≡ n ∷ steps_in rows
 unfolding steps_in
@@ -267,9 +212,7 @@ read_back profile [] some few all = absurd (omega (arith, some))
 read_back profile (n ∷ ns) some few all =
     let order = n ∷ ns in
     let are = steps_are order in
-    ap (λ (texts : List (List ℕ)). option_and_then (λ steps. cond (nat_le (length steps) 999999) (Some steps) None) (all_steps profile texts)) (items_are n ns)
-    ∙ ap (option_and_then (λ steps. cond (nat_le (length steps) 999999) (Some steps) None)) (all_read profile (rows_of order) (rows_exist (λ n. IsTrue (has_processor profile n)) order all) (omega (arith, few, ap length are)) ∙ ap (λ (ks : List ℕ). Some ks) are)
-    ∙ ap (λ (b : Bool). cond b (Some order) None) (le-leb (length order) 999999 few)
+    rw (items_are n ns, all_read profile (rows_of order) (rows_exist (λ n. IsTrue (has_processor profile n)) order all) (omega (arith, few, ap length are)), are, le-leb (length order) 999999 few) refl
 
 -- ---- what is left of an order
 

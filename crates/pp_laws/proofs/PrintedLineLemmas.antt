@@ -1,16 +1,15 @@
 -- Printed lines are read as what they tell.
 use Rattle.std.proofs.Common.{◌≡◌, ◌∙◌, ℕ, ◌^◌, ◌<◌, ◌≤◌, Bool, true, false, List, [], ◌∷◌, ◌++◌, take, codes, Option, Some, None, refl, ap, append_assoc, arith}
-use Rattle.std.specs.Prelude.{IfSome, IsTrue, nat_le}
+use Rattle.std.specs.Prelude.{IfSome, IsTrue}
 use Rattle.std.specs.List.{list_all}
 use Rattle.std.specs.Str.{bytes_eq}
-use Rattle.std.proofs.lemmas.Bool.{and_from, and_parts, le-leb, leb-true, ltb-true, ne_eqb}
-use Rattle.std.proofs.lemmas.List.Folds.{list_all-append}
+use Rattle.std.proofs.lemmas.Bool.{and_parts, ltb-true, ne_eqb}
 use Rattle.pp_numbers.proofs.ChannelNoLemmas.{channel_fits}
 use Rattle.pp_numbers.specs.ChannelNo.{names_channel}
 use Rattle.pp_channel.specs.History.{HasTwelveBitWord, active, waiting}
 use Rattle.pp_channel.specs.declared.{channel_state.ChannelState.ChannelState, event.Event.Event}
 use Rattle.pp_channel.specs.declared.event.Event.TheVariants.{Activate, Disconnect, Put, Take, Function}
-use Rattle.pp_deck.proofs.FieldTextLemmas.{IsField, IsTail, fields_of_plain, is_ink, is_plain, tail_blank, tail_field, tail_last, decimal_is_field, octal_ink, octal_is_field}
+use Rattle.pp_deck.proofs.FieldTextLemmas.{IsField, IsTail, fields_of_plain, is_plain, tail_blank, tail_field, tail_last, decimal_is_field, octal_ink, octal_is_field, octal_plain}
 use Rattle.pp_deck.specs.DeckText.{fields_of}
 use Rattle.pp_numbers.proofs.PpNoLemmas.{processor_fits}
 use Rattle.pp_numbers.specs.PpNo.{names_processor}
@@ -18,7 +17,9 @@ use Rattle.pp_machine.specs.Processor.{Processor}
 use Rattle.pp_machine.specs.declared.{pp_state.PpState.PpState, trace.Trace.Trace}
 use Rattle.pp_machine.specs.declared.pp_state.PpState.TheVariants.{Fault}
 use Rattle.pp_word.specs.Numeral.{decimal, is_digit, numeral, octal}
-use Rattle.pp_word.proofs.NumeralLemmas.{decimal_are, decimal_read, octal_read}
+use Rattle.pp_word.proofs.NumeralLemmas.{decimal_are, decimal_pass, decimal_read, octal_read}
+use Rattle.pp_listing.proofs.ListedLineLemmas.{plain_append}
+use Rattle.pp_listing.proofs.OrderCommentLemmas.{plain_digit}
 use Rattle.pp_channel.specs.ChannelText.{channel_text}
 use Rattle.pp_text.specs.PrintedText.{channel_line as printed_channel_line, event_line, event_text, line_end, processor_line, state_text}
 use Rattle.pp_text.specs.TextLaw.{EventFits}
@@ -94,25 +95,10 @@ event_read (Function w) bits = rw (octal_read 4 4 w (omega arith) (omega arith) 
 
 -- ---- plain lines
 
-ink_plain : (text : List ℕ) → list_all is_ink text ≡ true → list_all is_plain text ≡ true
-ink_plain [] is = refl
-ink_plain (c ∷ text) is =
-    let here = (and_parts (is_ink c) (list_all is_ink text) is).0 in
-    let least = leb-true 43 c (and_parts (nat_le 43 c) (nat_le c 126) here).0 in
-    and_from (is_plain c) (list_all is_plain text) (and_from (nat_le 32 c) (nat_le c 126) (le-leb 32 c (omega (arith, least))) (and_parts (nat_le 43 c) (nat_le c 126) here).1) (ink_plain text (and_parts (is_ink c) (list_all is_ink text) is).1)
-
-pub plain_more : (xs ys : List ℕ) → list_all is_plain xs ≡ true → list_all is_plain ys ≡ true → list_all is_plain (xs ++ ys) ≡ true
-plain_more xs ys is more = list_all-append is_plain xs ys ∙ and_from (list_all is_plain xs) (list_all is_plain ys) is more
-
-pub plain_octal : (width n : ℕ) → list_all is_plain (octal width n) ≡ true
-plain_octal width n = ink_plain (octal width n) (octal_ink width n)
-
 plain_event : (e : Event) → list_all is_plain (event_text e) ≡ true
 plain_event Activate = refl
 plain_event Disconnect = refl
-plain_event (Put w) = plain_octal 4 w
-plain_event (Take w) = plain_octal 4 w
-plain_event (Function w) = plain_octal 4 w
+plain_event e = search octal_plain
 
 -- ---- the line of an event
 
@@ -126,11 +112,7 @@ event_line_is e = simp append_assoc
 
 pub plain_body : (e : Trace) → list_all is_plain (event_body e) ≡ true
 unfolding event_body
-plain_body e =
-    let event = 32 ∷ event_text e.event in
-    let channel = 32 ∷ channel_field e.channel in
-    plain_more (decimal e.turn) (32 ∷ processor_field e.pp ++ (channel ++ event)) (ink_plain (decimal e.turn) (decimal_is_field e.turn).ink)
-    (plain_more (32 ∷ processor_field e.pp) (channel ++ event) (plain_octal 2 e.pp) (plain_more channel event (plain_octal 2 e.channel) (plain_event e.event)))
+plain_body e = search (plain_append, octal_plain, plain_event, decimal_pass is_plain plain_digit e.turn)
 
 body_fields : (e : Trace) → fields_of (event_body e) ≡ decimal e.turn ∷ processor_field e.pp ∷ channel_field e.channel ∷ event_fields e.event
 unfolding event_body
@@ -153,17 +135,12 @@ unfolding processor_line processor_body
 processor_line_is n pp said = simp append_assoc
 
 pub plain_state : (state : PpState) → list_all is_plain (state_text state) ≡ true
-plain_state (Fault number) = plain_octal 1 number
+plain_state (Fault number) = octal_plain 1 number
 plain_state state = refl
 
 pub plain_processor : (n : ℕ) (pp : Processor) (said : List ℕ) → list_all is_plain said ≡ true → list_all is_plain (processor_body n pp said) ≡ true
 unfolding processor_body
-plain_processor n pp said plain =
-    let state = codes " " ++ said in
-    let p = 32 ∷ codes "P=" ++ octal 4 pp.p in
-    plain_more (processor_field n) (p ++ (codes " A=" ++ octal 6 pp.a ++ state)) (plain_octal 2 n)
-    (plain_more p (codes " A=" ++ octal 6 pp.a ++ state) (plain_octal 4 pp.p)
-    (ap (list_all is_plain) (append_assoc (codes " A=") (octal 6 pp.a) state) ∙ plain_more (octal 6 pp.a) state (plain_octal 6 pp.a) plain))
+plain_processor n pp said plain = search (plain_append, octal_plain, plain)
 
 pub processor_line_read : (n : ℕ) (pp : Processor) (said : List ℕ) → list_all is_plain said ≡ true → IsTrue (names_processor n) → parsed_line (fields_of (processor_body n pp said)) ≡ Some Other
 unfolding parsed_line processor_body
@@ -180,11 +157,7 @@ numbered_body c number n e = channel_field c ++ (32 ∷ decimal number ++ (32 �
 
 pub plain_numbered : (c number n : ℕ) (e : Event) → list_all is_plain (numbered_body c number n e) ≡ true
 unfolding numbered_body
-plain_numbered c number n e =
-    let event = 32 ∷ event_text e in
-    let pp = 32 ∷ processor_field n in
-    plain_more (channel_field c) (32 ∷ decimal number ++ (pp ++ event)) (plain_octal 2 c)
-    (plain_more (32 ∷ decimal number) (pp ++ event) (ink_plain (decimal number) (decimal_is_field number).ink) (plain_more pp event (plain_octal 2 n) (plain_event e)))
+plain_numbered c number n e = search (plain_append, octal_plain, plain_event, decimal_pass is_plain plain_digit number)
 
 pub numbered_line_read : (c number n : ℕ) (e : Event) → IsTrue (names_channel c) → number < 10 ^ 19 → IsTrue (names_processor n) → HasTwelveBitWord e → parsed_line (fields_of (numbered_body c number n e)) ≡ Some (Numbered number c e)
 unfolding parsed_line channel_line numbered_body numbered_line
@@ -211,7 +184,7 @@ state_tail true None = tail_field (codes "ACTIVE") (32 ∷ codes "EMPTY") (codes
 state_tail false None = tail_last (codes "INACTIVE") (record { some = omega arith; ink = refl })
 
 plain_shown : (is_active : Bool) (word : Option ℕ) → list_all is_plain (channel_text is_active word) ≡ true
-plain_shown is_active (Some w) = plain_octal 4 w
+plain_shown is_active (Some w) = octal_plain 4 w
 plain_shown true None = refl
 plain_shown false None = refl
 
@@ -223,7 +196,7 @@ shown_state false None = inactive
 
 pub plain_channel : (c : ℕ) (is_active : Bool) (word : Option ℕ) → list_all is_plain (channel_body c is_active word) ≡ true
 unfolding channel_body
-plain_channel c is_active word = plain_more (channel_field c) (32 ∷ channel_text is_active word) (plain_octal 2 c) (plain_shown is_active word)
+plain_channel c is_active word = plain_append (channel_field c) (32 ∷ channel_text is_active word) (octal_plain 2 c) (plain_shown is_active word)
 
 pub channel_line_is : (c : ℕ) (e : Event) (h : List Event) → printed_channel_line c (e ∷ h) ≡ channel_body c (active (e ∷ h)) (waiting (e ∷ h)) ++ line_end
 unfolding channel_body

@@ -19,7 +19,7 @@ use Rattle.pp_numbers.specs.Limits.{RunLimits}
 use Rattle.pp_runner.specs.WorkerReport.{logs_of}
 use Rattle.pp_report.proofs.ReportLawLemmas.{numbered_channel_events, told_after, unnamed_line, with_number}
 use Rattle.pp_report.specs.PrintedReport.{author_place, channel_events, end_text, line_by, named_worker_line, numbered_event_line, printed_report, worker_line}
-use Rattle.pp_deck.proofs.FieldTextLemmas.{is_plain}
+use Rattle.pp_deck.proofs.FieldTextLemmas.{is_plain, octal_plain}
 use Rattle.pp_word.specs.Numeral.{decimal, octal}
 use Rattle.pp_text.specs.PrintedText.{event_text, line_end, used_channel_line}
 use Rattle.pp_report.specs.ReportLaw.{FitsItsLine, FitsItsReport, PrintedEvent, printed_by, printed_on}
@@ -31,7 +31,7 @@ use Rattle.pp_check.specs.declared.trace_line.TraceLine.TheVariants.{Numbered, O
 use Rattle.pp_check.proofs.KeepsLemmas.{event_line, numbered_here}
 use Rattle.pp_check.proofs.OpeningLemmas.{lawful_start}
 use Rattle.pp_laws.proofs.PrintedLawLemmas.{Shows, all_below, all_both, events_both, history_shows, lawful_shown, none_shown}
-use Rattle.pp_laws.proofs.PrintedLineLemmas.{numbered_body, numbered_line_read, plain_numbered, plain_octal, plain_processor, processor_body, processor_line_is, processor_line_read}
+use Rattle.pp_laws.proofs.PrintedLineLemmas.{numbered_body, numbered_line_read, plain_numbered, plain_processor, processor_body, processor_line_is, processor_line_read}
 use Rattle.pp_text.specs.PrintedText.{each_below}
 use Rattle.pp_laws.proofs.PrintedTextLemmas.{Reads, all_said, channel_lines, no_text, reads_both, reads_channel, reads_channels, reads_if, reads_line, reads_processors, said_is, map_both, state_lines}
 use Rattle.pp_check.proofs.TraceLemmas.{history_more, history_same, lawful_push}
@@ -40,7 +40,7 @@ use Rattle.pp_check.proofs.TraceLemmas.{history_more, history_same, lawful_push}
 
 plain_end : (finish : End) → list_all is_plain (end_text finish) ≡ true
 plain_end End.Stopped = refl
-plain_end (End.Fault number) = plain_octal 1 number
+plain_end (End.Fault number) = octal_plain 1 number
 plain_end End.Steps = refl
 plain_end End.Patience = refl
 plain_end End.Memory = refl

@@ -18,6 +18,7 @@ use Rattle.pp_machine.specs.declared.trace.Trace.{Trace}
 use Rattle.pp_text.specs.PrintedText.{each_below, event_line, channel_line, line_end, named_processor_line, printed, state_text, used_channel_line}
 use Rattle.pp_text.proofs.PrintingLemmas.{channels_by_number, each_is_flat, numbered_channel_line}
 use Rattle.pp_numbers.proofs.PpNoLemmas.{numbers_of_processors}
+use Rattle.pp_listing.proofs.ListedLineLemmas.{no_line_feed}
 use Rattle.pp_text.specs.TextLaw.{HistoryFits, EventFits}
 use Rattle.pp_check.specs.LawfulTrace.{parsed_lines}
 use Rattle.pp_laws.specs.PrintedTrace.{IsPrintable}
@@ -39,11 +40,6 @@ map_both (x ∷ xs) ys = ap (λ (more : List (Option TraceLine)). Some x ∷ mor
 
 pub reads_both : (a b : List ℕ) (xs ys : List TraceLine) → Reads a xs → Reads b ys → Reads (a ++ b) (xs ++ ys)
 reads_both a b xs ys first second = grind (arith, append_assoc, map_both)
-
-no_line_feed : (body : List ℕ) → list_all is_plain body ≡ true → All (λ c. is_line_feed c ≡ false) body
-no_line_feed body plain = λ k d lt.
-    let least = plain_least (get_or body k d) (AllPass-from_list_all is_plain body plain k d lt) in
-    ne_eqb (get_or body k d) 10 (λ e. absurd (omega (arith, least, e)))
 
 pub reads_line : (body : List ℕ) (line : TraceLine) → list_all is_plain body ≡ true → parsed_line (fields_of body) ≡ Some line → Reads (body ++ line_end) (line ∷ [])
 unfolding lines_of

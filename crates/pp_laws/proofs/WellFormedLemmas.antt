@@ -26,6 +26,7 @@ use Rattle.pp_laws.specs.WellFormed.{IsWellFormed, Reader, Sign, before, between
 use Rattle.pp_draw.specs.declared.condition.Condition.TheVariants.{HeldBy}
 use Rattle.pp_draw.specs.declared.{condition.Look.Look, condition.Phase.Phase, lane.Part.Part, seen_step.SeenStep.SeenStep}
 use Rattle.pp_draw.specs.declared.condition.Look.TheVariants.{Channel, Processor}
+use Rattle.pp_text.proofs.Telling.{short_decimal_pass}
 
 -- ---- plain texts: of letters, digits and spaces
 
@@ -51,13 +52,8 @@ plain_digits n low = grind arith
 plain_octal : (width n : ℕ) → is_plain (octal width n) ≡ true
 plain_octal width n = digits_pass 8 is_plain_character (λ d low. plain_digits d (omega (arith, low))) (omega arith) width n
 
-plain_unpadded : (most n : ℕ) → is_plain (unpadded most n) ≡ true
-plain_unpadded zero n = refl
-plain_unpadded (suc most) n = grind (arith, plain-append, digits_pass, is_plain_character, plain_digits, is_plain, plain_unpadded most (n / 10))
-
 plain_decimal : (n : ℕ) → is_plain (short_decimal n) ≡ true
-unfolding short_decimal
-plain_decimal n = plain-append (unpadded 19 (n / 10)) (digit (n % 10)) (plain_unpadded 19 (n / 10)) (digits_pass 10 is_plain_character plain_digits (omega arith) 1 n)
+plain_decimal n = short_decimal_pass is_plain_character plain_digits n
 
 plain_name : (letters : List ℕ) (n : ℕ) → is_plain letters ≡ true → is_plain (letters ++ octal 2 n) ≡ true
 plain_name letters n plain = plain-append letters (octal 2 n) plain (plain_octal 2 n)

@@ -1,17 +1,14 @@
 -- The text of the steps chosen tells what each line shows.
-use Rattle.std.proofs.Common.{All, ◌≡◌, ◌∙◌, ℕ, ◌+◌, ◌/◌, ◌%◌, ◌^◌, ◌<◌, Bool, true, false, List, [], ◌∷◌, ◌++◌, Option, None, Some, drop, length, map, take, refl, sym, ap, arith, append-nil, codes}
-use Rattle.std.specs.Prelude.{◌==◌, ◌&&◌, ◌||◌, IfSome, IsTrue, get_or, not, slice_index, if◌then◌else◌}
-use Rattle.std.specs.List.{filter, flat_map, range_with_len}
+use Rattle.std.proofs.Common.{All, ◌≡◌, ◌∙◌, ℕ, ◌^◌, ◌<◌, Bool, true, false, List, [], ◌∷◌, ◌++◌, Option, None, Some, drop, length, map, take, refl, sym, ap, arith, append-nil, codes}
+use Rattle.std.specs.Prelude.{◌&&◌, IfSome, IsTrue, not, slice_index, if◌then◌else◌}
+use Rattle.std.specs.List.{flat_map, range_with_len}
 use Rattle.std.specs.Str.{bytes_eq}
-use Rattle.std.proofs.lemmas.Bool.{ne_eqb}
 use Rattle.pp_numbers.specs.ChannelNo.{names_channel}
 use Rattle.pp_numbers.proofs.ChannelNoLemmas.{channel_fits}
 use Rattle.pp_numbers.proofs.PpNoLemmas.{processor_fits}
-use Rattle.pp_channel.specs.Answer.{event_of, flags_of}
-use Rattle.pp_channel.specs.declared.{event.Event.Event, flags.Flags.Flags}
-use Rattle.pp_channel.specs.declared.event.Event.TheVariants.{Activate}
+use Rattle.pp_channel.specs.declared.{flags.Flags.Flags}
 use Rattle.pp_word.specs.Numeral.{octal}
-use Rattle.pp_machine.specs.MachineState.{MachineState, history_of, processor_of}
+use Rattle.pp_machine.specs.MachineState.{MachineState, processor_of}
 use Rattle.pp_machine.specs.MachineStep.{stepped}
 use Rattle.pp_machine.specs.Processor.{HasFaultNumber}
 use Rattle.pp_machine.specs.declared.{block.Block.Block, need.Need.Need, pp_state.PpState.PpState}
@@ -19,11 +16,10 @@ use Rattle.pp_machine.specs.declared.need.Need.TheVariants.{Channel}
 use Rattle.pp_machine.specs.declared.outcome.Outcome.TheVariants.{Held}
 use Rattle.pp_machine.specs.declared.pp_state.PpState.TheVariants.{Running}
 use Rattle.pp_text.specs.Differences.{differs, places}
-use Rattle.pp_text.specs.InstructionText.{is_long}
 use Rattle.pp_text.specs.PrintedText.{event_text, line_end, padded}
 use Rattle.pp_text.specs.Standing.{flags_text, held_text}
 use Rattle.pp_text.proofs.Format.{Format, always, characters, decimals, field, flat_map_each, format_tells, many, mark, maybe, octals, whole, ◌▷◌, ◌▸◌}
-use Rattle.pp_text.proofs.Formats.{IsHold, events, flags, holds, states}
+use Rattle.pp_text.proofs.Formats.{IsHold, flags, holds, states}
 use Rattle.pp_text.proofs.Telling.{Tells}
 use Rattle.pp_steps.specs.declared.{choice.Choice.Choice, cursor.LineKind.LineKind}
 use Rattle.pp_steps.specs.declared.cursor.LineKind.TheVariants.{NoLine, OneStep, HeldSteps}
@@ -31,30 +27,20 @@ use Rattle.pp_steps.specs.Choice.{chosen_steps}
 use Rattle.pp_condition.specs.declared.condition.Condition.{Condition}
 use Rattle.pp_run.specs.RunSteps.{RunStep}
 use Rattle.pp_steps.specs.StepsWhere.{HasLinesWhere, alone}
-use Rattle.pp_steps.specs.ShownStep.{OnChannel, FitsChannel, FitsItsStepLine, IsWordAt, ShownStep, alone_shown, changes_shown, channel_shown, event_shown, hold_shown, kind_shown, line_shown, steps_shown, words_shown}
+use Rattle.pp_steps.specs.ShownStep.{OnChannel, FitsChannel, FitsItsStepLine, IsWordAt, ShownStep, alone_shown, changes_shown, channel_shown, hold_shown, kind_shown, line_shown, steps_shown, words_shown}
 use Rattle.pp_steps.specs.ShownStep.OnChannel.{Made, Saw}
-use Rattle.pp_steps.specs.StepLine.{channel_text, end_text, event_or_flags, held_line, step_line, words_text}
+use Rattle.pp_steps.specs.StepLine.{channel_text, end_text, held_line, step_line, words_text}
 use Rattle.pp_steps.specs.StepsText.{StepWithLine, kind_text, line_text, steps_text, with_lines}
 
 -- ---- the formats of a line
 
-no_blank : (d : ℕ) → not (48 + d == 32) ≡ true
-no_blank d = ap not (ne_eqb (48 + d) 32 (λ e. absurd (omega (arith, e))))
+abbrev words_column : Option (ℕ × Option ℕ) → List ℕ
+words_column None = codes "         "
+words_column (Some (word, None)) = octal 4 word ++ codes "     "
+words_column (Some (word, Some m)) = octal 4 word ++ codes " " ++ octal 4 m
 
-abbrev second_word : Format (λ o. IfSome o (λ m. m < 2 ^ 12))
-second_word =
-    maybe (whole (mark (codes " ") ▷ field (octals 4) (λ m. m) (λ m low. low)) (λ m n same. same.1)) (codes "     ") (λ t. not (get_or t 1 0 == 32)) (λ m r _. no_blank (m / 8 / 8 / 8 % 8))
-
-abbrev some_words : Format (λ (x : ℕ × Option ℕ). (x.0 < 2 ^ 12) × IfSome x.1 (λ m. m < 2 ^ 12))
-some_words = whole (field (octals 4) (λ x. x.0) (λ x fits. fits.0) ▷ field second_word (λ x. x.1) (λ x fits. fits.1)) (λ x y (word, second) j. (word j, second j))
-
-abbrev nine_columns : Format (λ x. IfSome x (λ (word, second). (word < 2 ^ 12) × IfSome second (λ m. m < 2 ^ 12)))
-nine_columns = maybe some_words (codes "         ") (λ t. not (get_or t 0 0 == 32)) (λ x r _. no_blank (x.0 / 8 / 8 / 8 % 8))
-
-words_clear : (x : Option (ℕ × Option ℕ)) (r : List ℕ) → nine_columns.clear x r ≡ true
-words_clear None r = refl
-words_clear (Some (w, None)) r = refl
-words_clear (Some (w, Some m)) r = refl
+words_tell : Tells (λ x. IfSome x (λ (word, second). (word < 2 ^ 12) × IfSome second (λ m. m < 2 ^ 12))) words_column
+words_tell x y r s fits also e = grind arith
 
 -- which of its last parts, each behind a blank, begins a text
 abbrev begins : List ℕ → List ℕ → Bool
@@ -76,25 +62,9 @@ on_channel_text : OnChannel → List ℕ
 on_channel_text (Made e) = event_text e
 on_channel_text (Saw flags) = flags_text flags
 
--- whether flags begin a text, and no event
-abbrev begins_flags : List ℕ → Bool
-begins_flags t = get_or t 0 0 == 73 || (get_or t 0 0 == 65 && get_or t 2 0 == 84)
-
-flags_begin : (a b : Bool) (r : List ℕ) → begins_flags (flags_text (record { active = a; full = b }) ++ r) ≡ true
-flags_begin true true r = refl
-flags_begin true false r = refl
-flags_begin false b r = refl
-
-event_begins : (e : Event) (r : List ℕ) → begins_flags (event_text e ++ r) ≡ false
-event_begins Activate r = refl
-event_begins e r = refl
-
 on_channel_tells : Tells FitsChannel on_channel_text
 unfolding on_channel_text
-on_channel_tells (Made e) (Made k) r s fits also same = let event = events.tells e k r s fits also refl refl same in (ap Made event.0, event.1)
-on_channel_tells (Saw f) (Saw g) r s fits also same = let seen = flags.tells f g r s fits also refl refl same in (ap Saw seen.0, seen.1)
-on_channel_tells (Made e) (Saw g) r s _ _ same = let no : false ≡ true = sym (event_begins e r) ∙ ap begins_flags same ∙ flags_begin g.active g.full s in absurd cc
-on_channel_tells (Saw f) (Made k) r s _ _ same = let no : false ≡ true = sym (event_begins k s) ∙ ap begins_flags (sym same) ∙ flags_begin f.active f.full r in absurd cc
+on_channel_tells x y r s fits also e = grind arith
 
 abbrev channel_format : Format (λ x. IfSome x (λ (c, said). IsTrue (names_channel c) × FitsChannel said))
 channel_format =
@@ -121,23 +91,12 @@ abbrev step_row : Format FitsItsStepLine
 step_row =
     whole
     (field decimals (λ s. s.turn) (λ s fits. fits.turn) ▸ codes " PP" ▷ field (octals 2) (λ s. s.processor) (λ s fits. processor_fits s.processor fits.processor) ▸ codes " "
-    ▷ field (octals 4) (λ s. s.p) (λ s fits. fits.p) ▸ codes " " ▷ field nine_columns (λ s. s.words) (λ s fits. fits.words) ▸ codes "  "
+    ▷ field (octals 4) (λ s. s.p) (λ s fits. fits.p) ▸ codes " " ▷ field (always words_column words_tell) (λ s. s.words) (λ s fits. fits.words) ▸ codes "  "
     ▷ field (characters 13) (λ s. s.instruction) (λ s fits. fits.instruction) ▸ codes " A=" ▷ field (octals 6) (λ s. s.a) (λ s fits. fits.a)
     ▷ field places_format (λ s. s.places) (λ s fits. fits.places) ▷ field central_format (λ s. s.central) (λ s fits. fits.central)
     ▷ field channel_format (λ s. s.channel) (λ s fits. fits.channel) ▷ field ends (λ s. s.state) (λ s fits. fits.state) ▷ field held_format (λ s. s.held) (λ s fits. fits.held) ▸ line_end)
-    (λ s t ((((((((((turn, processor), p), words), instruction), a), places), central), channel), state), held). λ j. record {
-      turn = turn j;
-      processor = processor j;
-      p = p j;
-      words = words j;
-      instruction = instruction j;
-      a = a j;
-      places = places j;
-      central = central j;
-      channel = channel j;
-      state = state j;
-      held = held j;
-    })
+    (λ s t ((((((((((turn, processor), p), words), instruction), a), places), central), channel), state), held) j.
+    record { turn = turn j; processor = processor j; p = p j; words = words j; instruction = instruction j; a = a j; places = places j; central = central j; channel = channel j; state = state j; held = held j })
 
 -- ---- what follows its last parts
 
@@ -150,27 +109,18 @@ end_clear None r = refl
 end_clear (Some h) r = refl
 
 channel_clear : (c : Option (ℕ × OnChannel)) (state : PpState) (h : Option (ℕ × (Flags × ℕ))) (r : List ℕ) → channel_format.clear c (end_text state ++ (held_format.text h ++ (line_end ++ r))) ≡ true
-channel_clear (Some c) state h r = refl
-channel_clear None Running None r = refl
-channel_clear None Running (Some h) r = refl
-channel_clear None state h r = refl
+channel_clear c state h r = grind arith
 
 central_clear : (c : Option (ℕ × OnChannel)) (state : PpState) (h : Option (ℕ × (Flags × ℕ))) (r : List ℕ) → begins (codes " CM") (channel_format.text c ++ (end_text state ++ (held_format.text h ++ (line_end ++ r)))) ≡ false
-central_clear (Some c) state h r = refl
-central_clear None Running None r = refl
-central_clear None Running (Some h) r = refl
-central_clear None state h r = refl
+central_clear c state h r = grind arith
 
 places_clear : (xs : List (ℕ × ℕ)) (c : Option (ℕ × OnChannel)) (state : PpState) (h : Option (ℕ × (Flags × ℕ))) (r : List ℕ)
     → begins (codes " (") (central_format.text xs ++ (channel_format.text c ++ (end_text state ++ (held_format.text h ++ (line_end ++ r))))) ≡ false
 places_clear (x ∷ xs) c state h r = refl
-places_clear [] (Some c) state h r = refl
-places_clear [] None Running None r = refl
-places_clear [] None Running (Some h) r = refl
-places_clear [] None state h r = refl
+places_clear [] c state h r = grind arith
 
 step_clear : (s : ShownStep) (r : List ℕ) → step_row.clear s r ≡ true
-step_clear s r = rw (words_clear, places_clear, central_clear, channel_clear, end_clear, hold_clear) refl
+step_clear s r = rw (places_clear, central_clear, channel_clear, end_clear, hold_clear) refl
 
 -- whether there is any
 abbrev is_text : List ℕ → Bool
@@ -186,33 +136,17 @@ step_rows = many step_row is_text (λ _. true) (λ s r _. line_front _ r) (λ s 
 
 -- ---- it is the text
 
-words_are : (block : Option Block) (word m : ℕ) → padded 9 (words_text block word m) ≡ nine_columns.text (words_shown block word m)
-words_are (Some block) word m = refl
-words_are None word m = by_length (is_long word)
-  where
-    by_length : (b : Bool) → padded 9 (if b then octal 4 word ++ codes " " ++ octal 4 m else octal 4 word) ≡ nine_columns.text (Some (word, if b then Some m else None))
-    by_length true = refl
-    by_length false = refl
+words_are : (block : Option Block) (word m : ℕ) → padded 9 (words_text block word m) ≡ words_column (words_shown block word m)
+words_are block word m = grind arith
 
 changes_are : (before after : List ℕ) (said : ℕ × ℕ → List ℕ) (places : List ℕ)
     → flat_map (λ place. if differs before after place then said (place, slice_index after place) else []) places ≡ flat_map said (changes_shown before after places)
 changes_are before after said [] = refl
-changes_are before after said (place ∷ places) = by_change (differs before after place) (changes_are before after said places)
-  where
-    by_change : (b : Bool) → flat_map (λ place. if differs before after place then said (place, slice_index after place) else []) places ≡ flat_map said (changes_shown before after places)
-        → (if b then said (place, slice_index after place) else []) ++ flat_map (λ place. if differs before after place then said (place, slice_index after place) else []) places
-        ≡ flat_map said (map (λ place. (place, slice_index after place)) (if b then place ∷ filter (differs before after) places else filter (differs before after) places))
-    by_change true is = ap (λ t. said (place, slice_index after place) ++ t) is
-    by_change false is = is
+changes_are before after said (place ∷ places) = grind (arith, changes_are before after said places)
 
 channel_is : (asked : Need) (m : MachineState) → channel_text asked m ≡ channel_format.text (channel_shown asked m)
 unfolding on_channel_text
-channel_is (Channel c operation) m = by_event (event_of operation (history_of c m))
-  where
-    by_event : (e : Option Event) → codes " CH" ++ octal 2 c ++ codes " " ++ event_or_flags e (flags_of (history_of c m)) ≡ channel_format.text (Some (c, event_shown e (flags_of (history_of c m))))
-    by_event None = refl
-    by_event (Some e) = refl
-channel_is asked m = refl
+channel_is asked m = grind arith
 
 hold_is : (asked : Need) (m : MachineState) (count : ℕ) → held_text asked Held m count ≡ held_format.text (hold_shown asked m count)
 hold_is (Channel c operation) m count = refl

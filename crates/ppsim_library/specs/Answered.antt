@@ -59,7 +59,10 @@ pub record IsFailed (status : ℕ) (said : List ℕ) (a : Answer) (old new : Lis
 abbrev pub line_of : List ℕ → List ℕ
 line_of why = codes "ppsim: " ++ why ++ line_end
 
--- it is said which fault it was; or nothing is, if memory for the words is refused
+abbrev pub IsWithoutMemory : Answer → (old new : List ℕ) → Type 0
+IsWithoutMemory a old new = IsFailed 4 (line_of (codes "out of memory")) a old new
+
+-- it is said which fault it was, or nothing is (that this is for want of memory only tests see)
 abbrev pub IsFailedFor : TextFault → Answer → (old new : List ℕ) → Type 0
 IsFailedFor f a old new = IsFailed (status_of f) (line_of (fault_text f)) a old new
     ⊎ IsFailed (status_of f) [] a old new
@@ -69,6 +72,7 @@ IsFailedFor f a old new = IsFailed (status_of f) (line_of (fault_text f)) a old 
 abbrev pub Shows : Result (Unit {0}) TextFault → List ℕ → Answer → (old new : List ℕ) → Type 0
 Shows (Ok done) text a old new = IsWritten 0 text a old new
 Shows (Err TextFault.Findings) text a old new = IsWritten 1 text a old new
+Shows (Err TextFault.Memory) text a old new = IsWithoutMemory a old new
 Shows (Err f) text a old new = IsFailedFor f a old new
 
 -- the work was done over these bytes, as the program does it over its input, onto an empty output;
@@ -107,9 +111,6 @@ pub record NamesFile (words : List (List ℕ)) : Type 0 where
 -- the words are refused, and something is said (what it is only tests see)
 abbrev pub IsRefused : Answer → (old new : List ℕ) → Type 0
 IsRefused a old new = (said : List ℕ) × IsFailed 2 said a old new
-
-abbrev pub IsWithoutMemory : Answer → (old new : List ℕ) → Type 0
-IsWithoutMemory a old new = IsFailed 4 (line_of (codes "out of memory")) a old new
 
 -- how words are answered that ask for no work, by the reason: those that ask for help or the
 -- version by some text (which one is not said), and no others so

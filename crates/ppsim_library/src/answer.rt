@@ -46,6 +46,7 @@ pub(crate) fn answer_of<A: Allocator>(
     match outcome {
         Ok(()) => written(DONE, text, room),
         Err(TextFault::Findings) => written(BAD_INPUT, text, room),
+        Err(TextFault::Memory) => without_memory(room),
         Err(fault) => failed_for(alloc, &fault, room),
     }
 }
@@ -91,7 +92,8 @@ fn written(status: u32, text: &[u8], room: &mut [u8]) -> Answer
     }
 }
 
-/// Says in the room which fault it was, as the program does on standard error.
+/// Says in the room which fault it was, as the program does on standard error; nothing, if memory
+/// for the line is refused.
 fn failed_for<A: Allocator>(alloc: A, fault: &TextFault, room: &mut [u8]) -> Answer
     ensures { IsFailedFor fault.now result room.old room.new }
 {
