@@ -1,7 +1,7 @@
 //! What a host learns of a call.
 
-ghost use Rattle.std.specs.Prelude.{◌≡◌};
-ghost use Rattle.ppsim_library.specs.Answered.{IsFailed, IsFailedFor, IsWithoutMemory, IsWritten, Shows, status_of};
+ghost use Rattle.std.specs.Prelude.{◌≡◌, codes};
+ghost use Rattle.ppsim_library.specs.Answered.{IsFailed, IsFailedFor, IsWithoutMemory, IsWritten, Shows, line_of, status_of};
 
 use pp_sim::TextFault;
 use std::alloc::Allocator;
@@ -63,6 +63,28 @@ pub(crate) fn refused(said: &[u8], room: &mut [u8]) -> Answer
     ensures { IsFailed 2 said.now result room.old room.new }
 {
     failed(BAD_USAGE, said, room)
+}
+
+/// The answer to words that are not text.
+pub(crate) fn not_text(room: &mut [u8]) -> Answer
+    ensures { IsFailed 2 (line_of (codes "a word is not UTF-8")) result room.old room.new }
+{
+    refused(b"ppsim: a word is not UTF-8\n", room)
+}
+
+/// The answer to words that name a file.
+pub(crate) fn without_files(room: &mut [u8]) -> Answer
+    ensures { IsFailed 2 (line_of (codes "no file is read here: pass its bytes"))
+        result room.old room.new }
+{
+    refused(b"ppsim: no file is read here: pass its bytes\n", room)
+}
+
+/// The answer to words that ask for threads.
+pub(crate) fn without_threads(room: &mut [u8]) -> Answer
+    ensures { IsFailed 2 (line_of (codes "there are no threads here")) result room.old room.new }
+{
+    refused(b"ppsim: there are no threads here\n", room)
 }
 
 /// The answer if memory for the words was refused.

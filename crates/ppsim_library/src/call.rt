@@ -4,7 +4,9 @@ ghost use Rattle.std.specs.Prelude.{◌≡◌, IfOk, Some, map};
 ghost use Rattle.pp_sim.specs.Program.{IsDone};
 ghost use Rattle.ppsim_library.specs.Answered.{Answers, IsAnswered, IsDeclinedFor, NeedsNoThreads, parts_of, words_of};
 
-use crate::answer::{Answer, answer_of, helped, refused, without_memory};
+use crate::answer::{
+    Answer, answer_of, helped, not_text, refused, without_files, without_memory, without_threads,
+};
 use pp_command::{Asked, CallFault, read_call};
 use pp_sim::{TextFault, Work, check_text, deck_text, lint_text, test_text};
 use std::alloc::{AllocError, Allocator};
@@ -20,13 +22,13 @@ pub(crate) fn answer_call<A: Allocator + Copy>(
     ensures { Answers words.now input.now result room.old room.new }
 {
     let Ok(text) = str::from_utf8(words) else {
-        return refused(b"ppsim: a word is not UTF-8\n", room);
+        return not_text(room);
     };
     let Ok(listed) = words_of(alloc, text) else {
         return without_memory(room);
     };
     match read_call(alloc, listed.as_slice()) {
-        Ok((_, Some(_))) => refused(b"ppsim: no file is read here: pass its bytes\n", room),
+        Ok((_, Some(_))) => without_files(room),
         Ok((asked, None)) => answer_work(alloc, &asked, input, room),
         Err(refusal) => decline(refusal.fault, refusal.text.as_bytes(), room),
     }
@@ -80,7 +82,7 @@ fn answer_work<A: Allocator + Copy>(
         result room.old room.new }
 {
     if let Work::Threads { .. } = asked.work {
-        return refused(b"ppsim: there are no threads here\n", room);
+        return without_threads(room);
     }
     let mut reader = input;
     let mut text = Vec::new(alloc);
