@@ -5,8 +5,8 @@ use Rattle.pp_channel.specs.Answer.{event_of}
 use Rattle.pp_channel.specs.History.{full}
 use Rattle.pp_channel.specs.declared.{chan_op.ChanOp.ChanOp, event.Event.Event}
 use Rattle.pp_machine.specs.MachineState.{MachineState, history_of, processor_of}
-use Rattle.pp_machine.specs.NeedAndEffect.{need}
-use Rattle.pp_machine.specs.declared.need.Need.{Need}
+use Rattle.pp_processor.specs.NeedAndEffect.{need}
+use Rattle.pp_processor.specs.declared.need.Need.{Need}
 use Rattle.pp_run.specs.RunSteps.{RunStep}
 use Rattle.pp_run.proofs.StepFacts.{event_by_need}
 use Rattle.pp_condition.specs.Condition.{HasForm, Makes}

@@ -4,9 +4,9 @@ use Rattle.pp_channel.specs.History.{full}
 use Rattle.pp_channel.specs.declared.{chan_op.ChanOp.ChanOp, event.Event.Event, flags.Flags.Flags}
 use Rattle.pp_machine.specs.MachineState.{MachineState, history_of, processor_of}
 use Rattle.pp_machine.specs.MachineStep.{step_event, stepped}
-use Rattle.pp_machine.specs.NeedAndEffect.{need}
-use Rattle.pp_machine.specs.Processor.{IsAtFault, Processor, word_at}
-use Rattle.pp_machine.specs.declared.{need.Need.Need, pp_state.PpState.PpState}
+use Rattle.pp_processor.specs.NeedAndEffect.{need}
+use Rattle.pp_processor.specs.Processor.{IsAtFault, Processor, word_at}
+use Rattle.pp_processor.specs.declared.{need.Need.Need, pp_state.PpState.PpState}
 use Rattle.pp_run.specs.BareMachine.{progress}
 use Rattle.pp_run.specs.Determinacy.{IsQuiet}
 use Rattle.pp_run.specs.RunSteps.{RunStep}

@@ -9,9 +9,9 @@ use Rattle.std.proofs.lemmas.List.Folds.{list_any_at}
 use Rattle.pp_numbers.specs.ChannelNo.{channel_count, channel_index, channel_number, names_channel, channel_places}
 use Rattle.pp_channel.specs.declared.event.Event.{Event}
 use Rattle.pp_channel.specs.declared.event.Event.TheVariants.{Activate}
-use Rattle.pp_machine.specs.DeadStart.{WaitsWithin, waiting_on, waits, processor_started, history_started, processors_started, histories_started, opened_where, dead_started}
+use Rattle.pp_machine.specs.DeadStart.{WaitsWithin, waits, processor_started, history_started, processors_started, histories_started, opened_where, dead_started}
 use Rattle.pp_machine.specs.MachineState.{MachineState, processor_of, history_of, is_opened}
-use Rattle.pp_machine.specs.Processor.{no_processor}
+use Rattle.pp_processor.specs.Processor.{no_processor, waiting_on}
 use Rattle.pp_numbers.specs.PpNo.{names_processor, processor_count, processor_index, processor_number, processor_places}
 use Rattle.pp_numbers.specs.Profile.{processors_in, has_processor}
 use Rattle.pp_numbers.proofs.PpNoLemmas.{channel_of_processor}

@@ -10,9 +10,9 @@ use Rattle.std.proofs.lemmas.Option.{slice_get-map}
 use Rattle.pp_word.specs.Address.{place_count}
 use Rattle.pp_numbers.proofs.LastElements.{last_or_at}
 use Rattle.pp_machine.specs.MachineState.{processor_of}
-use Rattle.pp_machine.specs.Processor.{word_at}
+use Rattle.pp_processor.specs.Processor.{word_at}
 use Rattle.pp_numbers.specs.PpNo.{names_processor, processor_index, processor_places}
-use Rattle.pp_machine.specs.declared.pp_state.PpState.TheVariants.{Running}
+use Rattle.pp_processor.specs.declared.pp_state.PpState.TheVariants.{Running}
 use Rattle.pp_deck.specs.DeckLaw.{IsFor, StandsAt, SetsWord, SetsCentralWord, Starts, Registers, registers_of, at_rest, HoldsLast, line_of}
 use Rattle.pp_deck.specs.DeckLine.{Line, nothing, central_words, section, start, words}
 use Rattle.pp_deck.specs.DeckLoad.{word_among, word_for, central_word_for, start_in, is_for, section_of, lines_for, memory_of, processor_with, processor_loaded, central_loaded}

@@ -11,8 +11,8 @@ use Rattle.pp_numbers.proofs.GrowingLists.{last_of}
 use Rattle.pp_numbers.specs.Tables.{tabulate}
 use Rattle.pp_numbers.proofs.TableLemmas.{length-tabulate, get_or-tabulate}
 use Rattle.pp_machine.specs.Central.{IsCentral}
-use Rattle.pp_machine.specs.PpMemory.{IsMemory}
-use Rattle.pp_machine.specs.Processor.{IsProcessor}
+use Rattle.pp_processor.specs.PpMemory.{IsMemory}
+use Rattle.pp_processor.specs.Processor.{IsProcessor}
 use Rattle.pp_numbers.specs.Profile.{has_processor}
 use Rattle.pp_numbers.specs.declared.profile.Profile.{Profile}
 use Rattle.pp_deck.specs.DeckLine.{Line, nothing, central_words, section, start, words}

@@ -7,8 +7,8 @@ use Rattle.std.proofs.lemmas.List.{set-get_or}
 use Rattle.std.proofs.lemmas.List.Folds.{list_any-append}
 use Rattle.pp_word.specs.Address.{place_count}
 use Rattle.pp_machine.specs.MachineState.{MachineState, new_machine}
-use Rattle.pp_machine.specs.PpMemory.{empty_memory}
-use Rattle.pp_machine.specs.Processor.{Processor, new_processor, no_processor, runs_from}
+use Rattle.pp_processor.specs.PpMemory.{empty_memory}
+use Rattle.pp_processor.specs.Processor.{Processor, new_processor, no_processor, runs_from}
 use Rattle.pp_numbers.specs.PpNo.{processor_count, processor_number, processor_index, each_processor}
 use Rattle.pp_numbers.proofs.PpNoLemmas.{number_at}
 use Rattle.pp_deck.specs.DeckLine.{Line, central_words, section, start, words, dead_start}

@@ -7,7 +7,7 @@ use Rattle.pp_deck.specs.DeckLine.{Line, nothing, central_words, section, start,
 use Rattle.pp_deck.specs.DeckLoad.{processor_in, section_of, is_for, lines_for}
 use Rattle.pp_numbers.proofs.GrowingLists.{last_of, or_else, last_of_more, filter_map_more, filter_map_same, range_more}
 use Rattle.pp_machine.specs.MachineState.{MachineState}
-use Rattle.pp_machine.specs.Processor.{runs_from}
+use Rattle.pp_processor.specs.Processor.{runs_from}
 use Rattle.pp_numbers.specs.PpNo.{processor_index}
 use Rattle.pp_deck.specs.Reading.{Progress, after_line, loaded_from, with_central_words, with_processor}
 

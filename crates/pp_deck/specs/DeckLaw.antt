@@ -2,13 +2,12 @@
 use Rattle.std.specs.Prelude.{◌≡◌, ℕ, ◌+◌, ◌<◌, ◌↔◌, Contains, IsTrue, Bool, true, false, List, [], length, None, Some, slice_get, slice_index, slice_index_or}
 use Rattle.pp_word.specs.Address.{place_count}
 use Rattle.pp_numbers.specs.ChannelNo.{channel_count, names_channel}
-use Rattle.pp_machine.specs.DeadStart.{waiting_on}
 use Rattle.pp_machine.specs.Headline.{opening_history}
 use Rattle.pp_machine.specs.MachineState.{processor_of, history_of, is_opened}
-use Rattle.pp_machine.specs.Processor.{Processor, word_at}
+use Rattle.pp_processor.specs.Processor.{Processor, word_at, waiting_on}
 use Rattle.pp_numbers.specs.PpNo.{names_processor, processor_count, processor_index}
 use Rattle.pp_numbers.specs.Profile.{has_processor}
-use Rattle.pp_machine.specs.declared.pp_state.PpState.{PpState}
+use Rattle.pp_processor.specs.declared.pp_state.PpState.{PpState}
 use Rattle.pp_numbers.specs.declared.profile.Profile.{Profile}
 use Rattle.pp_deck.specs.DeckLine.{Line, nothing, central_words, section, start, words, dead_start}
 use Rattle.pp_deck.specs.DeckMeaning.{LoadedDeck}

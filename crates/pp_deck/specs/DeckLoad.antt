@@ -4,7 +4,7 @@ use Rattle.std.specs.List.{last_or, list_any, range_with_len}
 use Rattle.pp_numbers.specs.Tables.{tabulate}
 use Rattle.pp_word.specs.Address.{place_count}
 use Rattle.pp_machine.specs.MachineState.{MachineState, new_machine}
-use Rattle.pp_machine.specs.Processor.{Processor, new_processor, runs_from}
+use Rattle.pp_processor.specs.Processor.{Processor, new_processor, runs_from}
 use Rattle.pp_numbers.specs.PpNo.{each_processor}
 use Rattle.pp_numbers.specs.declared.profile.Profile.{Profile}
 use Rattle.pp_deck.specs.DeckLine.{Line, nothing, central_words, section, start, words, dead_start}

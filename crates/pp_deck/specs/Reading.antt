@@ -1,7 +1,7 @@
 -- A deck as far as it has been read, and what one more line changes: its meaning, line by line.
 use Rattle.std.specs.Prelude.{◌≡◌, ℕ, ◌+◌, Bool, true, false, List, [], ◌∷◌, Option, None, Some, Result, Ok, Err, slice_set, replicate, fold}
 use Rattle.pp_machine.specs.MachineState.{MachineState, processor_of, new_machine}
-use Rattle.pp_machine.specs.Processor.{Processor, runs_from}
+use Rattle.pp_processor.specs.Processor.{Processor, runs_from}
 use Rattle.pp_numbers.specs.PpNo.{processor_count, processor_index}
 use Rattle.pp_numbers.specs.declared.profile.Profile.{Profile}
 use Rattle.pp_deck.specs.DeckLine.{Line, central_line, central_size, central_words, keyword_of, section, start, words, dead_start}

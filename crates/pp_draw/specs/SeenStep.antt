@@ -5,8 +5,8 @@ use Rattle.pp_numbers.specs.PpNo.{each_processor, processor_count}
 use Rattle.pp_numbers.specs.declared.window.Window.{Window}
 use Rattle.pp_machine.specs.MachineState.{MachineState, processor_of}
 use Rattle.pp_machine.specs.MachineStep.{step_outcome}
-use Rattle.pp_machine.specs.NeedAndEffect.{need}
-use Rattle.pp_machine.specs.declared.{block.Block.Block, need.Need.Need, outcome.Outcome.Outcome, pp_state.PpState.PpState}
+use Rattle.pp_processor.specs.NeedAndEffect.{need}
+use Rattle.pp_processor.specs.declared.{block.Block.Block, need.Need.Need, outcome.Outcome.Outcome, pp_state.PpState.PpState}
 use Rattle.pp_run.specs.RunSteps.{RunStep, run_steps, seen_of}
 use Rattle.pp_draw.specs.declared.condition.Condition.TheVariants.{Running, InBlock, HeldBy, Stopped, Faulted}
 use Rattle.pp_draw.specs.declared.{condition.Condition.Condition, seen_step.Found.Found, seen_step.SeenStep.SeenStep}

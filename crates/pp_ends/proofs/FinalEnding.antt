@@ -5,11 +5,11 @@ use Rattle.pp_numbers.specs.ChannelNo.{channel_count}
 use Rattle.pp_machine.specs.Headline.{HoldsOnEachChannel}
 use Rattle.pp_machine.specs.MachineState.{MachineState, processor_of}
 use Rattle.pp_machine.specs.MachineStep.{stepped}
-use Rattle.pp_machine.specs.Processor.{IsAtRest, Processor, no_processor}
+use Rattle.pp_processor.specs.Processor.{IsAtRest, Processor, no_processor}
 use Rattle.pp_numbers.specs.PpNo.{processor_index}
 use Rattle.pp_numbers.specs.Profile.{processor_in_turn}
 use Rattle.pp_machine.specs.Run.{barrel}
-use Rattle.pp_machine.specs.declared.pp_state.PpState.TheVariants.{Running}
+use Rattle.pp_processor.specs.declared.pp_state.PpState.TheVariants.{Running}
 use Rattle.pp_run.specs.Determinacy.{IsQuiet}
 use Rattle.pp_ends.specs.declared.ending.Ending.{Ending}
 use Rattle.pp_ends.specs.declared.ending.Ending.TheVariants as endings

@@ -4,19 +4,19 @@ use Rattle.std.specs.Prelude.{Option, Some, None, if◌then◌else◌, nat_lt}
 use Rattle.pp_channel.specs.Answer.{channel_state, event_by as made_by, event_with, reply_by, reply_made, state_reply}
 use Rattle.pp_channel.specs.declared.{channel_state.ChannelState.ChannelState, chan_op.ChanOp.ChanOp, event.Event.Event}
 use Rattle.pp_channel.specs.declared.reply.Reply.TheVariants as replies
-use Rattle.pp_machine.specs.Block.{block_word}
-use Rattle.pp_machine.specs.Effect.{faults}
-use Rattle.pp_machine.specs.InstructionTable.{row}
+use Rattle.pp_processor.specs.Block.{block_word}
+use Rattle.pp_processor.specs.Effect.{faults}
+use Rattle.pp_processor.specs.InstructionTable.{row}
 use Rattle.pp_machine.specs.MachineState.{MachineState, processor_of, history_of}
 use Rattle.pp_machine.specs.MachineStep.{answer_to, stepped, step_event}
-use Rattle.pp_machine.specs.NeedAndEffect.{answered, if_running, need, next_step, processor_after, step_of}
-use Rattle.pp_machine.specs.Processor.{Processor}
-use Rattle.pp_machine.specs.Step.{Step, local, probes, takes, does, reads, writes, need_of}
-use Rattle.pp_machine.specs.declared.{answer.Answer.Answer, block.Block.Block, block.BlockKind.BlockKind, need.Need.Need, pp_state.PpState.PpState}
-use Rattle.pp_machine.specs.declared.answer.Answer.TheVariants as answers
-use Rattle.pp_machine.specs.declared.block.BlockKind.TheVariants.{CentralIn, CentralOut, Input, Output}
-use Rattle.pp_machine.specs.declared.need.Need.TheVariants.{Nothing, Local, Channel, Read, Write}
-use Rattle.pp_machine.specs.declared.pp_state.PpState.TheVariants.{Running, Fault}
+use Rattle.pp_processor.specs.NeedAndEffect.{answered, if_running, need, next_step, processor_after, step_of}
+use Rattle.pp_processor.specs.Processor.{Processor}
+use Rattle.pp_processor.specs.Step.{Step, local, probes, takes, does, reads, writes, need_of}
+use Rattle.pp_processor.specs.declared.{answer.Answer.Answer, block.Block.Block, block.BlockKind.BlockKind, need.Need.Need, pp_state.PpState.PpState}
+use Rattle.pp_processor.specs.declared.answer.Answer.TheVariants as answers
+use Rattle.pp_processor.specs.declared.block.BlockKind.TheVariants.{CentralIn, CentralOut, Input, Output}
+use Rattle.pp_processor.specs.declared.need.Need.TheVariants.{Nothing, Local, Channel, Read, Write}
+use Rattle.pp_processor.specs.declared.pp_state.PpState.TheVariants.{Running, Fault}
 use Rattle.pp_word.specs.Address.{next_place, place_after}
 use Rattle.pp_word.specs.OnesComplement.{difference}
 use Rattle.pp_word.specs.declared.opcode.Opcode.{Opcode}

@@ -5,11 +5,11 @@ use Rattle.std.proofs.lemmas.Bool.{cases_lt}
 use Rattle.std.proofs.lemmas.List.{get_or_past}
 use Rattle.pp_machine.specs.MachineState.{MachineState, processor_of}
 use Rattle.pp_machine.specs.MachineStep.{answer_to}
-use Rattle.pp_machine.specs.NeedAndEffect.{need, processor_after}
-use Rattle.pp_machine.specs.PpMemory.{IsMemory}
+use Rattle.pp_processor.specs.NeedAndEffect.{need, processor_after}
+use Rattle.pp_processor.specs.PpMemory.{IsMemory}
 use Rattle.pp_numbers.specs.PpNo.{processor_count, processor_index, processor_number, processor_places}
-use Rattle.pp_machine.specs.Processor.{IsAtRest, Processor, no_processor}
-use Rattle.pp_machine.proofs.StepLemmas.{rest_changes_nothing}
+use Rattle.pp_processor.specs.Processor.{IsAtRest, Processor, no_processor}
+use Rattle.pp_processor.proofs.StepLemmas.{rest_changes_nothing}
 use Rattle.pp_run.specs.Determinacy.{IsQuiet, Waits}
 use Rattle.pp_run.proofs.StepFacts.{own_step}
 use Rattle.pp_ends.specs.declared.stand.Stand.{Stand}

@@ -10,18 +10,18 @@ use Rattle.pp_word.specs.declared.opcode.Opcode.{Opcode}
 use Rattle.pp_word.specs.declared.opcode.Opcode.TheVariants.{LJM, RJM, UJN, ZJN, NJN, PJN, MJN, EXN, RPN, CRD, CRM, CWM, AJM, IJM, FJM, EJM, IAN, IAM, OAM}
 use Rattle.pp_channel.specs.declared.flags.Flags.{Flags}
 use Rattle.pp_channel.specs.declared.reply.Reply.TheVariants as replies
-use Rattle.pp_machine.specs.Block.{block_word, cut_short, held, starts}
-use Rattle.pp_machine.specs.Effect.{branches_where, calls, faults, goes_on, goes_to, is_negative, jumps_where, leads_to_itself}
-use Rattle.pp_machine.specs.InstructionTable.{row}
-use Rattle.pp_machine.specs.NeedAndEffect.{answered, if_running, next_step, processor_after, step_of}
-use Rattle.pp_machine.specs.Operand.{index, second_word}
-use Rattle.pp_machine.specs.PpMemory.{IsMemory}
-use Rattle.pp_machine.specs.Processor.{Processor, is_running, word_at}
-use Rattle.pp_machine.specs.Step.{Step, local, probes, takes, does, reads, writes}
-use Rattle.pp_machine.specs.declared.{answer.Answer.Answer, block.Block.Block, block.BlockKind.BlockKind, pp_state.PpState.PpState}
-use Rattle.pp_machine.specs.declared.answer.Answer.TheVariants as answers
-use Rattle.pp_machine.specs.declared.block.BlockKind.TheVariants.{CentralIn, CentralOut, Input, Output}
-use Rattle.pp_machine.specs.declared.pp_state.PpState.TheVariants.{Running}
+use Rattle.pp_processor.specs.Block.{block_word, cut_short, held, starts}
+use Rattle.pp_processor.specs.Effect.{branches_where, calls, faults, goes_on, goes_to, is_negative, jumps_where, leads_to_itself}
+use Rattle.pp_processor.specs.InstructionTable.{row}
+use Rattle.pp_processor.specs.NeedAndEffect.{answered, if_running, next_step, processor_after, step_of}
+use Rattle.pp_processor.specs.Operand.{index, second_word}
+use Rattle.pp_processor.specs.PpMemory.{IsMemory}
+use Rattle.pp_processor.specs.Processor.{Processor, is_running, word_at}
+use Rattle.pp_processor.specs.Step.{Step, local, probes, takes, does, reads, writes}
+use Rattle.pp_processor.specs.declared.{answer.Answer.Answer, block.Block.Block, block.BlockKind.BlockKind, pp_state.PpState.PpState}
+use Rattle.pp_processor.specs.declared.answer.Answer.TheVariants as answers
+use Rattle.pp_processor.specs.declared.block.BlockKind.TheVariants.{CentralIn, CentralOut, Input, Output}
+use Rattle.pp_processor.specs.declared.pp_state.PpState.TheVariants.{Running}
 use Rattle.pp_ends.specs.declared.stand.Stand.{Stand}
 use Rattle.pp_ends.specs.Stand.{next_in, stand_of}
 use Rattle.pp_ends.proofs.MoveLemmas.{goes_by, goes_by_two, five_on}

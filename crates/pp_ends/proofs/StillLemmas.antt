@@ -5,16 +5,17 @@ use Rattle.std.proofs.lemmas.List.{get_or_read, set-get_or}
 use Rattle.pp_channel.specs.declared.event.Event.{Event}
 use Rattle.pp_machine.specs.MachineState.{MachineState, processor_of}
 use Rattle.pp_machine.specs.MachineStep.{answer_to, central_after, counted, event_for, stepped}
-use Rattle.pp_machine.specs.NeedAndEffect.{need, processor_after}
-use Rattle.pp_machine.specs.Processor.{Processor, no_processor}
+use Rattle.pp_processor.specs.NeedAndEffect.{need, processor_after}
+use Rattle.pp_processor.specs.Processor.{Processor, no_processor}
 use Rattle.pp_numbers.specs.Profile.{processor_in_turn}
 use Rattle.pp_numbers.specs.PpNo.{processor_index}
 use Rattle.pp_machine.specs.Run.{barrel, run}
 use Rattle.pp_machine.proofs.OrderLemmas.{turn_of_barrel}
 use Rattle.pp_machine.proofs.RunLemmas.{barrel_more, length-barrel}
 use Rattle.pp_numbers.specs.declared.profile.Profile.{Profile}
-use Rattle.pp_machine.specs.declared.{need.Need.Need, trace.Trace.Trace}
-use Rattle.pp_machine.specs.declared.need.Need.TheVariants.{Nothing, Channel}
+use Rattle.pp_processor.specs.declared.{need.Need.Need}
+use Rattle.pp_machine.specs.declared.{trace.Trace.Trace}
+use Rattle.pp_processor.specs.declared.need.Need.TheVariants.{Nothing, Channel}
 use Rattle.pp_run.specs.Determinacy.{IsQuiet, Waits}
 use Rattle.pp_run.proofs.StepFacts.{central_by, event_by, event_by_need, histories_by, histories_none, own_step, processors_by, trace_by, trace_with}
 use Rattle.pp_ends.specs.Endings.{AreSameButTurns, EndsQuietFrom, IsStillFrom, MovesAt, WaitsAt, after_turns}

@@ -5,10 +5,10 @@ use Rattle.std.specs.Prelude.{◌≡◌, ℕ, ◌+◌, ◌<◌, ◌≤◌, ◌%�
 use Rattle.std.specs.Bool.{OnFalse}
 use Rattle.pp_channel.specs.Answer.{channel_state}
 use Rattle.pp_machine.specs.MachineState.{MachineState, processor_of, history_of}
-use Rattle.pp_machine.specs.Processor.{IsAtRest}
+use Rattle.pp_processor.specs.Processor.{IsAtRest}
 use Rattle.pp_numbers.specs.Profile.{processor_in_turn, processors_in}
 use Rattle.pp_machine.specs.Run.{barrel, run}
-use Rattle.pp_machine.specs.declared.pp_state.PpState.TheVariants.{Running}
+use Rattle.pp_processor.specs.declared.pp_state.PpState.TheVariants.{Running}
 use Rattle.pp_run.specs.Determinacy.{IsQuiet, Waits}
 use Rattle.pp_ends.specs.declared.ending.Ending.{Ending}
 use Rattle.pp_ends.specs.declared.ending.Ending.TheVariants as endings

@@ -2,8 +2,8 @@
 -- this.)
 use Rattle.std.specs.Prelude.{ℕ, ◌+◌, ◌%◌, Option, None, Some}
 use Rattle.pp_word.specs.Address.{place_count}
-use Rattle.pp_machine.specs.Processor.{Processor, is_running, word_at}
-use Rattle.pp_machine.specs.declared.block.Block.{Block}
+use Rattle.pp_processor.specs.Processor.{Processor, is_running, word_at}
+use Rattle.pp_processor.specs.declared.block.Block.{Block}
 use Rattle.pp_ends.specs.declared.stand.Stand.{Stand}
 
 -- the place before this one: 7777 (octal) comes before 0000

@@ -1,7 +1,7 @@
 //! What a step that moves changes of its processor.
 
 ghost use Rattle.std.specs.Prelude.{◌≡◌, ◌↔◌, IsTrue};
-ghost use Rattle.pp_machine.specs.Processor.{IsProcessor};
+ghost use Rattle.pp_processor.specs.Processor.{IsProcessor};
 ghost use Rattle.pp_ends.specs.Stand.{next_in, stand_of};
 
 use pp_machine::{Block, Pp};

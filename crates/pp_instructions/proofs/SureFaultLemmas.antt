@@ -8,10 +8,10 @@ use Rattle.pp_numbers.specs.Profile.{has_channel}
 use Rattle.pp_word.specs.Opcode.{code_of, opcode_at, operations}
 use Rattle.pp_word.specs.declared.opcode.Opcode.{Opcode}
 use Rattle.pp_word.specs.declared.opcode.Opcode.TheVariants.{PSN}
-use Rattle.pp_machine.specs.Effect.{faults}
-use Rattle.pp_machine.specs.InstructionTable.{instruction, row}
-use Rattle.pp_machine.specs.Processor.{Processor}
-use Rattle.pp_machine.specs.Step.{local}
+use Rattle.pp_processor.specs.Effect.{faults}
+use Rattle.pp_processor.specs.InstructionTable.{instruction, row}
+use Rattle.pp_processor.specs.Processor.{Processor}
+use Rattle.pp_processor.specs.Step.{local}
 use Rattle.pp_instructions.specs.InstructionEffect.{sure_fault}
 
 -- the operations stand in the order of their codes

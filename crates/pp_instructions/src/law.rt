@@ -1,9 +1,9 @@
 ghost use Rattle.std.specs.Prelude.{ℕ, ◌≡◌, ◌<◌, ◌/◌, ◌%◌, ◌^◌, Some};
 ghost use Rattle.pp_instructions.specs.InstructionEffect.{sure_fault};
-ghost use Rattle.pp_machine.specs.Effect.{faults};
-ghost use Rattle.pp_machine.specs.InstructionTable.{instruction};
-ghost use Rattle.pp_machine.specs.Processor.{Processor};
-ghost use Rattle.pp_machine.specs.Step.{local};
+ghost use Rattle.pp_processor.specs.Effect.{faults};
+ghost use Rattle.pp_processor.specs.InstructionTable.{instruction};
+ghost use Rattle.pp_processor.specs.Processor.{Processor};
+ghost use Rattle.pp_processor.specs.Step.{local};
 ghost use Rattle.pp_word.specs.Opcode.{opcode_at};
 
 /// An instruction that is said to fault wherever it is run does: whatever its processor holds, the

@@ -8,12 +8,12 @@ use Rattle.pp_numbers.specs.ChannelNo.{channel_count, names_channel}
 use Rattle.pp_channel.specs.declared.{chan_op.ChanOp.ChanOp, event.Event.Event}
 use Rattle.pp_machine.specs.MachineState.{MachineState, processor_of, history_of}
 use Rattle.pp_machine.specs.MachineStep.{answer_to, counted, stepped}
-use Rattle.pp_machine.specs.NeedAndEffect.{need, processor_after}
-use Rattle.pp_machine.specs.Processor.{Processor, IsAtRest}
+use Rattle.pp_processor.specs.NeedAndEffect.{need, processor_after}
+use Rattle.pp_processor.specs.Processor.{Processor, IsAtRest}
 use Rattle.pp_numbers.specs.PpNo.{processor_count}
 use Rattle.pp_machine.specs.Run.{run}
-use Rattle.pp_machine.specs.declared.{answer.Answer.Answer, need.Need.Need}
-use Rattle.pp_machine.specs.declared.need.Need.TheVariants.{Local, Channel, Read, Write}
+use Rattle.pp_processor.specs.declared.{answer.Answer.Answer, need.Need.Need}
+use Rattle.pp_processor.specs.declared.need.Need.TheVariants.{Local, Channel, Read, Write}
 use Rattle.pp_machine.proofs.MachineStepLemmas.{stepped_at_rest, event_at_rest}
 use Rattle.pp_run.specs.Determinacy.{Waits, IsQuiet, IsDeterminate, IsNoRaceAt, IsRaceFreeOn, Stays, TurnsInPlace, WaitsForGood, WritesAt, IsEmbeddedIn, ShowsParts, made_on, AreAlike, at_moment, processor_at, history_at, need_at, MayFind}
 use Rattle.pp_run.specs.Determinacy.IsEmbeddedIn.{over, next, beside}

@@ -14,7 +14,7 @@ use Rattle.pp_word.specs.Numeral.{short_decimal}
 use Rattle.pp_channel.specs.History.{active, history_on, waiting}
 use Rattle.pp_channel.specs.declared.event.Event.{Event}
 use Rattle.pp_machine.specs.MachineState.{MachineState, processor_of}
-use Rattle.pp_machine.specs.Processor.{Processor}
+use Rattle.pp_processor.specs.Processor.{Processor}
 use Rattle.pp_machine.specs.Run.{run}
 use Rattle.pp_deck.specs.DeckLine.{Line}
 use Rattle.pp_deck.specs.DeckMeaning.{LoadedDeck}

@@ -16,12 +16,13 @@ use Rattle.pp_channel.proofs.LawLemmas.{law_of_lawful}
 use Rattle.pp_machine.specs.Headline.{HoldsOnChannel}
 use Rattle.pp_machine.specs.MachineState.{MachineState, history_of, processor_of}
 use Rattle.pp_machine.specs.MachineStep.{answer_to, counted, stepped, trace_after}
-use Rattle.pp_machine.specs.NeedAndEffect.{need, processor_after}
-use Rattle.pp_machine.specs.Processor.{Processor, IsAtRest, no_processor}
+use Rattle.pp_processor.specs.NeedAndEffect.{need, processor_after}
+use Rattle.pp_processor.specs.Processor.{Processor, IsAtRest, no_processor}
 use Rattle.pp_machine.specs.Run.{run, run_order}
-use Rattle.pp_machine.specs.declared.{need.Need.Need, pp_state.PpState.PpState, trace.Trace.Trace}
-use Rattle.pp_machine.specs.declared.need.Need.TheVariants.{Channel}
-use Rattle.pp_machine.specs.declared.pp_state.PpState.TheVariants.{Running, Stopped, Fault}
+use Rattle.pp_processor.specs.declared.{need.Need.Need, pp_state.PpState.PpState}
+use Rattle.pp_machine.specs.declared.{trace.Trace.Trace}
+use Rattle.pp_processor.specs.declared.need.Need.TheVariants.{Channel}
+use Rattle.pp_processor.specs.declared.pp_state.PpState.TheVariants.{Running, Stopped, Fault}
 use Rattle.pp_machine.proofs.MachineStepLemmas.{stepped_at_rest}
 use Rattle.pp_machine.proofs.OrderLemmas.{length-run_order}
 use Rattle.pp_numbers.specs.declared.profile.Profile.{Profile}

@@ -8,9 +8,9 @@ use Rattle.pp_numbers.specs.ChannelNo.{channel_count, channel_number, channel_pl
 use Rattle.pp_channel.specs.History.{history_on}
 use Rattle.pp_report.specs.Types.{Access, Answer, ChanOp, End, Entry, Need, PpState, Report, Worker}
 use Rattle.pp_machine.specs.MachineState.{MachineState, history_of, processor_of}
-use Rattle.pp_machine.specs.NeedAndEffect.{need}
+use Rattle.pp_processor.specs.NeedAndEffect.{need}
 use Rattle.pp_numbers.specs.PpNo.{processor_count, processor_index, processor_number, processor_places}
-use Rattle.pp_machine.specs.Processor.{Processor, IsAtRest, no_processor}
+use Rattle.pp_processor.specs.Processor.{Processor, IsAtRest, no_processor}
 use Rattle.pp_numbers.specs.Profile.{processors_in}
 use Rattle.pp_machine.specs.Run.{run}
 use Rattle.pp_machine.proofs.MachineStepLemmas.{event_at_rest, stepped_at_rest}

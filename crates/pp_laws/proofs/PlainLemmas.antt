@@ -5,10 +5,10 @@ use Rattle.std.proofs.lemmas.Bool.{ne_eqb}
 use Rattle.pp_word.specs.Numeral.{octal}
 use Rattle.pp_channel.specs.declared.flags.Flags.{Flags}
 use Rattle.pp_machine.specs.MachineState.{MachineState}
-use Rattle.pp_machine.specs.declared.{block.Block.Block, block.BlockKind.BlockKind, need.Need.Need, outcome.Outcome.Outcome}
-use Rattle.pp_machine.specs.declared.block.BlockKind.TheVariants.{Input, Output}
-use Rattle.pp_machine.specs.declared.need.Need.TheVariants.{Channel}
-use Rattle.pp_machine.specs.declared.outcome.Outcome.TheVariants.{Held}
+use Rattle.pp_processor.specs.declared.{block.Block.Block, block.BlockKind.BlockKind, need.Need.Need, outcome.Outcome.Outcome}
+use Rattle.pp_processor.specs.declared.block.BlockKind.TheVariants.{Input, Output}
+use Rattle.pp_processor.specs.declared.need.Need.TheVariants.{Channel}
+use Rattle.pp_processor.specs.declared.outcome.Outcome.TheVariants.{Held}
 use Rattle.pp_deck.specs.DeckLine.{Line, central_size, central_words, section, start, words}
 use Rattle.pp_deck.proofs.FieldTextLemmas.{octal_plain}
 use Rattle.pp_listing.specs.ListedLine.{line_text}

@@ -13,9 +13,10 @@ use Rattle.pp_deck.proofs.FieldTextLemmas.{IsField, IsTail, fields_of_plain, is_
 use Rattle.pp_deck.specs.DeckText.{fields_of}
 use Rattle.pp_numbers.proofs.PpNoLemmas.{processor_fits}
 use Rattle.pp_numbers.specs.PpNo.{names_processor}
-use Rattle.pp_machine.specs.Processor.{Processor}
-use Rattle.pp_machine.specs.declared.{pp_state.PpState.PpState, trace.Trace.Trace}
-use Rattle.pp_machine.specs.declared.pp_state.PpState.TheVariants.{Fault}
+use Rattle.pp_processor.specs.Processor.{Processor}
+use Rattle.pp_processor.specs.declared.{pp_state.PpState.PpState}
+use Rattle.pp_machine.specs.declared.{trace.Trace.Trace}
+use Rattle.pp_processor.specs.declared.pp_state.PpState.TheVariants.{Fault}
 use Rattle.pp_word.specs.Numeral.{decimal, is_digit, numeral, octal}
 use Rattle.pp_word.proofs.NumeralLemmas.{decimal_are, decimal_pass, decimal_read, octal_read}
 use Rattle.pp_listing.proofs.ListedLineLemmas.{plain_append}

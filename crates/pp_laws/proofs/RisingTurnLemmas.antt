@@ -9,10 +9,11 @@ use Rattle.pp_channel.specs.declared.event.Event.{Event}
 use Rattle.pp_machine.specs.Headline.{HoldsOnEachChannel}
 use Rattle.pp_machine.specs.MachineState.{MachineState, history_of, processor_of}
 use Rattle.pp_machine.specs.MachineStep.{stepped, trace_after}
-use Rattle.pp_machine.specs.NeedAndEffect.{need}
+use Rattle.pp_processor.specs.NeedAndEffect.{need}
 use Rattle.pp_machine.specs.Run.{run}
-use Rattle.pp_machine.specs.declared.{need.Need.Need, trace.Trace.Trace}
-use Rattle.pp_machine.specs.declared.need.Need.TheVariants.{Channel}
+use Rattle.pp_processor.specs.declared.{need.Need.Need}
+use Rattle.pp_machine.specs.declared.{trace.Trace.Trace}
+use Rattle.pp_processor.specs.declared.need.Need.TheVariants.{Channel}
 use Rattle.pp_text.specs.TextLaw.{FitsItsText}
 use Rattle.pp_laws.specs.PrintedTrace.{IsPrintable}
 use Rattle.pp_check.proofs.FaultLemmas.{increasing_push}

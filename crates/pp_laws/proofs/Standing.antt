@@ -8,11 +8,11 @@ use Rattle.pp_numbers.specs.ChannelNo.{channel_count, names_channel}
 use Rattle.pp_channel.specs.declared.{chan_op.ChanOp.ChanOp, event.Event.Event}
 use Rattle.pp_machine.specs.MachineState.{MachineState, processor_of, history_of}
 use Rattle.pp_machine.specs.MachineStep.{answer_to, stepped}
-use Rattle.pp_machine.specs.NeedAndEffect.{need, processor_after}
-use Rattle.pp_machine.specs.Processor.{Processor}
+use Rattle.pp_processor.specs.NeedAndEffect.{need, processor_after}
+use Rattle.pp_processor.specs.Processor.{Processor}
 use Rattle.pp_numbers.specs.PpNo.{processor_count}
-use Rattle.pp_machine.specs.declared.need.Need.{Need}
-use Rattle.pp_machine.specs.declared.need.Need.TheVariants.{Write}
+use Rattle.pp_processor.specs.declared.need.Need.{Need}
+use Rattle.pp_processor.specs.declared.need.Need.TheVariants.{Write}
 use Rattle.pp_run.specs.Determinacy.{Waits, IsDeterminate, IsRaceFree, Stays, at_moment, processor_at, history_at, need_at, made_on, MayFind}
 use Rattle.pp_run.specs.Determinacy.MayFind.{processor_advances}
 use Rattle.pp_run.proofs.StepFacts.{own_step, other_step, word_unless, central_by, event_by_need}

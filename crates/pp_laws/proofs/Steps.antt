@@ -8,11 +8,11 @@ use Rattle.pp_numbers.specs.ChannelNo.{channel_count, channel_index, names_chann
 use Rattle.pp_channel.specs.declared.{chan_op.ChanOp.ChanOp, event.Event.Event}
 use Rattle.pp_machine.specs.MachineState.{MachineState, processor_of, history_of}
 use Rattle.pp_machine.specs.MachineStep.{answer_to, counted, stepped}
-use Rattle.pp_machine.specs.NeedAndEffect.{need, processor_after}
-use Rattle.pp_machine.specs.Processor.{IsAtRest}
+use Rattle.pp_processor.specs.NeedAndEffect.{need, processor_after}
+use Rattle.pp_processor.specs.Processor.{IsAtRest}
 use Rattle.pp_numbers.specs.PpNo.{processor_count}
-use Rattle.pp_machine.specs.declared.{answer.Answer.Answer, need.Need.Need}
-use Rattle.pp_machine.specs.declared.need.Need.TheVariants.{Channel, Local}
+use Rattle.pp_processor.specs.declared.{answer.Answer.Answer, need.Need.Need}
+use Rattle.pp_processor.specs.declared.need.Need.TheVariants.{Channel, Local}
 use Rattle.pp_machine.proofs.MachineStepLemmas.{stepped_at_rest}
 use Rattle.pp_run.specs.Determinacy.{IsDeterminate, Stays, TurnsInPlace, DoesTheSame, at_moment, processor_at, history_at, made_on, MayFind}
 use Rattle.pp_run.specs.Determinacy.MayFind.{channel_advances, processor_advances, both_advance}

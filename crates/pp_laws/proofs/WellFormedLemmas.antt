@@ -13,8 +13,8 @@ use Rattle.pp_channel.specs.History.{active, waiting}
 use Rattle.pp_channel.specs.declared.event.Event.TheVariants.{Put, Function}
 use Rattle.pp_machine.specs.MachineState.{MachineState, history_of, processor_of}
 use Rattle.pp_numbers.specs.PpNo.{processor_index}
-use Rattle.pp_machine.specs.declared.pp_state.PpState.{PpState}
-use Rattle.pp_machine.specs.declared.pp_state.PpState.TheVariants.{Fault}
+use Rattle.pp_processor.specs.declared.pp_state.PpState.{PpState}
+use Rattle.pp_processor.specs.declared.pp_state.PpState.TheVariants.{Fault}
 use Rattle.pp_channel.specs.ChannelText.{channel_text}
 use Rattle.pp_text.specs.PrintedText.{each_below, state_text}
 use Rattle.pp_numbers.specs.declared.window.Window.{Window}

@@ -3,9 +3,9 @@
 use Rattle.std.specs.Prelude.{◌≡◌, ℕ, ◌+◌, ◌<◌, ◌^◌, List, ◌++◌, map}
 use Rattle.pp_channel.specs.Answer.{channel_state}
 use Rattle.pp_machine.specs.MachineState.{MachineState, history_of, processor_of}
-use Rattle.pp_machine.specs.Processor.{Processor, IsAtRest}
+use Rattle.pp_processor.specs.Processor.{Processor, IsAtRest}
 use Rattle.pp_machine.specs.Run.{run}
-use Rattle.pp_machine.specs.declared.pp_state.PpState.TheVariants.{Running}
+use Rattle.pp_processor.specs.declared.pp_state.PpState.TheVariants.{Running}
 use Rattle.pp_machine.specs.declared.trace.Trace.{Trace}
 use Rattle.pp_listing.specs.RestOfOrder.{order_left}
 use Rattle.pp_deck.specs.DeckMeaning.{LoadedDeck}

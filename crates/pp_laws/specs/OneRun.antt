@@ -3,9 +3,9 @@ use Rattle.std.specs.Prelude.{◌≡◌, ◌⊎◌, ℕ, List, All, slice_index_
 use Rattle.pp_channel.specs.History.{history_on}
 use Rattle.pp_report.specs.Types.{ChanOp, End, Need, Report}
 use Rattle.pp_machine.specs.MachineState.{MachineState}
-use Rattle.pp_machine.specs.NeedAndEffect.{need}
+use Rattle.pp_processor.specs.NeedAndEffect.{need}
 use Rattle.pp_numbers.specs.PpNo.{processor_index}
-use Rattle.pp_machine.specs.Processor.{Processor, IsAtRest, no_processor}
+use Rattle.pp_processor.specs.Processor.{Processor, IsAtRest, no_processor}
 use Rattle.pp_run.specs.Determinacy.{Stays, TurnsInPlace, history_at, processor_at}
 use Rattle.pp_runner.specs.declared.end.End.TheVariants.{Fault, Stopped}
 use Rattle.pp_report.specs.Serial.{processors_left}

@@ -6,11 +6,11 @@ use Rattle.std.proofs.lemmas.List.{get_or-replicate, length-map, append-nil, app
 use Rattle.std.proofs.Math.ListN.{get_or-map}
 use Rattle.pp_numbers.specs.ChannelNo.{all_channels, channel_count, channel_index, names_channel, channel_places}
 use Rattle.pp_machine.specs.MachineState.{MachineState, processor_of, is_opened}
-use Rattle.pp_machine.specs.Processor.{Processor, IsProcessor, new_processor, no_processor, word_at}
+use Rattle.pp_processor.specs.Processor.{Processor, IsProcessor, new_processor, no_processor, word_at}
 use Rattle.pp_numbers.specs.PpNo.{all_processors, names_processor, processor_count, processor_index, processor_number, processor_places}
 use Rattle.pp_machine.specs.Run.{run}
-use Rattle.pp_machine.specs.declared.{block.Block.Block, pp_state.PpState.PpState}
-use Rattle.pp_machine.specs.declared.pp_state.PpState.TheVariants.{Running, Stopped, Fault}
+use Rattle.pp_processor.specs.declared.{block.Block.Block, pp_state.PpState.PpState}
+use Rattle.pp_processor.specs.declared.pp_state.PpState.TheVariants.{Running, Stopped, Fault}
 use Rattle.pp_numbers.specs.declared.profile.Profile.{Profile}
 use Rattle.pp_deck.specs.DeckLoad.{processor_with}
 use Rattle.pp_deck.specs.DeckMeaning.{LoadedDeck, deck_meaning, with_dead_start}

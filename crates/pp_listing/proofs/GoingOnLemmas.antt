@@ -7,7 +7,7 @@ use Rattle.pp_numbers.specs.ChannelNo.{all_channels}
 use Rattle.pp_channel.specs.Answer.{flags_of}
 use Rattle.pp_channel.specs.declared.{event.Event.Event, flags.Flags.Flags}
 use Rattle.pp_machine.specs.MachineState.{MachineState, history_of, processor_of}
-use Rattle.pp_machine.specs.Processor.{Processor}
+use Rattle.pp_processor.specs.Processor.{Processor}
 use Rattle.pp_numbers.specs.PpNo.{all_processors}
 use Rattle.pp_numbers.specs.Tables.{tabulate}
 use Rattle.pp_numbers.proofs.TableLemmas.{length-tabulate, get_or-tabulate}

@@ -10,10 +10,9 @@ use Rattle.pp_numbers.specs.Tables.{tabulate}
 use Rattle.pp_numbers.proofs.TableLemmas.{length-tabulate, get_or-tabulate, tabulate_const, tabulate_is}
 use Rattle.pp_numbers.specs.ChannelNo.{all_channels, channel_count, channel_index, channel_number, names_channel, channel_places}
 use Rattle.pp_machine.specs.MachineState.{MachineState, new_machine, processor_of, is_opened}
-use Rattle.pp_machine.specs.DeadStart.{waiting_on}
 use Rattle.pp_machine.specs.Central.{IsCentral}
-use Rattle.pp_machine.specs.PpMemory.{empty_memory}
-use Rattle.pp_machine.specs.Processor.{Processor, IsProcessor, new_processor, no_processor, word_at}
+use Rattle.pp_processor.specs.PpMemory.{empty_memory}
+use Rattle.pp_processor.specs.Processor.{Processor, IsProcessor, new_processor, no_processor, word_at, waiting_on}
 use Rattle.pp_numbers.specs.PpNo.{processor_places, all_processors, names_processor, processor_count, processor_index, processor_number, each_processor, is_named}
 use Rattle.pp_word.specs.Address.{place_count}
 use Rattle.pp_numbers.proofs.GrowingLists.{last_of}

@@ -20,23 +20,23 @@ use Rattle.pp_channel.specs.declared.reply.Reply.TheVariants as replies
 use Rattle.pp_channel.proofs.EachHistory.{bits_on}
 use Rattle.pp_channel.proofs.HistoryLemmas.{waiting_small}
 use Rattle.pp_machine.specs.Central.{IsCentral}
-use Rattle.pp_machine.specs.DeadStart.{waiting_on, waits, processor_started, history_started, processors_started, histories_started}
+use Rattle.pp_machine.specs.DeadStart.{waits, processor_started, history_started, processors_started, histories_started}
 use Rattle.pp_machine.specs.MachineState.{MachineState, processor_of, history_of, is_opened}
 use Rattle.pp_machine.specs.MachineStep.{answer_to, histories_after, central_after, stepped}
-use Rattle.pp_machine.specs.NeedAndEffect.{need, next_step, processor_after, if_running}
-use Rattle.pp_machine.specs.PpMemory.{empty_memory}
+use Rattle.pp_processor.specs.NeedAndEffect.{need, next_step, processor_after, if_running}
+use Rattle.pp_processor.specs.PpMemory.{empty_memory}
 use Rattle.pp_numbers.specs.PpNo.{names_processor, processor_count, processor_index, processor_number, processor_places}
-use Rattle.pp_machine.specs.Processor.{Processor, IsAtRest, new_processor, no_processor}
+use Rattle.pp_processor.specs.Processor.{Processor, IsAtRest, new_processor, no_processor, waiting_on}
 use Rattle.pp_numbers.proofs.PpNoLemmas.{channel_of_processor}
 use Rattle.pp_numbers.specs.Profile.{has_processor}
-use Rattle.pp_machine.specs.Step.{Step, need_of, does, writes}
-use Rattle.pp_machine.specs.declared.{need.Need.Need, pp_state.PpState.PpState}
-use Rattle.pp_machine.specs.declared.need.Need.TheVariants.{Nothing, Channel, Write}
-use Rattle.pp_machine.specs.declared.pp_state.PpState.TheVariants.{Running}
+use Rattle.pp_processor.specs.Step.{Step, need_of, does, writes}
+use Rattle.pp_processor.specs.declared.{need.Need.Need, pp_state.PpState.PpState}
+use Rattle.pp_processor.specs.declared.need.Need.TheVariants.{Nothing, Channel, Write}
+use Rattle.pp_processor.specs.declared.pp_state.PpState.TheVariants.{Running}
 use Rattle.pp_numbers.specs.declared.profile.Profile.{Profile}
 use Rattle.pp_numbers.specs.declared.profile.Profile.TheVariants.{Ten}
 use Rattle.pp_machine.proofs.MachineStepLemmas.{stepped_at_rest}
-use Rattle.pp_machine.proofs.MemoryLemmas.{zero_memory}
+use Rattle.pp_processor.proofs.MemoryLemmas.{zero_memory}
 use Rattle.pp_deck.specs.DeckLine.{Line}
 use Rattle.pp_deck.specs.DeckLoad.{asks_dead_start, lines_for, memory_of, processor_loaded, processor_with, start_in}
 use Rattle.pp_deck.specs.DeckLoad as load

@@ -12,19 +12,19 @@ use Rattle.pp_word.specs.declared.opcode.Opcode.TheVariants.{PSN, LJM, RJM, UJN,
 use Rattle.pp_channel.specs.declared.{chan_op.ChanOp.ChanOp, flags.Flags.Flags, reply.Reply.Reply}
 use Rattle.pp_channel.specs.declared.chan_op.ChanOp.TheVariants as operations
 use Rattle.pp_channel.specs.declared.reply.Reply.TheVariants as replies
-use Rattle.pp_machine.specs.Block.{stored_from, receives, central_from, held, cut_short, block_word, starts, ends, counts_down, counts_up, stores_at}
-use Rattle.pp_machine.specs.Effect.{goes_on, goes_to, jumps_where, branches_where, leads_to_itself, is_negative, low_of, loads, loads_word, replaces}
-use Rattle.pp_machine.specs.InstructionTable.{row, memory_operations, operand_places}
-use Rattle.pp_machine.specs.NeedAndEffect.{answered, step_of, next_step, processor_after, if_running}
-use Rattle.pp_machine.specs.Operand.{second_word, index, constant}
-use Rattle.pp_machine.specs.PpMemory.{IsMemory}
-use Rattle.pp_machine.specs.Processor.{Processor, IsProcessor, word_at}
-use Rattle.pp_machine.specs.Step.{Step, local, probes, takes, does, reads, writes}
-use Rattle.pp_machine.specs.declared.{answer.Answer.Answer, block.Block.Block, block.BlockKind.BlockKind, pp_state.PpState.PpState}
-use Rattle.pp_machine.specs.declared.answer.Answer.TheVariants as answers
-use Rattle.pp_machine.specs.declared.block.BlockKind.TheVariants.{CentralIn, CentralOut, Input, Output}
+use Rattle.pp_processor.specs.Block.{stored_from, receives, central_from, held, cut_short, block_word, starts, ends, counts_down, counts_up, stores_at}
+use Rattle.pp_processor.specs.Effect.{goes_on, goes_to, jumps_where, branches_where, leads_to_itself, is_negative, low_of, loads, loads_word, replaces}
+use Rattle.pp_processor.specs.InstructionTable.{row, memory_operations, operand_places}
+use Rattle.pp_processor.specs.NeedAndEffect.{answered, step_of, next_step, processor_after, if_running}
+use Rattle.pp_processor.specs.Operand.{second_word, index, constant}
+use Rattle.pp_processor.specs.PpMemory.{IsMemory}
+use Rattle.pp_processor.specs.Processor.{Processor, IsProcessor, word_at}
+use Rattle.pp_processor.specs.Step.{Step, local, probes, takes, does, reads, writes}
+use Rattle.pp_processor.specs.declared.{answer.Answer.Answer, block.Block.Block, block.BlockKind.BlockKind, pp_state.PpState.PpState}
+use Rattle.pp_processor.specs.declared.answer.Answer.TheVariants as answers
+use Rattle.pp_processor.specs.declared.block.BlockKind.TheVariants.{CentralIn, CentralOut, Input, Output}
 use Rattle.pp_numbers.specs.declared.profile.Profile.{Profile}
-use Rattle.pp_machine.specs.declared.pp_state.PpState.TheVariants.{Running, Stopped, Fault}
+use Rattle.pp_processor.specs.declared.pp_state.PpState.TheVariants.{Running, Stopped, Fault}
 use Rattle.std.proofs.Math.Nat.{pow-le-pow_right, pow-suc, pow-zero}
 use Rattle.std.proofs.lemmas.Slice.Zip.{length-zip}
 use Rattle.std.proofs.lemmas.Bool.{ltb-true}

@@ -6,8 +6,8 @@ use Rattle.std.proofs.lemmas.List.{append-nil, drop_all, drop_more, length-drop}
 use Rattle.std.proofs.lemmas.List.Concat.{flat_map-append}
 use Rattle.pp_word.specs.Address.{place_count, next_place}
 use Rattle.pp_numbers.specs.PpNo.{all_processors}
-use Rattle.pp_machine.specs.declared.pp_state.PpState.{PpState}
-use Rattle.pp_machine.specs.declared.pp_state.PpState.TheVariants.{Running}
+use Rattle.pp_processor.specs.declared.pp_state.PpState.{PpState}
+use Rattle.pp_processor.specs.declared.pp_state.PpState.TheVariants.{Running}
 use Rattle.pp_deck.specs.DeckLine.{central_size, central_words, section}
 use Rattle.pp_deck.specs.DeckMeaning.{LoadedDeck}
 use Rattle.pp_text.specs.InstructionText.{instruction_text, is_long}

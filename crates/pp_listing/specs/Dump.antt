@@ -4,12 +4,12 @@ use Rattle.std.specs.Io.KnownBytes.{Appends, Keeps}
 use Rattle.pp_numbers.specs.ChannelNo.{all_channels}
 use Rattle.pp_channel.specs.History.{active}
 use Rattle.pp_machine.specs.MachineState.{MachineState, new_machine, processor_of, history_of}
-use Rattle.pp_machine.specs.Processor.{Processor, new_processor}
+use Rattle.pp_processor.specs.Processor.{Processor, new_processor}
 use Rattle.pp_numbers.specs.PpNo.{all_processors}
 use Rattle.pp_machine.specs.Run.{run}
 use Rattle.pp_word.specs.Numeral.{octal}
-use Rattle.pp_machine.specs.declared.{block.Block.Block, pp_state.PpState.PpState}
-use Rattle.pp_machine.specs.declared.pp_state.PpState.TheVariants.{Running, Fault}
+use Rattle.pp_processor.specs.declared.{block.Block.Block, pp_state.PpState.PpState}
+use Rattle.pp_processor.specs.declared.pp_state.PpState.TheVariants.{Running, Fault}
 use Rattle.pp_deck.specs.DeckMeaning.{LoadedDeck, deck_meaning}
 use Rattle.pp_deck.specs.InUse.{in_use}
 use Rattle.pp_text.specs.OrderText.{order_text}

@@ -3,10 +3,10 @@ use Rattle.std.specs.Prelude.{◌≡◌, ◌≤◌, Ok, ℕ, ◌+◌, ◌==◌, 
 use Rattle.std.specs.List.{flat_map, list_any, range_with_len}
 use Rattle.pp_numbers.specs.ChannelNo.{all_channels}
 use Rattle.pp_machine.specs.MachineState.{MachineState, processor_of, is_opened}
-use Rattle.pp_machine.specs.Processor.{Processor, word_at}
+use Rattle.pp_processor.specs.Processor.{Processor, word_at}
 use Rattle.pp_numbers.specs.PpNo.{all_processors, is_named}
-use Rattle.pp_machine.specs.declared.pp_state.PpState.{PpState}
-use Rattle.pp_machine.specs.declared.pp_state.PpState.TheVariants.{Running}
+use Rattle.pp_processor.specs.declared.pp_state.PpState.{PpState}
+use Rattle.pp_processor.specs.declared.pp_state.PpState.TheVariants.{Running}
 use Rattle.pp_deck.specs.DeckLine.{central_size, central_words, section, start, dead_start}
 use Rattle.pp_deck.specs.DeckMeaning.{LoadedDeck, deck_meaning}
 use Rattle.pp_text.specs.InstructionText.{is_long}

@@ -1,6 +1,6 @@
 //! The lines of a processor's words, one for each instruction.
 
-ghost use Rattle.pp_machine.specs.Processor.{word_at};
+ghost use Rattle.pp_processor.specs.Processor.{word_at};
 ghost use Rattle.pp_text.specs.InstructionText.{is_long};
 ghost use Rattle.pp_text.specs.TextWriter.{Prints};
 ghost use Rattle.pp_listing.specs.ListedLine.{one_word, text_line, text_of, two_words};

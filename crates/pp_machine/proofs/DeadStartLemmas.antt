@@ -12,10 +12,10 @@ use Rattle.pp_channel.specs.History.{IsLawful}
 use Rattle.pp_channel.specs.Law.{KeepsLaw}
 use Rattle.pp_channel.specs.declared.event.Event.{Event}
 use Rattle.pp_channel.specs.declared.event.Event.TheVariants.{Activate}
-use Rattle.pp_machine.specs.DeadStart.{IsBeforeFirstTurn, waiting_on, waits, processor_started, history_started, processors_started, histories_started, opened_where, started, dead_started, with_waiting}
+use Rattle.pp_machine.specs.DeadStart.{IsBeforeFirstTurn, waits, processor_started, history_started, processors_started, histories_started, opened_where, started, dead_started, with_waiting}
 use Rattle.pp_machine.specs.Headline.{HoldsOnChannel, HoldsOnEachChannel, events_on, opening_history, IsMachine}
 use Rattle.pp_machine.specs.MachineState.{MachineState, processor_of, history_of, is_opened}
-use Rattle.pp_machine.specs.Processor.{Processor, no_processor}
+use Rattle.pp_processor.specs.Processor.{Processor, no_processor, waiting_on}
 use Rattle.pp_numbers.specs.PpNo.{processor_places, names_processor, processor_count, processor_index, processor_number}
 use Rattle.pp_numbers.proofs.PpNoLemmas.{channel_of_processor}
 

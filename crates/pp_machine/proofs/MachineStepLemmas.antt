@@ -9,16 +9,16 @@ use Rattle.pp_channel.specs.declared.event.Event.TheVariants as events
 use Rattle.pp_channel.specs.declared.reply.Reply.TheVariants as replies
 use Rattle.pp_machine.specs.MachineState.{MachineState, processor_of, history_of}
 use Rattle.pp_machine.specs.MachineStep.{answer_to, counted, event_for, served, taken, stepped, step_event, step_outcome}
-use Rattle.pp_machine.specs.NeedAndEffect.{need, outcome, if_running, next_step}
-use Rattle.pp_machine.specs.Processor.{Processor, IsAtRest, IsAtFault, KeepsMemoryAndRegisters}
-use Rattle.pp_machine.specs.Step.{need_of}
+use Rattle.pp_processor.specs.NeedAndEffect.{need, outcome, if_running, next_step}
+use Rattle.pp_processor.specs.Processor.{Processor, IsAtRest, IsAtFault, KeepsMemoryAndRegisters}
+use Rattle.pp_processor.specs.Step.{need_of}
 use Rattle.pp_numbers.specs.PpNo.{processor_index}
-use Rattle.pp_machine.specs.declared.answer.Answer.TheVariants as answers
-use Rattle.pp_machine.specs.declared.{need.Need.Need, outcome.Outcome.Outcome, pp_state.PpState.PpState}
-use Rattle.pp_machine.specs.declared.need.Need.TheVariants.{Nothing, Local, Channel, Read, Write}
-use Rattle.pp_machine.specs.declared.outcome.Outcome.TheVariants.{AtRest, Held, Moved}
-use Rattle.pp_machine.specs.declared.pp_state.PpState.TheVariants.{Running, Stopped, Fault}
-use Rattle.pp_machine.proofs.StepLemmas.{at_rest, rest_changes_nothing, held_changes_nothing, held_by_answer, fault_keeps}
+use Rattle.pp_processor.specs.declared.answer.Answer.TheVariants as answers
+use Rattle.pp_processor.specs.declared.{need.Need.Need, outcome.Outcome.Outcome, pp_state.PpState.PpState}
+use Rattle.pp_processor.specs.declared.need.Need.TheVariants.{Nothing, Local, Channel, Read, Write}
+use Rattle.pp_processor.specs.declared.outcome.Outcome.TheVariants.{AtRest, Held, Moved}
+use Rattle.pp_processor.specs.declared.pp_state.PpState.TheVariants.{Running, Stopped, Fault}
+use Rattle.pp_processor.proofs.StepLemmas.{at_rest, rest_changes_nothing, held_changes_nothing, held_by_answer, fault_keeps}
 
 needs_nothing : (state : PpState) (pp : Processor) → state ≢ Running → if_running state (need_of (next_step pp)) Nothing ≡ Nothing
 needs_nothing Running pp rests = absurd (rests refl)

@@ -8,21 +8,21 @@ use Rattle.pp_channel.specs.Answer.{event_of, reply_to, flags_of}
 use Rattle.pp_channel.specs.declared.{chan_op.ChanOp.ChanOp, event.Event.Event, flags.Flags.Flags, reply.Reply.Reply}
 use Rattle.pp_channel.specs.declared.chan_op.ChanOp.TheVariants.{Probe}
 use Rattle.pp_channel.specs.declared.reply.Reply.TheVariants as replies
-use Rattle.pp_machine.specs.declared.{need.Need.Need}
+use Rattle.pp_processor.specs.declared.{need.Need.Need}
 use Rattle.pp_machine.specs.MachineState.{MachineState, processor_of, history_of}
 use Rattle.pp_machine.specs.MachineStep.{answer_to, counted, served, taken, stepped}
-use Rattle.pp_machine.specs.NeedAndEffect.{need, processor_after}
-use Rattle.pp_machine.specs.Processor.{Processor, no_processor, IsAtRest}
+use Rattle.pp_processor.specs.NeedAndEffect.{need, processor_after}
+use Rattle.pp_processor.specs.Processor.{Processor, no_processor, IsAtRest}
 use Rattle.pp_numbers.specs.PpNo.{processor_index, processor_number, processor_places}
 use Rattle.pp_numbers.specs.Profile.{processors_in, processor_in_turn}
 use Rattle.pp_machine.specs.Quiet.{is_quiet, step_beside, steps_beside, IsAhead, AreAhead}
 use Rattle.pp_machine.specs.Rounds.{whole_rounds}
 use Rattle.pp_machine.specs.Run.{run, barrel}
-use Rattle.pp_machine.specs.declared.need.Need.TheVariants.{Nothing, Local, Channel, Read, Write}
-use Rattle.pp_machine.specs.declared.answer.Answer.TheVariants as answers
+use Rattle.pp_processor.specs.declared.need.Need.TheVariants.{Nothing, Local, Channel, Read, Write}
+use Rattle.pp_processor.specs.declared.answer.Answer.TheVariants as answers
 use Rattle.pp_numbers.specs.declared.profile.Profile.{Profile}
 use Rattle.pp_numbers.proofs.ProfileLemmas.{most_processors, in_turn_at, no_rounds, next_round}
-use Rattle.pp_machine.proofs.StepLemmas.{nothing_at_rest, rest_changes_nothing}
+use Rattle.pp_processor.proofs.StepLemmas.{nothing_at_rest, rest_changes_nothing}
 use Rattle.pp_machine.proofs.RoundLemmas.{barrel_rounds}
 use Rattle.pp_machine.proofs.RunLemmas.{barrel_more}
 

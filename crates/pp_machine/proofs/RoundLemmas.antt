@@ -5,8 +5,8 @@ use Rattle.std.proofs.Math.Nat.{mul-le-mul_left}
 use Rattle.std.proofs.lemmas.Bool.Decides.{eqb_tells}
 use Rattle.pp_machine.specs.MachineState.{MachineState, processor_of}
 use Rattle.pp_machine.specs.MachineStep.{answer_to, stepped, step_event}
-use Rattle.pp_machine.specs.NeedAndEffect.{need, processor_after}
-use Rattle.pp_machine.specs.Processor.{Processor, no_processor, IsAtRest}
+use Rattle.pp_processor.specs.NeedAndEffect.{need, processor_after}
+use Rattle.pp_processor.specs.Processor.{Processor, no_processor, IsAtRest}
 use Rattle.pp_numbers.specs.PpNo.{processor_count, processor_index}
 use Rattle.pp_numbers.specs.Profile.{processors_in, processor_in_turn}
 use Rattle.pp_numbers.specs.declared.profile.Profile.{Profile}

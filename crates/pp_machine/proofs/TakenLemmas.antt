@@ -9,17 +9,17 @@ use Rattle.pp_machine.specs.Headline.{IsMachine}
 use Rattle.pp_machine.specs.MachineState.{MachineState, history_of, processor_of}
 use Rattle.pp_machine.specs.MachineStep.{answer_to, counted, served, taken, stepped, step_outcome}
 use Rattle.pp_word.specs.declared.opcode.Opcode.{Opcode}
-use Rattle.pp_machine.specs.InstructionTable.{row}
-use Rattle.pp_machine.specs.NeedAndEffect.{need, processor_after, outcome, is_held, if_running, answered}
-use Rattle.pp_machine.specs.NextStep.{IsAtInstruction}
-use Rattle.pp_machine.specs.Replay.{fits}
-use Rattle.pp_machine.specs.Step.{Step, need_of}
-use Rattle.pp_machine.specs.Processor.{Processor}
+use Rattle.pp_processor.specs.InstructionTable.{row}
+use Rattle.pp_processor.specs.NeedAndEffect.{need, processor_after, outcome, is_held, if_running, answered}
+use Rattle.pp_processor.specs.NextStep.{IsAtInstruction}
+use Rattle.pp_processor.specs.Replay.{fits}
+use Rattle.pp_processor.specs.Step.{Step, need_of}
+use Rattle.pp_processor.specs.Processor.{Processor}
 use Rattle.pp_numbers.specs.PpNo.{processor_index}
-use Rattle.pp_machine.specs.declared.{answer.Answer.Answer, block.Block.Block, need.Need.Need}
-use Rattle.pp_machine.specs.declared.answer.Answer.TheVariants.{Local}
-use Rattle.pp_machine.specs.declared.outcome.Outcome.TheVariants.{Held, Moved, AtRest}
-use Rattle.pp_machine.specs.declared.pp_state.PpState.TheVariants.{Running}
+use Rattle.pp_processor.specs.declared.{answer.Answer.Answer, block.Block.Block, need.Need.Need}
+use Rattle.pp_processor.specs.declared.answer.Answer.TheVariants.{Local}
+use Rattle.pp_processor.specs.declared.outcome.Outcome.TheVariants.{Held, Moved, AtRest}
+use Rattle.pp_processor.specs.declared.pp_state.PpState.TheVariants.{Running}
 
 -- what was read at the place of processor n is that processor
 pub own_processor : {before now : MachineState} {i : ℕ} {pp : Processor} (n : ℕ) → before ≡ now → i ≡ processor_index n → i < length before.processors → pp ≡ get_or before.processors i pp → pp ≡ processor_of n now
@@ -80,12 +80,3 @@ popped {X} {before} {pushed} {after} {n} e push count pop =
 pub some_is_made : {X : Type 0} (made : Option X) (event : X) → made ≡ Some event → IsNone made → ⊥
 some_is_made None event is none = cc
 some_is_made (Some other) event is none = search rules
-
--- an answer that does not fit a fault fits the row of the instruction
-if_fits : (faulty : Bool) (step fault : Step) (pp : Processor) (x : Answer) → IsTrue (fits (need_of (if faulty then fault else step)) x) → fits (need_of fault) x ≡ false → answered step pp x ≡ answered (if faulty then fault else step) pp x
-if_fits true step fault pp x fit other = cc
-if_fits false step fault pp x fit other = refl
-
-pub taken_by_row : (op : Opcode) (d : ℕ) (pp : Processor) (x : Answer) → IsAtInstruction op d pp → IsTrue (fits (need pp) x) → fits Need.Local x ≡ false → answered (row op pp d) pp x ≡ processor_after pp x
-unfolding need processor_after
-taken_by_row op d pp x next fit other = grind (arith, if_fits)

@@ -6,22 +6,10 @@ use Rattle.std.specs.List.{range_with_len}
 use Rattle.pp_numbers.specs.ChannelNo.{channel_count, channel_index, channel_number, names_channel}
 use Rattle.pp_channel.specs.declared.event.Event.{Event}
 use Rattle.pp_machine.specs.MachineState.{MachineState, processor_of, history_of}
-use Rattle.pp_machine.specs.Processor.{Processor}
+use Rattle.pp_processor.specs.Processor.{Processor, waiting_on}
 use Rattle.pp_numbers.specs.PpNo.{names_processor, processor_count, processor_index, processor_number}
 use Rattle.pp_numbers.specs.Profile.{processors_in}
-use Rattle.pp_machine.specs.declared.block.BlockKind.TheVariants.{Input}
-use Rattle.pp_machine.specs.declared.pp_state.PpState.TheVariants.{Running}
 use Rattle.pp_numbers.specs.declared.profile.Profile.{Profile}
-
--- a processor that waits for its program: a block input from channel c, with places from 0000 on, P
--- 0000 and A 010000
-abbrev pub waiting_on : ℕ → Processor → Processor
-waiting_on c pp = record pp {
-  a = 0o10000;
-  p = 0;
-  state = Running;
-  block = Some (record { kind = Input c; place = 0 });
-}
 
 -- only processors that a machine of this profile has wait
 abbrev pub WaitsWithin : Profile → List Bool → Type 0

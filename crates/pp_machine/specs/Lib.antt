@@ -1,13 +1,3 @@
-pub mod PpMemory
-pub mod Processor
-pub mod Operand
-pub mod Step
-pub mod Effect
-pub mod Block
-pub mod InstructionTable
-pub mod NeedAndEffect
-pub mod Replay
-pub mod BlockResults
 pub mod Central
 pub mod MachineState
 pub mod MachineStep
@@ -17,5 +7,4 @@ pub mod DeadStart
 pub mod Lending
 -- cited only by private contracts: nobody has to read these to believe what the crate promises
 pub mod Rounds
-pub mod NextStep
 pub mod Quiet

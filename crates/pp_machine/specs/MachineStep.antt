@@ -6,9 +6,10 @@ use Rattle.pp_channel.specs.Answer.{event_of, reply_to, history_after}
 use Rattle.pp_numbers.specs.ChannelNo.{channel_index}
 use Rattle.pp_channel.specs.declared.{event.Event.Event, memory.Memory.Memory}
 use Rattle.pp_machine.specs.MachineState.{MachineState, processor_of, history_of}
-use Rattle.pp_machine.specs.NeedAndEffect.{need, processor_after, outcome}
+use Rattle.pp_processor.specs.NeedAndEffect.{need, processor_after, outcome}
 use Rattle.pp_numbers.specs.PpNo.{processor_index}
-use Rattle.pp_machine.specs.declared.{answer.Answer.Answer, need.Need.Need, outcome.Outcome.Outcome, trace.Trace.Trace}
+use Rattle.pp_processor.specs.declared.{answer.Answer.Answer, need.Need.Need, outcome.Outcome.Outcome}
+use Rattle.pp_machine.specs.declared.{trace.Trace.Trace}
 
 -- what the channels and central memory answer to a need
 abbrev pub answer_to : Need → MachineState → Answer

@@ -5,10 +5,10 @@ use Rattle.std.specs.Prelude.{◌≡◌, ℕ, zero, suc, ◌<◌, ◌≤◌, Boo
 use Rattle.pp_channel.specs.Answer.{event_of}
 use Rattle.pp_machine.specs.MachineState.{MachineState, history_of}
 use Rattle.pp_machine.specs.MachineStep.{answer_to}
-use Rattle.pp_machine.specs.NeedAndEffect.{need, processor_after}
-use Rattle.pp_machine.specs.Processor.{Processor, no_processor}
-use Rattle.pp_machine.specs.declared.need.Need.{Need}
-use Rattle.pp_machine.specs.declared.need.Need.TheVariants.{Nothing, Local, Channel}
+use Rattle.pp_processor.specs.NeedAndEffect.{need, processor_after}
+use Rattle.pp_processor.specs.Processor.{Processor, no_processor}
+use Rattle.pp_processor.specs.declared.need.Need.{Need}
+use Rattle.pp_processor.specs.declared.need.Need.TheVariants.{Nothing, Local, Channel}
 
 -- whether a step with this need is taken as quiet: it needs nothing from outside, or its operation
 -- on a channel only looks or is held. A central read is not, though it changes nothing else.

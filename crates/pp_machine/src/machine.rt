@@ -5,7 +5,7 @@ ghost use Rattle.pp_channel.specs.History.{IsLawful};
 ghost use Rattle.pp_channel.specs.Law.{KeepsLaw};
 ghost use Rattle.pp_machine.specs.Headline.{HoldsOnChannel};
 ghost use Rattle.pp_numbers.specs.PpNo.{processor_count};
-ghost use Rattle.pp_machine.specs.Processor.{new_processor};
+ghost use Rattle.pp_processor.specs.Processor.{new_processor};
 
 use crate::{Central, CentralFault, Pp, Trace};
 use pp_channel::{CHANNELS, Channel, ChannelNo, Memory};

@@ -3,13 +3,13 @@
 ghost use Rattle.std.specs.Prelude.{◌≡◌, ◌-◌, ◌<◌, ◌≤◌, false, length, vec_len};
 ghost use Rattle.pp_numbers.specs.ChannelNo.{channel_count};
 ghost use Rattle.pp_machine.specs.MachineState.{MachineState};
-ghost use Rattle.pp_machine.specs.NeedAndEffect.{need};
+ghost use Rattle.pp_processor.specs.NeedAndEffect.{need};
 ghost use Rattle.pp_numbers.specs.PpNo.{processor_count};
 ghost use Rattle.pp_machine.specs.Quiet.{is_quiet, IsAhead, AreAhead};
 
-use crate::pp::ends;
 use crate::{Answer, Need, Outcome, Pp};
 use pp_channel::Channel;
+use pp_processor::ends;
 use std::alloc::Allocator;
 
 /// Runs the processors of a round from a place of the barrel on, each by the same number of quiet

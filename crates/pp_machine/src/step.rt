@@ -1,10 +1,10 @@
 //! One step of a machine.
 
 ghost use Rattle.std.specs.Prelude.{◌≡◌, if◌then◌else◌, IfOk, IsOk, IsNone, OnOk, OnErr};
-ghost use Rattle.pp_machine.specs.NextStep.{IsAtInstruction, IsNext};
-ghost use Rattle.pp_machine.specs.NeedAndEffect.{need};
+ghost use Rattle.pp_processor.specs.NextStep.{IsAtInstruction, IsNext};
+ghost use Rattle.pp_processor.specs.NeedAndEffect.{need};
 ghost use Rattle.pp_numbers.specs.Profile.{has_channel};
-ghost use Rattle.pp_machine.specs.Processor.{IsAtRest, IsAtFault, KeepsMemoryAndRegisters};
+ghost use Rattle.pp_processor.specs.Processor.{IsAtRest, IsAtFault, KeepsMemoryAndRegisters};
 
 use crate::{Answer, Machine, Need, Outcome, PpState, Trace};
 use pp_channel::{ChanOp, ChannelNo, Memory, Reply};

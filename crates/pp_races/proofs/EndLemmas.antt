@@ -7,8 +7,8 @@ use Rattle.pp_channel.specs.Answer.{flags_of}
 use Rattle.pp_channel.specs.declared.{chan_op.ChanOp.ChanOp, flags.Flags.Flags}
 use Rattle.pp_machine.specs.MachineState.{MachineState, processor_of, history_of}
 use Rattle.pp_numbers.specs.PpNo.{each_processor, names_processor, processor_count, processor_number, processor_places}
-use Rattle.pp_machine.specs.declared.need.Need.{Need}
-use Rattle.pp_machine.specs.declared.need.Need.TheVariants.{Channel}
+use Rattle.pp_processor.specs.declared.need.Need.{Need}
+use Rattle.pp_processor.specs.declared.need.Need.TheVariants.{Channel}
 use Rattle.pp_machine.specs.declared.trace.Trace.{Trace}
 use Rattle.pp_text.proofs.PrintingLemmas.{each_below_suc}
 use Rattle.pp_races.specs.Findings.{end_by_need, held_before, is_shared, sharing_of}

@@ -9,13 +9,14 @@ use Rattle.pp_channel.specs.Answer.{flags_of}
 use Rattle.pp_numbers.specs.ChannelNo.{channel_count}
 use Rattle.pp_channel.specs.declared.{chan_op.ChanOp.ChanOp, event.Event.Event}
 use Rattle.pp_machine.specs.MachineState.{MachineState, processor_of, history_of}
-use Rattle.pp_machine.specs.NeedAndEffect.{need}
+use Rattle.pp_processor.specs.NeedAndEffect.{need}
 use Rattle.pp_numbers.specs.PpNo.{each_processor, names_processor, processor_count, processor_index, processor_number, processor_places}
-use Rattle.pp_machine.specs.Processor.{no_processor}
+use Rattle.pp_processor.specs.Processor.{no_processor}
 use Rattle.pp_machine.specs.Run.{run}
-use Rattle.pp_machine.specs.declared.{need.Need.Need, trace.Trace.Trace}
-use Rattle.pp_machine.specs.declared.need.Need.TheVariants.{Channel}
-use Rattle.pp_machine.proofs.StepLemmas.{nothing_at_rest}
+use Rattle.pp_processor.specs.declared.{need.Need.Need}
+use Rattle.pp_machine.specs.declared.{trace.Trace.Trace}
+use Rattle.pp_processor.specs.declared.need.Need.TheVariants.{Channel}
+use Rattle.pp_processor.proofs.StepLemmas.{nothing_at_rest}
 use Rattle.pp_run.specs.Determinacy.{IsDeterminate, IsSettled, UsesAt, at_moment, history_at, need_at}
 use Rattle.pp_run.proofs.Moments.{moment_past, run_central}
 use Rattle.pp_races.specs.Findings.{end_by_need, end_of, held_before, is_shared, sharing_of, turns_in_place}

@@ -8,10 +8,11 @@ use Rattle.pp_channel.specs.Answer.{event_of, flags_of}
 use Rattle.pp_channel.specs.declared.{chan_op.ChanOp.ChanOp, event.Event.Event}
 use Rattle.pp_machine.specs.MachineState.{MachineState, history_of, processor_of}
 use Rattle.pp_machine.specs.MachineStep.{stepped}
-use Rattle.pp_machine.specs.NeedAndEffect.{need}
+use Rattle.pp_processor.specs.NeedAndEffect.{need}
 use Rattle.pp_machine.specs.Run.{run}
-use Rattle.pp_machine.specs.declared.{need.Need.Need, trace.Trace.Trace}
-use Rattle.pp_machine.specs.declared.need.Need.TheVariants.{Channel}
+use Rattle.pp_processor.specs.declared.{need.Need.Need}
+use Rattle.pp_machine.specs.declared.{trace.Trace.Trace}
+use Rattle.pp_processor.specs.declared.need.Need.TheVariants.{Channel}
 use Rattle.pp_numbers.specs.PpNo.{each_processor, processor_count, processor_number}
 use Rattle.pp_races.specs.Findings.{end_of, findings_at_end, is_shared, sharing_of}
 use Rattle.pp_races.specs.OtherFlags.{waits_at}

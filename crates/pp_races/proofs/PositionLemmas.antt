@@ -11,18 +11,18 @@ use Rattle.pp_word.specs.Address.{next_place, place_after}
 use Rattle.pp_word.specs.Opcode.{code_of, length_of}
 use Rattle.pp_word.specs.declared.opcode.Opcode.{Opcode}
 use Rattle.pp_word.specs.declared.opcode.Opcode.TheVariants.{AJM, IJM, FJM, EJM, OAN, ACN, DCN, FAN, FNC}
-use Rattle.pp_machine.specs.Block.{block_word, cut_short, held}
-use Rattle.pp_machine.specs.Effect.{branches_where}
-use Rattle.pp_machine.specs.InstructionTable.{table, works_on_channel}
-use Rattle.pp_machine.specs.NeedAndEffect.{answered, if_running, need, next_step, processor_after, step_of}
-use Rattle.pp_machine.specs.Operand.{lower_six, operation, second_word}
-use Rattle.pp_machine.specs.Processor.{Processor, word_at}
+use Rattle.pp_processor.specs.Block.{block_word, cut_short, held}
+use Rattle.pp_processor.specs.Effect.{branches_where}
+use Rattle.pp_processor.specs.InstructionTable.{table, works_on_channel}
+use Rattle.pp_processor.specs.NeedAndEffect.{answered, if_running, need, next_step, processor_after, step_of}
+use Rattle.pp_processor.specs.Operand.{lower_six, operation, second_word}
+use Rattle.pp_processor.specs.Processor.{Processor, word_at}
 use Rattle.pp_numbers.specs.Profile.{has_channel}
-use Rattle.pp_machine.specs.Step.{Step, need_of, local, probes, takes, does}
-use Rattle.pp_machine.specs.declared.{answer.Answer.Answer, block.Block.Block, block.BlockKind.BlockKind, need.Need.Need, pp_state.PpState.PpState}
-use Rattle.pp_machine.specs.declared.block.BlockKind.TheVariants.{CentralIn, CentralOut, Input, Output}
-use Rattle.pp_machine.specs.declared.need.Need.TheVariants.{Channel}
-use Rattle.pp_machine.specs.declared.pp_state.PpState.TheVariants.{Running}
+use Rattle.pp_processor.specs.Step.{Step, need_of, local, probes, takes, does}
+use Rattle.pp_processor.specs.declared.{answer.Answer.Answer, block.Block.Block, block.BlockKind.BlockKind, need.Need.Need, pp_state.PpState.PpState}
+use Rattle.pp_processor.specs.declared.block.BlockKind.TheVariants.{CentralIn, CentralOut, Input, Output}
+use Rattle.pp_processor.specs.declared.need.Need.TheVariants.{Channel}
+use Rattle.pp_processor.specs.declared.pp_state.PpState.TheVariants.{Running}
 use Rattle.pp_races.specs.OtherFlags.{position_at, position_of, is_same, shown_to, found_at, is_alike, is_race, makes_none}
 use Rattle.pp_races.specs.Positions.{cut_position, held_position, position_shown, tests_flags}
 use Rattle.pp_races.specs.declared.position.Position.{Position}

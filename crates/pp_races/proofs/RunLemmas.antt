@@ -8,11 +8,11 @@ use Rattle.pp_numbers.specs.ChannelNo.{channel_count}
 use Rattle.pp_channel.specs.declared.{chan_op.ChanOp.ChanOp, event.Event.Event}
 use Rattle.pp_machine.specs.MachineState.{MachineState, processor_of, history_of}
 use Rattle.pp_machine.specs.MachineStep.{stepped}
-use Rattle.pp_machine.specs.NeedAndEffect.{need}
+use Rattle.pp_processor.specs.NeedAndEffect.{need}
 use Rattle.pp_numbers.specs.PpNo.{names_processor, processor_count, processor_number}
 use Rattle.pp_machine.specs.Run.{run}
 use Rattle.pp_machine.proofs.RunLemmas.{run_more}
-use Rattle.pp_machine.specs.declared.need.Need.{Need}
+use Rattle.pp_processor.specs.declared.need.Need.{Need}
 use Rattle.pp_run.specs.Determinacy.{IsDeterminate, UsesAt, WritesAt, at_moment, need_at}
 use Rattle.pp_run.proofs.Moments.{moment_next, moment_each, mono, run_central, run_processors}
 use Rattle.pp_races.specs.Findings.{end_of, findings, findings_at_end, sharing_of}

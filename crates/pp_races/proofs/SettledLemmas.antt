@@ -3,14 +3,14 @@ use Rattle.std.proofs.Common.{◌≡◌, ℕ, zero, suc, ◌+◌, ◌<◌, true,
 use Rattle.std.specs.Prelude.{◌==◌, ◌&&◌, is_some}
 use Rattle.std.proofs.lemmas.Bool.{and_parts, cases_lt, eq-eqb, ne_eqb, and_right, eqb-true}
 use Rattle.std.proofs.lemmas.List.{ext_get_or}
-use Rattle.pp_machine.specs.Processor.{Processor, is_running, word_at}
-use Rattle.pp_machine.specs.Block.{block_word}
-use Rattle.pp_machine.specs.NeedAndEffect.{if_running, need, next_step, step_of}
-use Rattle.pp_machine.specs.PpMemory.{IsMemory}
-use Rattle.pp_machine.specs.Step.{need_of}
-use Rattle.pp_machine.specs.declared.{block.Block.Block, block.BlockKind.BlockKind, need.Need.Need, pp_state.PpState.PpState}
-use Rattle.pp_machine.specs.declared.block.BlockKind.TheVariants.{Input}
-use Rattle.pp_machine.specs.declared.pp_state.PpState.TheVariants.{Running}
+use Rattle.pp_processor.specs.Processor.{Processor, is_running, word_at}
+use Rattle.pp_processor.specs.Block.{block_word}
+use Rattle.pp_processor.specs.NeedAndEffect.{if_running, need, next_step, step_of}
+use Rattle.pp_processor.specs.PpMemory.{IsMemory}
+use Rattle.pp_processor.specs.Step.{need_of}
+use Rattle.pp_processor.specs.declared.{block.Block.Block, block.BlockKind.BlockKind, need.Need.Need, pp_state.PpState.PpState}
+use Rattle.pp_processor.specs.declared.block.BlockKind.TheVariants.{Input}
+use Rattle.pp_processor.specs.declared.pp_state.PpState.TheVariants.{Running}
 use Rattle.pp_numbers.specs.declared.profile.Profile.{Profile}
 use Rattle.pp_races.specs.Findings.{same_profile, same_words, stays_running}
 use Rattle.pp_races.specs.OtherFlags.{is_same, position_of}

@@ -12,11 +12,12 @@ use Rattle.pp_channel.specs.declared.{chan_op.ChanOp.ChanOp, event.Event.Event, 
 use Rattle.pp_channel.proofs.AnswerLemmas.{flags_by_table, lawful_with_event}
 use Rattle.pp_machine.specs.MachineState.{MachineState, processor_of, history_of}
 use Rattle.pp_machine.specs.MachineStep.{answer_to, stepped}
-use Rattle.pp_machine.specs.NeedAndEffect.{need, processor_after}
+use Rattle.pp_processor.specs.NeedAndEffect.{need, processor_after}
 use Rattle.pp_numbers.specs.PpNo.{names_processor, processor_count, processor_index, processor_number, processor_places}
-use Rattle.pp_machine.specs.Processor.{Processor}
-use Rattle.pp_machine.specs.declared.{need.Need.Need, trace.Trace.Trace}
-use Rattle.pp_machine.specs.declared.need.Need.TheVariants.{Channel}
+use Rattle.pp_processor.specs.Processor.{Processor}
+use Rattle.pp_processor.specs.declared.{need.Need.Need}
+use Rattle.pp_machine.specs.declared.{trace.Trace.Trace}
+use Rattle.pp_processor.specs.declared.need.Need.TheVariants.{Channel}
 use Rattle.pp_run.specs.Determinacy.{Stays}
 use Rattle.pp_run.proofs.StepFacts.{central_by, event_by_need, histories_none, history_elsewhere, history_here, history_unless, own_step}
 use Rattle.pp_races.specs.OtherFlags.{found_at, is_alike, is_race, is_same, makes_none, position_at, position_of, shown_to, waits_at}

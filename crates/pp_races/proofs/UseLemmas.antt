@@ -9,8 +9,8 @@ use Rattle.std.proofs.lemmas.Nat.Bits.{bit_at_set_same, bit_at_set_other, bit_at
 use Rattle.pp_channel.specs.Answer.{flags_of}
 use Rattle.pp_channel.specs.declared.{chan_op.ChanOp.ChanOp, event.Event.Event}
 use Rattle.pp_machine.specs.MachineState.{MachineState, processor_of, history_of}
-use Rattle.pp_machine.specs.declared.need.Need.{Need}
-use Rattle.pp_machine.specs.declared.need.Need.TheVariants.{Channel}
+use Rattle.pp_processor.specs.declared.need.Need.{Need}
+use Rattle.pp_processor.specs.declared.need.Need.TheVariants.{Channel}
 use Rattle.pp_numbers.specs.PpNo.{names_processor, processor_index, processor_places}
 use Rattle.pp_races.specs.Tables.{AreUses, Looks, has_bit, unused}
 use Rattle.pp_races.specs.OtherFlags.{waits_at}

@@ -10,11 +10,11 @@ use Rattle.pp_numbers.specs.ChannelNo.{channel_count}
 use Rattle.pp_channel.specs.declared.{chan_op.ChanOp.ChanOp, event.Event.Event, flags.Flags.Flags}
 use Rattle.pp_channel.specs.declared.chan_op.ChanOp.TheVariants.{Probe}
 use Rattle.pp_machine.specs.MachineState.{MachineState, processor_of, history_of}
-use Rattle.pp_machine.specs.NeedAndEffect.{need, processor_after}
-use Rattle.pp_machine.specs.Processor.{Processor}
+use Rattle.pp_processor.specs.NeedAndEffect.{need, processor_after}
+use Rattle.pp_processor.specs.Processor.{Processor}
 use Rattle.pp_machine.specs.Run.{run}
-use Rattle.pp_machine.specs.declared.{answer.Answer.Answer, need.Need.Need}
-use Rattle.pp_machine.specs.declared.need.Need.TheVariants.{Channel}
+use Rattle.pp_processor.specs.declared.{answer.Answer.Answer, need.Need.Need}
+use Rattle.pp_processor.specs.declared.need.Need.TheVariants.{Channel}
 use Rattle.pp_run.specs.Determinacy.{Waits, IsRaceFree, IsRaceFreeOn, IsNoRaceAt, Stays, DoesTheSame, AdvancesAlone, WaitsForGood, MayFind, at_moment, processor_at, history_at, need_at}
 use Rattle.pp_races.specs.OnePass.IsChecked.{step_waits, step_elsewhere, step_looks, step_makes}
 use Rattle.pp_run.specs.Determinacy.MayFind.{start, channel_advances, processor_advances, both_advance}

@@ -3,12 +3,13 @@
 use Rattle.std.specs.Prelude.{ℕ, zero, suc, Bool, true, false, not, ◌&&◌, ◌==◌, nat_lt, List, [], ◌∷◌, ◌++◌, Option, Some, None, count_by, length, if◌then◌else◌}
 use Rattle.pp_channel.specs.Answer.{flags_of}
 use Rattle.pp_machine.specs.MachineState.{MachineState, processor_of, history_of}
-use Rattle.pp_machine.specs.NeedAndEffect.{need, processor_after}
+use Rattle.pp_processor.specs.NeedAndEffect.{need, processor_after}
 use Rattle.pp_numbers.specs.PpNo.{each_processor}
-use Rattle.pp_machine.specs.Processor.{Processor, is_running, word_at}
+use Rattle.pp_processor.specs.Processor.{Processor, is_running, word_at}
 use Rattle.pp_machine.specs.Run.{run}
-use Rattle.pp_machine.specs.declared.{answer.Answer.Answer, need.Need.Need, trace.Trace.Trace}
-use Rattle.pp_machine.specs.declared.need.Need.TheVariants.{Nothing, Local, Channel}
+use Rattle.pp_processor.specs.declared.{answer.Answer.Answer, need.Need.Need}
+use Rattle.pp_machine.specs.declared.{trace.Trace.Trace}
+use Rattle.pp_processor.specs.declared.need.Need.TheVariants.{Nothing, Local, Channel}
 use Rattle.pp_numbers.specs.declared.profile.Profile.{Profile}
 use Rattle.pp_races.specs.OtherFlags.{is_same, position_of, waits_at}
 use Rattle.pp_races.specs.Watch.{Watch, asking_step, each_below, each_number, first_race, unwatched, watched}

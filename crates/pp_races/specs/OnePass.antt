@@ -5,9 +5,9 @@ use Rattle.pp_channel.specs.Answer.{event_of, flags_of}
 use Rattle.pp_numbers.specs.ChannelNo.{names_channel}
 use Rattle.pp_channel.specs.declared.{chan_op.ChanOp.ChanOp, event.Event.Event, flags.Flags.Flags}
 use Rattle.pp_machine.specs.MachineState.{MachineState, processor_of, history_of}
-use Rattle.pp_machine.specs.NeedAndEffect.{need}
-use Rattle.pp_machine.specs.Processor.{Processor}
-use Rattle.pp_machine.specs.declared.need.Need.{Need}
+use Rattle.pp_processor.specs.NeedAndEffect.{need}
+use Rattle.pp_processor.specs.Processor.{Processor}
+use Rattle.pp_processor.specs.declared.need.Need.{Need}
 use Rattle.pp_run.specs.Determinacy.{Waits, Stays, DoesTheSame, MayFind, at_moment, processor_at, history_at, need_at}
 use Rattle.pp_races.specs.OtherFlags.{makes_none, shown_to}
 

@@ -3,9 +3,9 @@
 use Rattle.std.specs.Prelude.{Bool, true, false, not, ◌||◌, ◌&&◌, ◌==◌, None, is_some, if◌then◌else◌}
 use Rattle.pp_channel.specs.Answer.{only_looks, ready_at, reply_shown}
 use Rattle.pp_channel.specs.declared.{chan_op.ChanOp.ChanOp, flags.Flags.Flags}
-use Rattle.pp_machine.specs.NeedAndEffect.{processor_after}
-use Rattle.pp_machine.specs.Processor.{Processor}
-use Rattle.pp_machine.specs.declared.answer.Answer.{Answer}
+use Rattle.pp_processor.specs.NeedAndEffect.{processor_after}
+use Rattle.pp_processor.specs.Processor.{Processor}
+use Rattle.pp_processor.specs.declared.answer.Answer.{Answer}
 use Rattle.pp_races.specs.declared.{position.Position.Position, found.Found.Found}
 use Rattle.pp_races.specs.declared.found.Found.TheVariants.{Alike, Waits, Races}
 

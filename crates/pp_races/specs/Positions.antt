@@ -4,12 +4,12 @@ use Rattle.std.specs.Prelude.{◌≡◌, ℕ, Bool, false, not, ◌==◌, Option
 use Rattle.pp_word.specs.Address.{next_place, place_after}
 use Rattle.pp_word.specs.Opcode.{code_of}
 use Rattle.pp_channel.specs.declared.{chan_op.ChanOp.ChanOp, flags.Flags.Flags}
-use Rattle.pp_machine.specs.NeedAndEffect.{need}
-use Rattle.pp_machine.specs.Operand.{operation, second_word}
-use Rattle.pp_machine.specs.Processor.{Processor, word_at}
-use Rattle.pp_machine.specs.declared.{block.Block.Block, block.BlockKind.BlockKind}
-use Rattle.pp_machine.specs.declared.block.BlockKind.TheVariants.{Input, Output}
-use Rattle.pp_machine.specs.declared.need.Need.TheVariants.{Channel}
+use Rattle.pp_processor.specs.NeedAndEffect.{need}
+use Rattle.pp_processor.specs.Operand.{operation, second_word}
+use Rattle.pp_processor.specs.Processor.{Processor, word_at}
+use Rattle.pp_processor.specs.declared.{block.Block.Block, block.BlockKind.BlockKind}
+use Rattle.pp_processor.specs.declared.block.BlockKind.TheVariants.{Input, Output}
+use Rattle.pp_processor.specs.declared.need.Need.TheVariants.{Channel}
 use Rattle.pp_races.specs.OtherFlags.{position_of}
 use Rattle.pp_races.specs.declared.position.Position.{Position}
 

@@ -5,9 +5,9 @@ use Rattle.pp_numbers.specs.ChannelNo.{names_channel}
 use Rattle.pp_channel.specs.History.{IsLawful, HasTwelveBitWords}
 use Rattle.pp_channel.specs.declared.{event.Event.Event, flags.Flags.Flags}
 use Rattle.pp_machine.specs.MachineState.{MachineState, history_of, processor_of}
-use Rattle.pp_machine.specs.NeedAndEffect.{need, processor_after}
+use Rattle.pp_processor.specs.NeedAndEffect.{need, processor_after}
 use Rattle.pp_numbers.specs.PpNo.{names_processor}
-use Rattle.pp_machine.specs.declared.{answer.Answer.Answer, need.Need.Need}
+use Rattle.pp_processor.specs.declared.{answer.Answer.Answer, need.Need.Need}
 use Rattle.pp_run.specs.Determinacy.{UsesAt, WritesAt, at_moment, history_at, need_at}
 use Rattle.pp_races.specs.Findings.{turns_in_place}
 use Rattle.pp_races.specs.OnePass.{Watched}

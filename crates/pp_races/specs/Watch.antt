@@ -7,11 +7,12 @@ use Rattle.pp_channel.specs.Answer.{event_of, flags_of, flags_after}
 use Rattle.pp_channel.specs.declared.{chan_op.ChanOp.ChanOp, event.Event.Event, flags.Flags.Flags}
 use Rattle.pp_machine.specs.MachineState.{MachineState, processor_of, history_of}
 use Rattle.pp_machine.specs.MachineStep.{stepped}
-use Rattle.pp_machine.specs.NeedAndEffect.{need}
+use Rattle.pp_processor.specs.NeedAndEffect.{need}
 use Rattle.pp_numbers.specs.PpNo.{processor_count, processor_number}
-use Rattle.pp_machine.specs.Processor.{word_at}
-use Rattle.pp_machine.specs.declared.{need.Need.Need, trace.Trace.Trace}
-use Rattle.pp_machine.specs.declared.need.Need.TheVariants.{Channel, Read, Write}
+use Rattle.pp_processor.specs.Processor.{word_at}
+use Rattle.pp_processor.specs.declared.{need.Need.Need}
+use Rattle.pp_machine.specs.declared.{trace.Trace.Trace}
+use Rattle.pp_processor.specs.declared.need.Need.TheVariants.{Channel, Read, Write}
 use Rattle.pp_races.specs.OtherFlags.{waits_at, found_at, is_alike, is_race}
 use Rattle.pp_races.specs.declared.{asking_step.AskingStep.AskingStep, finding.Finding.Finding}
 pub use Rattle.pp_races.specs.declared.missed.Missed.{Missed}

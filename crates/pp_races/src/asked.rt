@@ -4,8 +4,8 @@ ghost use Rattle.std.specs.Prelude.{◌≡◌, not};
 ghost use Rattle.pp_channel.specs.Answer.{flags_of};
 ghost use Rattle.pp_channel.specs.declared.flags.Flags.{Flags};
 ghost use Rattle.pp_machine.specs.MachineState.{history_of, processor_of};
-ghost use Rattle.pp_machine.specs.NeedAndEffect.{need};
-ghost use Rattle.pp_machine.specs.declared.need.Need.{Need};
+ghost use Rattle.pp_processor.specs.NeedAndEffect.{need};
+ghost use Rattle.pp_processor.specs.declared.need.Need.{Need};
 
 use crate::AskingStep;
 use crate::by_flags::ByFlags;

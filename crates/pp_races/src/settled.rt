@@ -1,8 +1,8 @@
 //! Whether the processors are settled after a run.
 
 ghost use Rattle.std.specs.Prelude.{◌≡◌, ℕ, IsTrue, OnOk};
-ghost use Rattle.pp_machine.specs.NeedAndEffect.{need, processor_after};
-ghost use Rattle.pp_machine.specs.declared.{answer.Answer.Answer, need.Need.Need};
+ghost use Rattle.pp_processor.specs.NeedAndEffect.{need, processor_after};
+ghost use Rattle.pp_processor.specs.declared.{answer.Answer.Answer, need.Need.Need};
 ghost use Rattle.pp_numbers.specs.PpNo.{names_processor};
 ghost use Rattle.pp_races.specs.Findings.{end_by_need, end_of, same_profile, same_words, stays_running, turns_in_place};
 ghost use Rattle.pp_races.specs.Soundness.{TurnTestIsExact};

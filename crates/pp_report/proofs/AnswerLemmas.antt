@@ -7,16 +7,16 @@ use Rattle.pp_channel.specs.Answer.{event_of, flags_of, channel_state, operation
 use Rattle.pp_channel.proofs.AnswerLemmas.{held_at, table_of_ready}
 use Rattle.pp_channel.specs.History.{IsLawful}
 use Rattle.pp_report.specs.Types.{Access, Answer, ChanOp, Did, Entry, Event, Flags, Need, Outcome, PpState, Reply, Saw, Seen}
-use Rattle.pp_machine.specs.Block.{block_word}
-use Rattle.pp_machine.proofs.ReplayLemmas.{acts_where_held, tells_where_fits}
-use Rattle.pp_machine.specs.NeedAndEffect.{need, step_of, outcome, is_held, if_running}
-use Rattle.pp_machine.specs.Processor.{Processor, word_at}
-use Rattle.pp_machine.specs.Replay.{fits, reply_fits}
-use Rattle.pp_machine.specs.Step.{need_of}
-use Rattle.pp_machine.specs.declared.{block.Block.Block, block.BlockKind.BlockKind}
-use Rattle.pp_machine.specs.declared.block.BlockKind.TheVariants.{CentralIn, CentralOut, Input, Output}
-use Rattle.pp_machine.specs.declared.pp_state.PpState.TheVariants.{Running, Stopped, Fault}
-use Rattle.pp_machine.proofs.StepLemmas.{at_rest, nothing_at_rest}
+use Rattle.pp_processor.specs.Block.{block_word}
+use Rattle.pp_processor.proofs.ReplayLemmas.{acts_where_held, tells_where_fits}
+use Rattle.pp_processor.specs.NeedAndEffect.{need, step_of, outcome, is_held, if_running}
+use Rattle.pp_processor.specs.Processor.{Processor, word_at}
+use Rattle.pp_processor.specs.Replay.{fits, reply_fits}
+use Rattle.pp_processor.specs.Step.{need_of}
+use Rattle.pp_processor.specs.declared.{block.Block.Block, block.BlockKind.BlockKind}
+use Rattle.pp_processor.specs.declared.block.BlockKind.TheVariants.{CentralIn, CentralOut, Input, Output}
+use Rattle.pp_processor.specs.declared.pp_state.PpState.TheVariants.{Running, Stopped, Fault}
+use Rattle.pp_processor.proofs.StepLemmas.{at_rest, nothing_at_rest}
 use Rattle.pp_runner.specs.Accesses.{accesses_by}
 use Rattle.pp_runner.specs.WorkerReport.{IsBySize}
 use Rattle.pp_report.proofs.MachineLemmas.{Past, Serves, serves_local, serves_no_word, serves_no_write}

@@ -5,7 +5,7 @@ use Rattle.std.proofs.lemmas.Bool.{cases_lt}
 use Rattle.std.proofs.lemmas.List.{get_or_default, get_or_past}
 use Rattle.pp_machine.specs.MachineState.{MachineState, processor_of}
 use Rattle.pp_numbers.specs.PpNo.{processor_index, processor_places}
-use Rattle.pp_machine.specs.Processor.{Processor, IsAtRest}
+use Rattle.pp_processor.specs.Processor.{Processor, IsAtRest}
 use Rattle.pp_numbers.specs.Profile.{has_processor, processors_in}
 use Rattle.pp_numbers.specs.declared.profile.Profile.{Profile}
 use Rattle.pp_deck.specs.DeckLaw.{KeepsDeckLaw, NamesWithin, at_rest, registers_of}

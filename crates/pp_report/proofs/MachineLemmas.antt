@@ -13,9 +13,9 @@ use Rattle.pp_channel.specs.History.{history_on}
 use Rattle.pp_report.specs.Types.{Answer, ChanOp, Event, Moved, Need, Profile, Reply}
 use Rattle.pp_machine.specs.MachineState.{MachineState, processor_of, history_of}
 use Rattle.pp_machine.specs.MachineStep.{stepped, step_outcome, answer_to, histories_after, central_after}
-use Rattle.pp_machine.specs.NeedAndEffect.{need, outcome, processor_after}
+use Rattle.pp_processor.specs.NeedAndEffect.{need, outcome, processor_after}
 use Rattle.pp_numbers.specs.PpNo.{processor_index, processor_number, processor_places}
-use Rattle.pp_machine.specs.Processor.{Processor, no_processor}
+use Rattle.pp_processor.specs.Processor.{Processor, no_processor}
 use Rattle.pp_numbers.proofs.PpNoLemmas.{number_at}
 use Rattle.pp_numbers.specs.Profile.{has_processor, processors_in}
 use Rattle.pp_numbers.proofs.ProfileLemmas.{has_at, most_processors}

@@ -23,14 +23,14 @@ use Rattle.pp_line.proofs.ListFacts.{count_by-parts}
 use Rattle.pp_line.proofs.MergeLemmas.{told_by}
 use Rattle.pp_machine.specs.Headline.{opening_history}
 use Rattle.pp_machine.specs.MachineState.{MachineState, history_of}
-use Rattle.pp_machine.specs.NeedAndEffect.{need, outcome, processor_after}
+use Rattle.pp_processor.specs.NeedAndEffect.{need, outcome, processor_after}
 use Rattle.pp_numbers.specs.PpNo.{processor_number}
-use Rattle.pp_machine.specs.Processor.{Processor}
+use Rattle.pp_processor.specs.Processor.{Processor}
 use Rattle.pp_numbers.specs.Profile.{processors_in}
 use Rattle.pp_numbers.proofs.ProfileLemmas.{most_processors}
 use Rattle.pp_machine.specs.Run.{run}
-use Rattle.pp_machine.specs.Replay.{OfChannel, fits, contribution, replayed, collected_along, events_given}
-use Rattle.pp_machine.proofs.ReplayLemmas.{Gives, Gives-counted, Gives-to}
+use Rattle.pp_processor.specs.Replay.{OfChannel, fits, contribution, replayed, collected_along, events_given}
+use Rattle.pp_processor.proofs.ReplayLemmas.{Gives, Gives-counted, Gives-to}
 use Rattle.pp_runner.proofs.LabourLemmas.{events_by}
 use Rattle.pp_runner.specs.Accesses.{AreAccessesOf, HasAccessed, HaveAccessed}
 use Rattle.pp_numbers.specs.Limits.{RunLimits}

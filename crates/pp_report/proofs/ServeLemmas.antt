@@ -16,8 +16,8 @@ use Rattle.pp_report.specs.Types.{Access, Answer, Did, Entry, Event, Flags, Need
 use Rattle.pp_channel.proofs.FrontLemmas.{lawful_front}
 use Rattle.pp_line.proofs.MergeLemmas.{told_by, told_here, told_not}
 use Rattle.pp_line.proofs.OrderLemmas.{made_more}
-use Rattle.pp_machine.specs.NeedAndEffect.{need}
-use Rattle.pp_machine.specs.Processor.{Processor}
+use Rattle.pp_processor.specs.NeedAndEffect.{need}
+use Rattle.pp_processor.specs.Processor.{Processor}
 use Rattle.pp_numbers.specs.Profile.{processors_in}
 use Rattle.pp_runner.specs.WorkerReport.{IsBySize}
 use Rattle.pp_report.proofs.AnswerLemmas.{event_answer, look_answer, made_by}

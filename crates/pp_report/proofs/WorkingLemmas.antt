@@ -3,8 +3,8 @@ use Rattle.std.proofs.Common.{cond, eqb, ◌≡◌, ℕ, zero, suc, ◌+◌, ◌
 use Rattle.std.proofs.Math.Dec.{eqb-suc-suc, eqb-suc-zero, eqb-zero-suc}
 use Rattle.std.proofs.lemmas.List.Sums.{sum_by-cons}
 use Rattle.pp_report.specs.Types.{Access, Answer, Moved, Profile}
-use Rattle.pp_machine.specs.NeedAndEffect.{need, outcome, processor_after}
-use Rattle.pp_machine.specs.Processor.{Processor, no_processor}
+use Rattle.pp_processor.specs.NeedAndEffect.{need, outcome, processor_after}
+use Rattle.pp_processor.specs.Processor.{Processor, no_processor}
 use Rattle.pp_numbers.specs.Profile.{processors_in}
 use Rattle.pp_runner.specs.Accesses.{accesses_by}
 use Rattle.pp_report.proofs.AnswerLemmas.{GoesOn, kind_of}

@@ -6,9 +6,9 @@ use Rattle.pp_line.specs.Order.{left_by}
 use Rattle.pp_report.specs.Types.{Access, Answer, Moved, Report, Worker}
 use Rattle.pp_machine.specs.Headline.{opening_history}
 use Rattle.pp_machine.specs.MachineState.{MachineState, history_of, processor_of}
-use Rattle.pp_machine.specs.NeedAndEffect.{need}
+use Rattle.pp_processor.specs.NeedAndEffect.{need}
 use Rattle.pp_numbers.specs.PpNo.{processor_count, processor_number}
-use Rattle.pp_machine.specs.Processor.{Processor}
+use Rattle.pp_processor.specs.Processor.{Processor}
 use Rattle.pp_numbers.specs.Profile.{processors_in, has_processor}
 use Rattle.pp_machine.specs.MachineStep.{answer_to, step_outcome, stepped}
 use Rattle.pp_machine.specs.Run.{run}

@@ -12,10 +12,10 @@ use Rattle.pp_numbers.specs.ChannelNo.{channel_count, channel_index, channel_pla
 use Rattle.pp_machine.specs.Headline.{HoldsOnEachChannel}
 use Rattle.pp_machine.specs.MachineState.{MachineState, processor_of, history_of}
 use Rattle.pp_machine.specs.MachineStep.{answer_to, central_after, stepped}
-use Rattle.pp_machine.specs.NeedAndEffect.{need}
+use Rattle.pp_processor.specs.NeedAndEffect.{need}
 use Rattle.pp_machine.specs.Run.{run}
-use Rattle.pp_machine.specs.declared.{answer.Answer.Answer, need.Need.Need}
-use Rattle.pp_machine.specs.declared.need.Need.TheVariants.{Channel, Read, Write}
+use Rattle.pp_processor.specs.declared.{answer.Answer.Answer, need.Need.Need}
+use Rattle.pp_processor.specs.declared.need.Need.TheVariants.{Channel, Read, Write}
 use Rattle.pp_machine.proofs.RunLemmas.{run_keeps}
 use Rattle.pp_run.proofs.StepFacts.{histories_by, history_elsewhere, history_here, length_histories}
 use Rattle.pp_run.proofs.Moments.{run_histories}

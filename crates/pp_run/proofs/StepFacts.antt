@@ -10,12 +10,13 @@ use Rattle.pp_numbers.specs.ChannelNo.{channel_count, channel_index, names_chann
 use Rattle.pp_channel.specs.declared.{chan_op.ChanOp.ChanOp, event.Event.Event}
 use Rattle.pp_machine.specs.MachineState.{MachineState, processor_of, history_of}
 use Rattle.pp_machine.specs.MachineStep.{answer_to, histories_after, central_after, trace_after, stepped, step_event, event_for}
-use Rattle.pp_machine.specs.NeedAndEffect.{need, processor_after}
-use Rattle.pp_machine.specs.Processor.{Processor, no_processor}
+use Rattle.pp_processor.specs.NeedAndEffect.{need, processor_after}
+use Rattle.pp_processor.specs.Processor.{Processor, no_processor}
 use Rattle.pp_numbers.specs.PpNo.{processor_count, processor_index, processor_places}
-use Rattle.pp_machine.specs.declared.{answer.Answer.Answer, need.Need.Need, trace.Trace.Trace}
+use Rattle.pp_processor.specs.declared.{answer.Answer.Answer, need.Need.Need}
+use Rattle.pp_machine.specs.declared.{trace.Trace.Trace}
 use Rattle.pp_run.specs.Determinacy.{made_on}
-use Rattle.pp_machine.specs.declared.need.Need.TheVariants.{Channel, Write}
+use Rattle.pp_processor.specs.declared.need.Need.TheVariants.{Channel, Write}
 
 pub processors_by : (n : ℕ) (m : MachineState) → (stepped n m).processors ≡ slice_set m.processors (processor_index n) (processor_after (processor_of n m) (answer_to (need (processor_of n m)) m))
 unfolding stepped

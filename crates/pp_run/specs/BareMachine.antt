@@ -7,11 +7,11 @@ use Rattle.pp_channel.specs.declared.reply.Reply.TheVariants as reply
 use Rattle.pp_machine.specs.Headline.{HoldsOnEachChannel}
 use Rattle.pp_machine.specs.MachineState.{MachineState, processor_of}
 use Rattle.pp_machine.specs.MachineStep.{answer_to, step_outcome}
-use Rattle.pp_machine.specs.NeedAndEffect.{need}
+use Rattle.pp_processor.specs.NeedAndEffect.{need}
 use Rattle.pp_numbers.specs.PpNo.{processor_count}
-use Rattle.pp_machine.specs.declared.{answer.Answer.Answer, outcome.Outcome.Outcome}
-use Rattle.pp_machine.specs.declared.answer.Answer.TheVariants.{Channel}
-use Rattle.pp_machine.specs.declared.outcome.Outcome.TheVariants as outcome
+use Rattle.pp_processor.specs.declared.{answer.Answer.Answer, outcome.Outcome.Outcome}
+use Rattle.pp_processor.specs.declared.answer.Answer.TheVariants.{Channel}
+use Rattle.pp_processor.specs.declared.outcome.Outcome.TheVariants as outcome
 use Rattle.pp_run.specs.declared.{bare_machine.BareMachine.BareMachine, progress.Progress.Progress}
 use Rattle.pp_run.specs.declared.progress.Progress.TheVariants.{AtRest, Moved, Held}
 

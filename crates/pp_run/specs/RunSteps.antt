@@ -4,7 +4,7 @@ use Rattle.std.specs.List.{filter}
 use Rattle.pp_machine.specs.MachineState.{MachineState}
 use Rattle.pp_machine.specs.MachineStep.{step_outcome, stepped}
 use Rattle.pp_machine.specs.Run.{IsCutAtEvent, run}
-use Rattle.pp_machine.specs.declared.outcome.Outcome.{Outcome}
+use Rattle.pp_processor.specs.declared.outcome.Outcome.{Outcome}
 
 -- a step: its processor, and the machine before it
 pub record RunStep : Type 0 where

@@ -1,8 +1,8 @@
 -- How many steps moved a processor, were held, and found it at rest.
 use Rattle.std.specs.Prelude.{ℕ, Bool, true, false, List, count_by, length, not}
 use Rattle.std.specs.List.{after_last}
-use Rattle.pp_machine.specs.declared.outcome.Outcome.{Outcome}
-use Rattle.pp_machine.specs.declared.outcome.Outcome.TheVariants.{Moved, Held, AtRest}
+use Rattle.pp_processor.specs.declared.outcome.Outcome.{Outcome}
+use Rattle.pp_processor.specs.declared.outcome.Outcome.TheVariants.{Moved, Held, AtRest}
 use Rattle.pp_run.specs.RunSteps.{RunStep, outcome_of, seen_of}
 use Rattle.pp_run.specs.declared.step_counts.StepCounts.{StepCounts}
 use Rattle.pp_numbers.specs.PpNo.{each_processor}

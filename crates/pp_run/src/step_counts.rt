@@ -2,7 +2,7 @@
 
 ghost use Rattle.std.specs.Prelude.{◌≡◌, ◌+◌, ◌<◌, ◌^◌, ◌++◌, ◌∷◌, [], List, length, IfErr, IfOk};
 ghost use Rattle.pp_machine.specs.Run.{IsCutAtEvent, IsRunOf};
-ghost use Rattle.pp_machine.specs.declared.outcome.Outcome.{Outcome};
+ghost use Rattle.pp_processor.specs.declared.outcome.Outcome.{Outcome};
 ghost use Rattle.pp_run.specs.RunSteps.{run_steps};
 ghost use Rattle.pp_run.specs.StepCounts.{counts_of, each_step_counts};
 

@@ -22,10 +22,10 @@ use Rattle.pp_line.specs.LineView.{look_by, reads, writes}
 use Rattle.pp_line.specs.Order.{entries_among, extended, on_channels, write_number, writes_among}
 use Rattle.pp_line.specs.SharedWords.{IsFound}
 use Rattle.pp_runner.specs.Types.{Access, Answer, ChanOp, Did, Entry, Event, Flags, FoundWord, Need, Numbered, Reply, Saw, Seen}
-use Rattle.pp_machine.specs.NeedAndEffect.{need, processor_after}
-use Rattle.pp_machine.specs.Processor.{Processor}
-use Rattle.pp_machine.specs.Replay.{OfChannel, contribution, fits, given_count, replayed}
-use Rattle.pp_machine.proofs.ReplayLemmas.{Gives, Gives-counted}
+use Rattle.pp_processor.specs.NeedAndEffect.{need, processor_after}
+use Rattle.pp_processor.specs.Processor.{Processor}
+use Rattle.pp_processor.specs.Replay.{OfChannel, contribution, fits, given_count, replayed}
+use Rattle.pp_processor.proofs.ReplayLemmas.{Gives, Gives-counted}
 use Rattle.pp_runner.specs.Accesses.{accesses_by, AreAccessesOf}
 use Rattle.pp_runner.specs.Labour.{HasMade, HasLooked, IsAnswered}
 use Rattle.pp_runner.specs.WorkerReport.{IsBySize}

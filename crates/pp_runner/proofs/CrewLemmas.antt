@@ -11,9 +11,9 @@ use Rattle.pp_line.specs.LineView.{parent_view}
 use Rattle.pp_line.specs.LineLog.{IsMonotone, seen_on}
 use Rattle.pp_runner.specs.Types.{End, Ended, Entry}
 use Rattle.pp_machine.specs.MachineState.{MachineState, processor_of}
-use Rattle.pp_machine.specs.Processor.{Processor}
+use Rattle.pp_processor.specs.Processor.{Processor}
 use Rattle.pp_numbers.specs.PpNo.{processor_count, processor_index}
-use Rattle.pp_machine.specs.Replay.{looks_and_events}
+use Rattle.pp_processor.specs.Replay.{looks_and_events}
 use Rattle.pp_runner.proofs.LabourLemmas.{work_begun}
 use Rattle.pp_runner.proofs.LogLemmas.{stands_done}
 use Rattle.pp_runner.proofs.LineLemmas.{operated_least, same_line_still, same_line_twice}

@@ -2,8 +2,8 @@
 use Rattle.pp_runner.specs.Types.{Answer, End, Entry, PpState}
 use Rattle.std.proofs.Common.{◌≡◌, ℕ, ◌<◌, ◌≤◌, List, [], Option, None, Some, length, arith}
 use Rattle.std.specs.Prelude.{IfNone, IfSome, unwrap_or}
-use Rattle.pp_machine.specs.NeedAndEffect.{need}
-use Rattle.pp_machine.specs.Processor.{Processor}
+use Rattle.pp_processor.specs.NeedAndEffect.{need}
+use Rattle.pp_processor.specs.Processor.{Processor}
 use Rattle.pp_runner.specs.End.{HasEndNumber, IsEnd, NeedsChannel, NeedsWornChannel, WornWithCause, WasHeld}
 
 -- the end of a worker whose processor is running

@@ -10,10 +10,10 @@ use Rattle.pp_numbers.proofs.LastElements.{last_or-push}
 use Rattle.pp_line.specs.LineLog.{LogState, empty_log, appended, looked, with_seen, is_look_at, IsMonotone}
 use Rattle.pp_channel.specs.Answer.{event_answered, flags_shown, seen_answered}
 use Rattle.pp_runner.specs.Types.{Answer, ChanOp, Did, Entry, Event, Flags, LineView, Moved, Need, Reply, Saw, Seen}
-use Rattle.pp_machine.proofs.ReplayLemmas.{acts_where_held, replayed-push, given_count-push, collected_along-push}
-use Rattle.pp_machine.specs.NeedAndEffect.{need, processor_after, outcome, IsHeldAnswer}
-use Rattle.pp_machine.specs.Processor.{Processor}
-use Rattle.pp_machine.specs.Replay.{OfChannel, fits, replayed, given_count, collected_along, events_given, looks_and_events, contribution}
+use Rattle.pp_processor.proofs.ReplayLemmas.{acts_where_held, replayed-push, given_count-push, collected_along-push}
+use Rattle.pp_processor.specs.NeedAndEffect.{need, processor_after, outcome, IsHeldAnswer}
+use Rattle.pp_processor.specs.Processor.{Processor}
+use Rattle.pp_processor.specs.Replay.{OfChannel, fits, replayed, given_count, collected_along, events_given, looks_and_events, contribution}
 use Rattle.pp_runner.proofs.LogLemmas.{looked_at, BeginsWith, begins_with, events_done, events_in-push, sights_in-push, stands_done}
 use Rattle.pp_runner.proofs.ReplyLemmas.{sight_of, reply_to_channel}
 use Rattle.pp_runner.specs.WorkerReport.{OfEachAnswer, IsBySize, event_in, events_in, sights_in}

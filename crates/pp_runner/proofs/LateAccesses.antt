@@ -12,7 +12,7 @@ use Rattle.pp_channel.specs.Law.{IsPrefix}
 use Rattle.pp_line.specs.LineState.{LineState}
 use Rattle.pp_line.specs.Order.{entries_among, writes_among, words_after, times, AreMade, FindsWords, ExtendsEach, IsDrawnFrom}
 use Rattle.pp_runner.specs.Types.{Access, Entry, Event, OnChannel, Read, Worker, Write}
-use Rattle.pp_machine.specs.Processor.{Processor}
+use Rattle.pp_processor.specs.Processor.{Processor}
 use Rattle.pp_runner.specs.Accesses.{HasAccessed}
 use Rattle.pp_runner.specs.Labour.{HasMade, NoneOlder}
 

@@ -17,8 +17,8 @@ use Rattle.pp_channel.specs.Answer.{flags_shown}
 use Rattle.pp_line.specs.LineState.{LineState, IsActed, IsAnsweredBy, IsWornOut, number_after}
 use Rattle.pp_channel.specs.History.{history_on}
 use Rattle.pp_runner.specs.Types.{ChanOp, Did, Entry, Event, FoundWord, Numbered, Reply, Saw, Seen}
-use Rattle.pp_machine.specs.NeedAndEffect.{need}
-use Rattle.pp_machine.specs.Processor.{Processor}
+use Rattle.pp_processor.specs.NeedAndEffect.{need}
+use Rattle.pp_processor.specs.Processor.{Processor}
 use Rattle.pp_runner.proofs.ReplyLemmas.{line_reply_fits, sight_of}
 use Rattle.pp_line.proofs.OrderLemmas.{length-extended}
 use Rattle.pp_runner.specs.Labour.{AreFoundByOne, NoneOlder, IsSameLine, HasOperated, operations}

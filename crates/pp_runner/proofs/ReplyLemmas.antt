@@ -8,8 +8,8 @@ use Rattle.pp_channel.specs.Answer.{IsAnswer, seen_answered, flags_of}
 use Rattle.pp_line.specs.LineLog.{LogState, with_seen, IsMonotone}
 use Rattle.pp_line.specs.LineState.{LineState, IsActed, IsAnsweredBy, IsLost}
 use Rattle.pp_channel.specs.History.{history_on}
-use Rattle.pp_machine.proofs.ReplayLemmas.{held_fits, made_fits, shown_fits, tells_where_fits}
-use Rattle.pp_machine.specs.Replay.{OfChannel, fits, reply_fits, contribution}
+use Rattle.pp_processor.proofs.ReplayLemmas.{held_fits, made_fits, shown_fits, tells_where_fits}
+use Rattle.pp_processor.specs.Replay.{OfChannel, fits, reply_fits, contribution}
 use Rattle.pp_runner.proofs.AccessLemmas.{all_made, channel_accessed, no_writes}
 use Rattle.pp_runner.specs.Labour.{IsAnswered, IsNoted}
 

@@ -11,7 +11,7 @@ use Rattle.pp_channel.specs.Law.{IsPrefix}
 use Rattle.pp_line.specs.Order.{ExtendsEach, IsDrawnFrom, writes_among}
 use Rattle.pp_runner.specs.Types.{Access, Ended, Entry, Event, Worker}
 use Rattle.pp_line.specs.LineLog.{seen_on}
-use Rattle.pp_machine.specs.Processor.{Processor}
+use Rattle.pp_processor.specs.Processor.{Processor}
 use Rattle.pp_runner.proofs.CrewLemmas.{same_seen}
 use Rattle.pp_runner.proofs.EndLemmas.{worn_later}
 use Rattle.pp_runner.proofs.LateAccesses.{is_late, late_accessed}

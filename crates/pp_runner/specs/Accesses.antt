@@ -4,8 +4,8 @@ use Rattle.pp_numbers.specs.Subsequence.{IsSubsequence}
 use Rattle.pp_channel.specs.Answer.{seen_answered}
 use Rattle.pp_line.specs.Order.{entries_among}
 use Rattle.pp_runner.specs.Types.{Access, Answer, Need, Worker}
-use Rattle.pp_machine.specs.NeedAndEffect.{need, processor_after}
-use Rattle.pp_machine.specs.Processor.{Processor}
+use Rattle.pp_processor.specs.NeedAndEffect.{need, processor_after}
+use Rattle.pp_processor.specs.Processor.{Processor}
 
 -- What an answer to a need accessed, if its event, look or write has this number.
 abbrev pub accesses_by : ℕ → Need → Answer → List Access

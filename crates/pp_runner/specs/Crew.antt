@@ -8,7 +8,7 @@ use Rattle.pp_runner.specs.Types.{Ended, Entry, Worker}
 use Rattle.pp_runner.specs.declared.crew.Begun.{Begun}
 use Rattle.pp_machine.specs.Headline.{opening_history}
 use Rattle.pp_machine.specs.MachineState.{MachineState}
-use Rattle.pp_machine.specs.Processor.{Processor}
+use Rattle.pp_processor.specs.Processor.{Processor}
 use Rattle.pp_numbers.specs.PpNo.{processor_count}
 use Rattle.pp_runner.specs.Labour.{HasMade, HasSeen, IsSameLine}
 use Rattle.pp_runner.specs.End.{WornWithCause}

@@ -5,9 +5,9 @@ use Rattle.pp_channel.specs.Answer.{only_looks}
 use Rattle.pp_line.specs.ChannelWord.{greatest_number}
 use Rattle.pp_line.specs.LineLog.{is_look_at}
 use Rattle.pp_runner.specs.Types.{Answer, ChanOp, End, Entry, Need}
-use Rattle.pp_machine.specs.NeedAndEffect.{need}
-use Rattle.pp_machine.specs.Processor.{Processor, IsFaultNumber}
-use Rattle.pp_machine.specs.declared.pp_state.PpState.TheVariants as states
+use Rattle.pp_processor.specs.NeedAndEffect.{need}
+use Rattle.pp_processor.specs.Processor.{Processor, IsFaultNumber}
+use Rattle.pp_processor.specs.declared.pp_state.PpState.TheVariants as states
 use Rattle.pp_runner.specs.declared.end.End.TheVariants.{Stopped, Fault, Steps, Patience, Memory, Worn}
 
 -- The processor is running, and has made fewer steps than the limit.

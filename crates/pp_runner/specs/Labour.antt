@@ -7,8 +7,8 @@ use Rattle.pp_line.specs.LineState.{LineState, IsActed}
 use Rattle.pp_line.specs.LineView.{reads, writes}
 use Rattle.pp_line.specs.Order.{entries_among, extended, writes_among}
 use Rattle.pp_runner.specs.Types.{Access, Answer, Entry, FoundWord, LineView, Need, Numbered, Seen}
-use Rattle.pp_machine.specs.Processor.{Processor}
-use Rattle.pp_machine.specs.Replay.{OfChannel, fits, contribution, replayed, given_count, events_given, looks_and_events}
+use Rattle.pp_processor.specs.Processor.{Processor}
+use Rattle.pp_processor.specs.Replay.{OfChannel, fits, contribution, replayed, given_count, events_given, looks_and_events}
 use Rattle.pp_runner.specs.Accesses.{accesses_by, AreAccessesOf}
 use Rattle.pp_runner.specs.WorkerReport.{AllMoved, AllBySize, IsBySize, events_in, sights_in}
 use Rattle.pp_numbers.specs.Subsequence.{IsSubsequence}

@@ -4,9 +4,9 @@ use Rattle.std.specs.List.{AllZip, flat_map}
 use Rattle.pp_numbers.specs.Subsequence.{IsSubsequence}
 use Rattle.pp_line.specs.LineLog.{IsMonotone}
 use Rattle.pp_runner.specs.Types.{Answer, Entry, Event, Moved, Need, Seen, Worker}
-use Rattle.pp_machine.specs.Processor.{Processor}
-use Rattle.pp_machine.specs.Replay.{replayed, given_count, events_given, looks_and_events, OfChannel}
-use Rattle.pp_machine.specs.NeedAndEffect.{need, outcome}
+use Rattle.pp_processor.specs.Processor.{Processor}
+use Rattle.pp_processor.specs.Replay.{replayed, given_count, events_given, looks_and_events, OfChannel}
+use Rattle.pp_processor.specs.NeedAndEffect.{need, outcome}
 use Rattle.pp_runner.specs.End.{IsEnd}
 
 -- a statement holds of each answer and of the processor that the answers before it leave

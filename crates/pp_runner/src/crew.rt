@@ -4,7 +4,7 @@ ghost use Rattle.std.specs.Prelude.{◌≡◌, ◌+◌, ◌*◌, ◌++◌, ◌�
 ghost use Rattle.std.specs.List.{AllZip};
 ghost use denote.Param.Send.{IsSync, IsSend, Frees};
 ghost use Rattle.pp_line.specs.LineState.{IsSplitFrom};
-ghost use Rattle.pp_machine.specs.Processor.{Processor};
+ghost use Rattle.pp_processor.specs.Processor.{Processor};
 ghost use Rattle.pp_runner.specs.Crew.{IsEnded, HasEnded, AreReady, HasBegun};
 ghost use Rattle.pp_runner.specs.Labour.{IsUnused};
 

@@ -3,7 +3,7 @@
 ghost use Rattle.std.specs.Prelude.{◌≡◌, ◌<◌, ◌≤◌, ◌+◌, ◌-◌, ◌*◌, ◌^◌, ℕ, List, length, vec_len, vec_capacity, IfOk, IfSome, IfNone, OnErr};
 ghost use Rattle.pp_line.specs.LineLog.{seen_on};
 ghost use Rattle.pp_runner.specs.Types.{Answer, Entry};
-ghost use Rattle.pp_machine.specs.NeedAndEffect.{need};
+ghost use Rattle.pp_processor.specs.NeedAndEffect.{need};
 ghost use Rattle.pp_runner.specs.Crew.{IsEnded};
 ghost use Rattle.pp_runner.specs.Labour.{IsAtWork, IsUnused, IsAnswered, IsSameLine, HasActed, HasLooked, HasOperated, operations};
 ghost use Rattle.pp_runner.specs.End.{IsEnd, NeedsWornChannel, WornWithCause, WasHeld};

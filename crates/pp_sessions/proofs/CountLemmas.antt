@@ -2,8 +2,8 @@
 use Rattle.std.proofs.Common.{◌≡◌, ◌+◌, cond, List, [], ◌∷◌, length, refl, arith}
 use Rattle.std.specs.Prelude.{count_by}
 use Rattle.std.proofs.lemmas.List.Sums.{sum_by-cons}
-use Rattle.pp_machine.specs.declared.outcome.Outcome.{Outcome}
-use Rattle.pp_machine.specs.declared.outcome.Outcome.TheVariants.{Moved}
+use Rattle.pp_processor.specs.declared.outcome.Outcome.{Outcome}
+use Rattle.pp_processor.specs.declared.outcome.Outcome.TheVariants.{Moved}
 use Rattle.pp_run.specs.StepCounts.{is_at_rest, is_held, is_moved}
 
 -- each outcome is counted once

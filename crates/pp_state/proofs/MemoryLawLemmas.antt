@@ -11,8 +11,8 @@ use Rattle.std.proofs.lemmas.List.Folds.{list_any_at}
 use Rattle.std.proofs.lemmas.List.FromFn.{get_or-range_with_len, length-range_with_len}
 use Rattle.pp_word.specs.Address.{place_count}
 use Rattle.pp_machine.specs.Central.{IsCentral}
-use Rattle.pp_machine.specs.PpMemory.{IsMemory}
-use Rattle.pp_machine.specs.Processor.{Processor, word_at}
+use Rattle.pp_processor.specs.PpMemory.{IsMemory}
+use Rattle.pp_processor.specs.Processor.{Processor, word_at}
 use Rattle.pp_word.specs.Numeral.{digit, octal}
 use Rattle.pp_text.specs.PrintedText.{each_below}
 use Rattle.pp_state.specs.CentralText.{central_line, central_text, shown_word}

@@ -11,11 +11,11 @@ use Rattle.pp_channel.proofs.HistoryLemmas.{lawful_empty}
 use Rattle.pp_machine.specs.Headline.{HoldsOnEachChannel}
 use Rattle.pp_machine.specs.MachineState.{MachineState, history_of, processor_of}
 use Rattle.pp_machine.specs.MachineStep.{answer_to, step_outcome}
-use Rattle.pp_machine.specs.NeedAndEffect.{need, IsHeldAnswer}
-use Rattle.pp_machine.specs.declared.{block.Block.Block, need.Need.Need, outcome.Outcome.Outcome}
-use Rattle.pp_machine.specs.declared.need.Need.TheVariants as needs
-use Rattle.pp_machine.specs.declared.outcome.Outcome.TheVariants.{Held, Moved}
-use Rattle.pp_machine.proofs.StepLemmas.{held_by_answer}
+use Rattle.pp_processor.specs.NeedAndEffect.{need, IsHeldAnswer}
+use Rattle.pp_processor.specs.declared.{block.Block.Block, need.Need.Need, outcome.Outcome.Outcome}
+use Rattle.pp_processor.specs.declared.need.Need.TheVariants as needs
+use Rattle.pp_processor.specs.declared.outcome.Outcome.TheVariants.{Held, Moved}
+use Rattle.pp_processor.proofs.StepLemmas.{held_by_answer}
 use Rattle.pp_state.specs.StateLaw.{IsHeld, IsHeldBy}
 use Rattle.pp_text.specs.Standing.{held_text}
 use Rattle.pp_text.proofs.HeldLemmas.{goes_on, held_where_none, moves_where_looked, moves_where_made}

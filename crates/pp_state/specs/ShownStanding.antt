@@ -8,11 +8,11 @@ use Rattle.pp_channel.specs.History.{history_on}
 use Rattle.pp_channel.specs.declared.flags.Flags.{Flags}
 use Rattle.pp_machine.specs.MachineState.{MachineState, history_of, processor_of}
 use Rattle.pp_machine.specs.MachineStep.{step_outcome}
-use Rattle.pp_machine.specs.NeedAndEffect.{need}
-use Rattle.pp_machine.specs.Processor.{HasFaultNumber}
-use Rattle.pp_machine.specs.declared.{need.Need.Need, outcome.Outcome.Outcome, pp_state.PpState.PpState}
-use Rattle.pp_machine.specs.declared.need.Need.TheVariants.{Channel}
-use Rattle.pp_machine.specs.declared.outcome.Outcome.TheVariants.{Held}
+use Rattle.pp_processor.specs.NeedAndEffect.{need}
+use Rattle.pp_processor.specs.Processor.{HasFaultNumber}
+use Rattle.pp_processor.specs.declared.{need.Need.Need, outcome.Outcome.Outcome, pp_state.PpState.PpState}
+use Rattle.pp_processor.specs.declared.need.Need.TheVariants.{Channel}
+use Rattle.pp_processor.specs.declared.outcome.Outcome.TheVariants.{Held}
 use Rattle.pp_run.specs.StepCounts.{no_steps}
 use Rattle.pp_run.specs.declared.step_counts.StepCounts.{StepCounts}
 use Rattle.pp_deck.specs.DeckLine.{Line, central_words, section, words}

@@ -5,9 +5,9 @@ use Rattle.pp_channel.specs.Answer.{IsReady, only_looks}
 use Rattle.pp_channel.specs.History.{active}
 use Rattle.pp_channel.specs.declared.{chan_op.ChanOp.ChanOp, event.Event.Event}
 use Rattle.pp_machine.specs.MachineState.{MachineState, history_of, processor_of}
-use Rattle.pp_machine.specs.NeedAndEffect.{need}
+use Rattle.pp_processor.specs.NeedAndEffect.{need}
 use Rattle.pp_numbers.specs.PpNo.{names_processor}
-use Rattle.pp_machine.specs.declared.need.Need.TheVariants.{Channel}
+use Rattle.pp_processor.specs.declared.need.Need.TheVariants.{Channel}
 use Rattle.pp_deck.specs.DeckLine.{Line, central_words, words}
 
 -- the next step of processor n needs an operation that does more than look, and channel c is not

@@ -3,7 +3,7 @@
 ghost use Rattle.std.specs.Prelude.{◌≡◌, ◌+◌, ◌*◌, ◌<◌, ◌≤◌, ◌++◌, codes};
 ghost use Rattle.pp_word.specs.Address.{place_count};
 ghost use Rattle.pp_word.specs.Numeral.{octal};
-ghost use Rattle.pp_machine.specs.Processor.{word_at};
+ghost use Rattle.pp_processor.specs.Processor.{word_at};
 ghost use Rattle.pp_text.specs.TextWriter.{Prints};
 ghost use Rattle.pp_text.specs.Written.{IsWritten};
 ghost use Rattle.pp_state.specs.MemoryText.{displayed_words, has_words, memory_text, octal_words, shown_line};

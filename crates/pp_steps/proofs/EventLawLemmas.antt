@@ -10,11 +10,12 @@ use Rattle.pp_channel.specs.Answer.{event_of}
 use Rattle.pp_channel.specs.declared.{chan_op.ChanOp.ChanOp, event.Event.Event}
 use Rattle.pp_machine.specs.MachineState.{MachineState, history_of, processor_of}
 use Rattle.pp_machine.specs.MachineStep.{answer_to, step_outcome, stepped, trace_after}
-use Rattle.pp_machine.specs.NeedAndEffect.{need}
+use Rattle.pp_processor.specs.NeedAndEffect.{need}
 use Rattle.pp_machine.specs.Run.{run}
-use Rattle.pp_machine.specs.declared.{answer.Answer.Answer, need.Need.Need, outcome.Outcome.Outcome, trace.Trace.Trace}
-use Rattle.pp_machine.specs.declared.need.Need.TheVariants.{Channel}
-use Rattle.pp_machine.specs.declared.outcome.Outcome.TheVariants as outcomes
+use Rattle.pp_processor.specs.declared.{answer.Answer.Answer, need.Need.Need, outcome.Outcome.Outcome}
+use Rattle.pp_machine.specs.declared.{trace.Trace.Trace}
+use Rattle.pp_processor.specs.declared.need.Need.TheVariants.{Channel}
+use Rattle.pp_processor.specs.declared.outcome.Outcome.TheVariants as outcomes
 use Rattle.pp_run.specs.RunSteps.{RunStep, run_steps}
 use Rattle.pp_text.proofs.HeldLemmas.{moves_where_made}
 use Rattle.pp_run.specs.BareMachine.{progress, progress_by}

@@ -11,8 +11,8 @@ use Rattle.pp_word.specs.Address.{place_count}
 use Rattle.pp_numbers.proofs.GrowingLists.{range_append}
 use Rattle.pp_machine.specs.MachineState.{MachineState}
 use Rattle.pp_machine.specs.MachineStep.{central_after}
-use Rattle.pp_machine.specs.declared.need.Need.{Need}
-use Rattle.pp_machine.specs.declared.need.Need.TheVariants.{Write}
+use Rattle.pp_processor.specs.declared.need.Need.{Need}
+use Rattle.pp_processor.specs.declared.need.Need.TheVariants.{Write}
 use Rattle.pp_word.specs.Numeral.{octal}
 use Rattle.pp_text.specs.Differences.{places}
 use Rattle.pp_steps.specs.StepLine.{central_text, centrals_text, place_text, places_text}

@@ -10,11 +10,11 @@ use Rattle.pp_channel.specs.declared.{flags.Flags.Flags}
 use Rattle.pp_word.specs.Numeral.{octal}
 use Rattle.pp_machine.specs.MachineState.{MachineState, processor_of}
 use Rattle.pp_machine.specs.MachineStep.{stepped}
-use Rattle.pp_machine.specs.Processor.{HasFaultNumber}
-use Rattle.pp_machine.specs.declared.{block.Block.Block, need.Need.Need, pp_state.PpState.PpState}
-use Rattle.pp_machine.specs.declared.need.Need.TheVariants.{Channel}
-use Rattle.pp_machine.specs.declared.outcome.Outcome.TheVariants.{Held}
-use Rattle.pp_machine.specs.declared.pp_state.PpState.TheVariants.{Running}
+use Rattle.pp_processor.specs.Processor.{HasFaultNumber}
+use Rattle.pp_processor.specs.declared.{block.Block.Block, need.Need.Need, pp_state.PpState.PpState}
+use Rattle.pp_processor.specs.declared.need.Need.TheVariants.{Channel}
+use Rattle.pp_processor.specs.declared.outcome.Outcome.TheVariants.{Held}
+use Rattle.pp_processor.specs.declared.pp_state.PpState.TheVariants.{Running}
 use Rattle.pp_text.specs.Differences.{differs, places}
 use Rattle.pp_text.specs.PrintedText.{event_text, line_end, padded}
 use Rattle.pp_text.specs.Standing.{flags_text, held_text}

@@ -8,18 +8,18 @@ use Rattle.pp_word.specs.declared.opcode.Opcode.{Opcode}
 use Rattle.pp_word.specs.declared.opcode.Opcode.TheVariants.{RJM, UJN, ZJN, NJN, PJN, MJN, STD, RAD, AOD, SOD, STI, RAI, AOI, SOI, STM, RAM, AOM, SOM, CRD, CRM, CWM, AJM, IJM, FJM, EJM, IAN, IAM, OAM}
 use Rattle.pp_channel.specs.declared.flags.Flags.{Flags}
 use Rattle.pp_channel.specs.declared.reply.Reply.TheVariants as replies
-use Rattle.pp_machine.specs.Block.{block_word, cut_short, held, stored_from}
-use Rattle.pp_machine.specs.Effect.{branches_where, faults, goes_to, is_negative, jumps_where, leads_to_itself}
-use Rattle.pp_machine.specs.InstructionTable.{row, works_on_channel}
-use Rattle.pp_machine.specs.NeedAndEffect.{answered, next_step, processor_after, step_of, if_running}
-use Rattle.pp_machine.specs.Operand.{lower_six, operation}
-use Rattle.pp_machine.specs.Processor.{Processor, word_at}
+use Rattle.pp_processor.specs.Block.{block_word, cut_short, held, stored_from}
+use Rattle.pp_processor.specs.Effect.{branches_where, faults, goes_to, is_negative, jumps_where, leads_to_itself}
+use Rattle.pp_processor.specs.InstructionTable.{row, works_on_channel}
+use Rattle.pp_processor.specs.NeedAndEffect.{answered, next_step, processor_after, step_of, if_running}
+use Rattle.pp_processor.specs.Operand.{lower_six, operation}
+use Rattle.pp_processor.specs.Processor.{Processor, word_at}
 use Rattle.pp_numbers.specs.Profile.{has_channel}
-use Rattle.pp_machine.specs.Step.{Step, local, probes, takes, does, reads, writes}
-use Rattle.pp_machine.specs.declared.{answer.Answer.Answer, block.Block.Block, block.BlockKind.BlockKind, pp_state.PpState.PpState}
-use Rattle.pp_machine.specs.declared.answer.Answer.TheVariants as answers
-use Rattle.pp_machine.specs.declared.block.BlockKind.TheVariants.{CentralIn, CentralOut, Input, Output}
-use Rattle.pp_machine.specs.declared.pp_state.PpState.TheVariants.{Running}
+use Rattle.pp_processor.specs.Step.{Step, local, probes, takes, does, reads, writes}
+use Rattle.pp_processor.specs.declared.{answer.Answer.Answer, block.Block.Block, block.BlockKind.BlockKind, pp_state.PpState.PpState}
+use Rattle.pp_processor.specs.declared.answer.Answer.TheVariants as answers
+use Rattle.pp_processor.specs.declared.block.BlockKind.TheVariants.{CentralIn, CentralOut, Input, Output}
+use Rattle.pp_processor.specs.declared.pp_state.PpState.TheVariants.{Running}
 use Rattle.pp_steps.specs.Stores.{IsApart, KeepsOthers, first_of, first_stored}
 
 -- the word at a place is as before

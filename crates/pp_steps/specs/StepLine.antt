@@ -5,12 +5,12 @@ use Rattle.pp_word.specs.Address.{next_place}
 use Rattle.pp_channel.specs.Answer.{event_of, flags_of}
 use Rattle.pp_channel.specs.declared.{event.Event.Event, flags.Flags.Flags}
 use Rattle.pp_machine.specs.MachineState.{MachineState, history_of, processor_of}
-use Rattle.pp_machine.specs.NeedAndEffect.{need}
-use Rattle.pp_machine.specs.Processor.{Processor, word_at}
-use Rattle.pp_machine.specs.declared.{block.Block.Block, need.Need.Need, pp_state.PpState.PpState}
-use Rattle.pp_machine.specs.declared.need.Need.TheVariants.{Channel}
-use Rattle.pp_machine.specs.declared.outcome.Outcome.TheVariants.{Held}
-use Rattle.pp_machine.specs.declared.pp_state.PpState.TheVariants.{Running}
+use Rattle.pp_processor.specs.NeedAndEffect.{need}
+use Rattle.pp_processor.specs.Processor.{Processor, word_at}
+use Rattle.pp_processor.specs.declared.{block.Block.Block, need.Need.Need, pp_state.PpState.PpState}
+use Rattle.pp_processor.specs.declared.need.Need.TheVariants.{Channel}
+use Rattle.pp_processor.specs.declared.outcome.Outcome.TheVariants.{Held}
+use Rattle.pp_processor.specs.declared.pp_state.PpState.TheVariants.{Running}
 use Rattle.pp_text.specs.InstructionText.{is_long, running_instruction}
 use Rattle.pp_text.specs.PrintedText.{padded, event_text, line_end, state_text}
 use Rattle.pp_word.specs.Numeral.{decimal, octal}

@@ -3,9 +3,10 @@ use Rattle.std.specs.Prelude.{ℕ, Bool, true, false, ◌&&◌, List, [], ◌∷
 use Rattle.std.specs.Option.{option_to_list}
 use Rattle.pp_channel.specs.Answer.{event_of}
 use Rattle.pp_machine.specs.MachineState.{MachineState, history_of, processor_of}
-use Rattle.pp_machine.specs.NeedAndEffect.{need}
-use Rattle.pp_machine.specs.declared.{need.Need.Need, trace.Trace.Trace}
-use Rattle.pp_machine.specs.declared.need.Need.TheVariants.{Channel}
+use Rattle.pp_processor.specs.NeedAndEffect.{need}
+use Rattle.pp_processor.specs.declared.{need.Need.Need}
+use Rattle.pp_machine.specs.declared.{trace.Trace.Trace}
+use Rattle.pp_processor.specs.declared.need.Need.TheVariants.{Channel}
 use Rattle.pp_run.specs.RunSteps.{is_of}
 use Rattle.pp_steps.specs.Choice.{chooses_channel, chooses_turn}
 use Rattle.pp_steps.specs.HeldRuns.{progress_of}

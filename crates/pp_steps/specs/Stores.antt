@@ -4,10 +4,10 @@ use Rattle.std.specs.Prelude.{◌≡◌, ◌≢◌, ℕ, ◌+◌, ◌<◌, ◌%�
 use Rattle.pp_word.specs.Address.{place_count}
 use Rattle.pp_word.specs.declared.opcode.Opcode.{Opcode}
 use Rattle.pp_word.specs.declared.opcode.Opcode.TheVariants.{RJM, STD, RAD, AOD, SOD, STI, RAI, AOI, SOI, STM, RAM, AOM, SOM, CRD}
-use Rattle.pp_machine.specs.NeedAndEffect.{processor_after}
-use Rattle.pp_machine.specs.Operand.{index, lower_six, operation}
-use Rattle.pp_machine.specs.Processor.{Processor, word_at}
-use Rattle.pp_machine.specs.declared.{answer.Answer.Answer, block.Block.Block}
+use Rattle.pp_processor.specs.NeedAndEffect.{processor_after}
+use Rattle.pp_processor.specs.Operand.{index, lower_six, operation}
+use Rattle.pp_processor.specs.Processor.{Processor, word_at}
+use Rattle.pp_processor.specs.declared.{answer.Answer.Answer, block.Block.Block}
 
 -- the first place that an instruction stores to: of a return address, an operand, or the parts of a
 -- central word; else 0000, where the start of a block stores a word, and the others store nothing

@@ -1,6 +1,6 @@
 ghost use Rattle.std.specs.Prelude.{◌≡◌};
 ghost use Rattle.pp_machine.specs.MachineState.{MachineState};
-ghost use Rattle.pp_machine.specs.NeedAndEffect.{need};
+ghost use Rattle.pp_processor.specs.NeedAndEffect.{need};
 ghost use Rattle.pp_run.specs.BareMachine.{StandsFor};
 ghost use Rattle.pp_steps.specs.Choice.{chooses_need, is_chosen};
 

@@ -1,7 +1,7 @@
 //! The places that a step may store to.
 
 ghost use Rattle.std.specs.Prelude.{◌≡◌};
-ghost use Rattle.pp_machine.specs.Operand.{index};
+ghost use Rattle.pp_processor.specs.Operand.{index};
 ghost use Rattle.pp_steps.specs.Stores.{KeepsOthers, first_stored};
 
 use pp_machine::Pp;

@@ -6,7 +6,7 @@ use Rattle.pp_word.specs.Numeral.{octal, short_octal}
 use Rattle.pp_numbers.specs.ChannelNo.{all_channels}
 use Rattle.pp_numbers.specs.PpNo.{all_processors, is_named}
 use Rattle.pp_machine.specs.MachineState.{MachineState, processor_of}
-use Rattle.pp_machine.specs.Processor.{Processor, word_at}
+use Rattle.pp_processor.specs.Processor.{Processor, word_at}
 use Rattle.pp_machine.specs.Run.{run, run_order}
 use Rattle.pp_machine.specs.declared.trace.Trace.{Trace}
 use Rattle.pp_run.specs.RunSteps.{run_steps}

@@ -10,7 +10,7 @@ use Rattle.pp_numbers.proofs.PpNoLemmas.{numbers_of_processors, processor_fits}
 use Rattle.pp_channel.specs.History.{HasTwelveBitWord, active, waiting, last_stretch, history_on}
 use Rattle.pp_channel.specs.Session.{puts, takes}
 use Rattle.pp_channel.specs.declared.{event.Event.Event, flags.Flags.Flags}
-use Rattle.pp_machine.specs.Processor.{HasFaultNumber}
+use Rattle.pp_processor.specs.Processor.{HasFaultNumber}
 use Rattle.pp_word.specs.Numeral.{unpadded}
 use Rattle.pp_channel.specs.ChannelText.{channel_text}
 use Rattle.pp_text.specs.PrintedText.{channel_line, event_text, line_end, state_text, used_channel_line}

@@ -9,14 +9,14 @@ use Rattle.pp_channel.specs.declared.reply.Reply.TheVariants as replies
 use Rattle.pp_channel.proofs.AnswerLemmas.{held_at, look_makes_none, look_not_held}
 use Rattle.pp_machine.specs.MachineState.{MachineState, history_of, processor_of}
 use Rattle.pp_machine.specs.MachineStep.{answer_to, step_outcome}
-use Rattle.pp_machine.specs.NeedAndEffect.{is_held, need, outcome, if_running, next_step}
-use Rattle.pp_machine.specs.Processor.{Processor}
-use Rattle.pp_machine.specs.Step.{need_of}
-use Rattle.pp_machine.specs.declared.{answer.Answer.Answer, block.Block.Block, outcome.Outcome.Outcome, pp_state.PpState.PpState}
-use Rattle.pp_machine.specs.declared.answer.Answer.TheVariants as answers
-use Rattle.pp_machine.specs.declared.need.Need.TheVariants as needs
-use Rattle.pp_machine.specs.declared.outcome.Outcome.TheVariants.{Held, Moved, AtRest}
-use Rattle.pp_machine.specs.declared.pp_state.PpState.TheVariants.{Running, Stopped, Fault}
+use Rattle.pp_processor.specs.NeedAndEffect.{is_held, need, outcome, if_running, next_step}
+use Rattle.pp_processor.specs.Processor.{Processor}
+use Rattle.pp_processor.specs.Step.{need_of}
+use Rattle.pp_processor.specs.declared.{answer.Answer.Answer, block.Block.Block, outcome.Outcome.Outcome, pp_state.PpState.PpState}
+use Rattle.pp_processor.specs.declared.answer.Answer.TheVariants as answers
+use Rattle.pp_processor.specs.declared.need.Need.TheVariants as needs
+use Rattle.pp_processor.specs.declared.outcome.Outcome.TheVariants.{Held, Moved, AtRest}
+use Rattle.pp_processor.specs.declared.pp_state.PpState.TheVariants.{Running, Stopped, Fault}
 
 -- a processor that needs a channel is running
 running : (state : PpState) (pp : Processor) (c : ℕ) (op : ChanOp) → if_running state (need_of (next_step pp)) needs.Nothing ≡ needs.Channel c op → state ≡ Running

@@ -9,8 +9,8 @@ use Rattle.std.proofs.Math.Seq.{get_or-append_seam, take-append_seam}
 use Rattle.std.proofs.lemmas.List.{append-nil, get_or-append_right, get_or-replicate, get_or_append_left, length-replicate}
 use Rattle.std.proofs.lemmas.List.Sums.{suffix_len_is}
 use Rattle.std.proofs.lemmas.Str.Ascii.{trim_ascii_end_is}
-use Rattle.pp_machine.specs.declared.{block.Block.Block, block.BlockKind.BlockKind}
-use Rattle.pp_machine.specs.declared.block.BlockKind.TheVariants.{CentralIn, CentralOut, Input, Output}
+use Rattle.pp_processor.specs.declared.{block.Block.Block, block.BlockKind.BlockKind}
+use Rattle.pp_processor.specs.declared.block.BlockKind.TheVariants.{CentralIn, CentralOut, Input, Output}
 use Rattle.pp_word.specs.Address.{relative_to}
 use Rattle.pp_word.specs.Numeral.{octal}
 use Rattle.pp_word.specs.Opcode.{opcode_at, row_of}

@@ -3,8 +3,9 @@ use Rattle.std.proofs.Common.{All, ◌≡◌, ◌∙◌, ℕ, ◌^◌, ◌<◌, 
 use Rattle.std.specs.Prelude.{◌==◌, IsTrue, get_or, if◌then◌else◌}
 use Rattle.pp_numbers.proofs.ChannelNoLemmas.{channel_fits}
 use Rattle.pp_machine.specs.MachineState.{MachineState, processor_of}
-use Rattle.pp_machine.specs.Processor.{HasFaultNumber}
-use Rattle.pp_machine.specs.declared.{pp_state.PpState.PpState, trace.Trace.Trace}
+use Rattle.pp_processor.specs.Processor.{HasFaultNumber}
+use Rattle.pp_processor.specs.declared.{pp_state.PpState.PpState}
+use Rattle.pp_machine.specs.declared.{trace.Trace.Trace}
 use Rattle.pp_numbers.specs.PpNo.{is_named}
 use Rattle.pp_numbers.proofs.PpNoLemmas.{processor_fits}
 use Rattle.pp_text.specs.PrintedText.{event_line, line_end, printed, processor_line, state_text}

@@ -3,9 +3,9 @@
 use Rattle.std.specs.Prelude.{ℕ, ◌/◌, ◌%◌, ◌^◌, ◌==◌, ◌&&◌, ◌||◌, nat_le, Bool, List, [], ◌++◌, Option, None, Some, codes, if◌then◌else◌}
 use Rattle.pp_word.specs.Address.{next_place, relative_to}
 use Rattle.pp_word.specs.Opcode.{opcode_at, row_of}
-use Rattle.pp_machine.specs.Processor.{Processor, word_at}
-use Rattle.pp_machine.specs.declared.{block.Block.Block, block.BlockKind.BlockKind}
-use Rattle.pp_machine.specs.declared.block.BlockKind.TheVariants.{CentralIn, CentralOut, Input, Output}
+use Rattle.pp_processor.specs.Processor.{Processor, word_at}
+use Rattle.pp_processor.specs.declared.{block.Block.Block, block.BlockKind.BlockKind}
+use Rattle.pp_processor.specs.declared.block.BlockKind.TheVariants.{CentralIn, CentralOut, Input, Output}
 use Rattle.pp_word.specs.Numeral.{octal}
 use Rattle.pp_text.specs.declared.operands.Operands.{Operands}
 use Rattle.pp_text.specs.declared.operands.Operands.TheVariants.{IndexedPlace, JumpPlace, Constant, PlaceAndNumber, Number}

@@ -6,9 +6,10 @@ use Rattle.pp_channel.specs.ChannelText.{channel_text}
 use Rattle.pp_channel.specs.History.{active, waiting, history_on}
 use Rattle.pp_channel.specs.declared.event.Event.{Event}
 use Rattle.pp_machine.specs.MachineState.{MachineState, processor_of}
-use Rattle.pp_machine.specs.Processor.{Processor}
+use Rattle.pp_processor.specs.Processor.{Processor}
 use Rattle.pp_numbers.specs.PpNo.{all_processors, is_named}
-use Rattle.pp_machine.specs.declared.{pp_state.PpState.PpState, trace.Trace.Trace}
+use Rattle.pp_processor.specs.declared.{pp_state.PpState.PpState}
+use Rattle.pp_machine.specs.declared.{trace.Trace.Trace}
 use Rattle.pp_word.specs.Numeral.{decimal, octal}
 
 abbrev pub line_end : List ℕ

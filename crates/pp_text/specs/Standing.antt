@@ -4,10 +4,10 @@ use Rattle.pp_channel.specs.Answer.{flags_of}
 use Rattle.pp_channel.specs.declared.flags.Flags.{Flags}
 use Rattle.pp_machine.specs.MachineState.{MachineState, history_of, processor_of}
 use Rattle.pp_machine.specs.MachineStep.{step_outcome}
-use Rattle.pp_machine.specs.NeedAndEffect.{need}
-use Rattle.pp_machine.specs.declared.{block.Block.Block, need.Need.Need, outcome.Outcome.Outcome}
-use Rattle.pp_machine.specs.declared.need.Need.TheVariants.{Channel}
-use Rattle.pp_machine.specs.declared.outcome.Outcome.TheVariants.{Held}
+use Rattle.pp_processor.specs.NeedAndEffect.{need}
+use Rattle.pp_processor.specs.declared.{block.Block.Block, need.Need.Need, outcome.Outcome.Outcome}
+use Rattle.pp_processor.specs.declared.need.Need.TheVariants.{Channel}
+use Rattle.pp_processor.specs.declared.outcome.Outcome.TheVariants.{Held}
 use Rattle.pp_text.specs.InstructionText.{running_instruction}
 use Rattle.pp_word.specs.Numeral.{octal, unpadded}
 use Rattle.pp_text.specs.PrintedText.{state_text}

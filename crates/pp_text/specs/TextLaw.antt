@@ -4,7 +4,7 @@ use Rattle.pp_numbers.specs.ChannelNo.{names_channel}
 use Rattle.pp_channel.specs.History.{HasTwelveBitWord, active, waiting, history_on}
 use Rattle.pp_channel.specs.declared.event.Event.{Event}
 use Rattle.pp_machine.specs.MachineState.{MachineState, processor_of}
-use Rattle.pp_machine.specs.Processor.{Processor, HasFaultNumber}
+use Rattle.pp_processor.specs.Processor.{Processor, HasFaultNumber}
 use Rattle.pp_numbers.specs.PpNo.{names_processor, is_named}
 use Rattle.pp_machine.specs.declared.trace.Trace.{Trace}
 

@@ -3,7 +3,7 @@
 ghost use Rattle.std.specs.Prelude.{◌≡◌, ◌↔◌, IsTrue};
 ghost use Rattle.pp_machine.specs.MachineState.{processor_of};
 ghost use Rattle.pp_machine.specs.MachineStep.{step_outcome};
-ghost use Rattle.pp_machine.specs.NeedAndEffect.{need};
+ghost use Rattle.pp_processor.specs.NeedAndEffect.{need};
 ghost use Rattle.pp_text.specs.Standing.{held_text, standing};
 ghost use Rattle.pp_text.specs.TextWriter.{Prints};
 

@@ -2,7 +2,7 @@ use Rattle.std.proofs.Common.{false, None, Some, refl, sym, ap, ◌∙◌}
 use Rattle.pp_channel.specs.declared.event.Event.{Event}
 use Rattle.pp_channel.specs.declared.channel_state.ChannelState.{ChannelState}
 use Rattle.pp_machine.specs.MachineState.{history_of}
-use Rattle.pp_machine.specs.NeedAndEffect.{need}
+use Rattle.pp_processor.specs.NeedAndEffect.{need}
 use Rattle.pp_condition.proofs.MeetingLemmas.{loses, loses_none, same_event}
 use Rattle.pp_condition.proofs.meeting.loses_a_word.Goals as goal
 

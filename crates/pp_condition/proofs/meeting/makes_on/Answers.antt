@@ -1,6 +1,6 @@
 use Rattle.std.proofs.Common.{sym, ap, ◌∙◌}
 use Rattle.pp_machine.specs.MachineState.{history_of}
-use Rattle.pp_machine.specs.NeedAndEffect.{need}
+use Rattle.pp_processor.specs.NeedAndEffect.{need}
 use Rattle.pp_condition.proofs.MeetingLemmas.{makes_one, makes_none}
 use Rattle.pp_condition.proofs.meeting.makes_on.Goals as goal
 

@@ -1,5 +1,5 @@
 use Rattle.std.proofs.Common.{◌≡◌, ℕ, ◌<◌}
-use Rattle.pp_machine.specs.Processor.{word_at}
+use Rattle.pp_processor.specs.Processor.{word_at}
 use Rattle.pp_ends.proofs.alike.memory_difference.Given as goal
 
 abbrev pub invariant-loop-number : goal.invariant-loop-number

@@ -1,7 +1,7 @@
 use Rattle.std.proofs.Common.{ap, ◌∙◌, subst}
 use Rattle.pp_machine.specs.MachineStep.{stepped}
-use Rattle.pp_machine.specs.PpMemory.{IsMemory}
-use Rattle.pp_machine.specs.Processor.{Processor}
+use Rattle.pp_processor.specs.PpMemory.{IsMemory}
+use Rattle.pp_processor.specs.Processor.{Processor}
 use Rattle.pp_run.proofs.StepFacts.{own_step}
 use Rattle.pp_ends.specs.Stand.{stand_of}
 use Rattle.pp_ends.proofs.QuietLemmas.{by_same}

@@ -1,7 +1,7 @@
 use Rattle.std.proofs.Common.{◌≡◌, ℕ, ◌-◌, ◌<◌, ◌≤◌, List, length}
 use Rattle.std.specs.List.{flat_map}
 use Rattle.pp_word.specs.Address.{place_count}
-use Rattle.pp_machine.specs.Processor.{word_at}
+use Rattle.pp_processor.specs.Processor.{word_at}
 use Rattle.pp_text.specs.TextWriter.{Prints}
 use Rattle.pp_listing.specs.ListedLine.{text_line}
 use Rattle.pp_listing.specs.Listing.{instruction_lines}

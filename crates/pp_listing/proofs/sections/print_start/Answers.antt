@@ -1,5 +1,5 @@
 use Rattle.std.proofs.Common.{rules, ◌∙◌, ◌≡◌}
-use Rattle.pp_machine.specs.declared.pp_state.PpState.TheVariants.{Running}
+use Rattle.pp_processor.specs.declared.pp_state.PpState.TheVariants.{Running}
 use Rattle.pp_text.proofs.PrintingLemmas.{prints_on, prints_then}
 use Rattle.pp_listing.proofs.TextLemmas.{start_pieces}
 use Rattle.pp_listing.proofs.sections.print_start.Goals as goal

@@ -1,6 +1,6 @@
 use Rattle.std.proofs.Common.{arith, ℕ, ◌≡◌, ◌+◌, ◌-◌, ◌<◌, length, ap, get_or, subst, ◌∙◌}
 use Rattle.std.proofs.lemmas.List.{length-set, get_or_read}
-use Rattle.pp_machine.specs.Processor.{Processor, no_processor, is_running, IsAtRest}
+use Rattle.pp_processor.specs.Processor.{Processor, no_processor, is_running, IsAtRest}
 use Rattle.pp_numbers.specs.PpNo.{processor_count}
 use Rattle.pp_machine.proofs.RoundLemmas.{PassesFrom, passes_from_running, passes_from_rest}
 use Rattle.pp_machine.proofs.barrel.next_running.Goals as goal

@@ -2,7 +2,7 @@ use Rattle.std.proofs.Common.{◌≡◌, arith, length, replicate, ap, ◌∙◌
 use Rattle.std.proofs.lemmas.List.{length-replicate}
 use Rattle.std.proofs.lemmas.Grind.{replicate_next}
 use Rattle.pp_numbers.specs.PpNo.{processor_count}
-use Rattle.pp_machine.specs.Processor.{new_processor}
+use Rattle.pp_processor.specs.Processor.{new_processor}
 use Rattle.pp_machine.proofs.machine.new_processors.Goals as goal
 
 pub loop-init : goal.loop-init

@@ -1,5 +1,5 @@
 use Rattle.std.proofs.Common.{◌≡◌, replicate, vec_capacity}
-use Rattle.pp_machine.specs.Processor.{new_processor}
+use Rattle.pp_processor.specs.Processor.{new_processor}
 use Rattle.pp_numbers.specs.PpNo.{processor_count}
 use Rattle.pp_machine.proofs.machine.new_processors.Given as goal
 

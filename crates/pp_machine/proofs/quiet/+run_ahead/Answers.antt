@@ -1,6 +1,6 @@
 use Rattle.std.proofs.Common.{◌≡◌, ◌<◌, ◌∙◌, ap, sym, subst, arith, get_or, slice_set, get_or-set_same, length}
 use Rattle.std.proofs.lemmas.List.{get_or_read, length-set}
-use Rattle.pp_machine.specs.Processor.{Processor, no_processor, is_running, IsAtRest}
+use Rattle.pp_processor.specs.Processor.{Processor, no_processor, is_running, IsAtRest}
 use Rattle.pp_machine.specs.Quiet.{IsAhead}
 use Rattle.pp_machine.proofs.QuietLemmas.{none_are_ahead, ahead_with_rest, ahead_together, ahead_again}
 use Rattle.pp_machine.proofs.quiet.+run_ahead.Goals as goal

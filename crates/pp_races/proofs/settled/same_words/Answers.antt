@@ -1,5 +1,5 @@
 use Rattle.std.proofs.Common.{◌≡◌, sym, ap, ◌∙◌, arith}
-use Rattle.pp_machine.specs.Processor.{word_at}
+use Rattle.pp_processor.specs.Processor.{word_at}
 use Rattle.pp_races.specs.Findings.{same_words}
 use Rattle.pp_races.proofs.SettledLemmas.{words_apart, words_more, words_none}
 use Rattle.pp_races.proofs.settled.same_words.Goals as goal

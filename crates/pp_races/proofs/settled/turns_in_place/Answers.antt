@@ -1,6 +1,6 @@
 use Rattle.std.proofs.Common.{◌≡◌, sym, ap, ◌∙◌}
-use Rattle.pp_machine.specs.NeedAndEffect.{processor_after}
-use Rattle.pp_machine.specs.declared.answer.Answer.{Answer}
+use Rattle.pp_processor.specs.NeedAndEffect.{processor_after}
+use Rattle.pp_processor.specs.declared.answer.Answer.{Answer}
 use Rattle.pp_races.proofs.SettledLemmas.{turned}
 use Rattle.pp_races.proofs.settled.turns_in_place.Goals as goal
 

@@ -1,7 +1,7 @@
 use Rattle.std.proofs.Common.{◌≡◌, ◌+◌, ◌∙◌, List, take, subst, sym, vec_len, arith}
 use Rattle.std.specs.Prelude.{IfOk}
 use Rattle.std.specs.List.{AllZip}
-use Rattle.pp_machine.specs.Processor.{Processor}
+use Rattle.pp_processor.specs.Processor.{Processor}
 use Rattle.pp_runner.proofs.CrewLemmas.{taken_of, ready_before, processors_push}
 use Rattle.pp_runner.specs.Crew.{HasEnded}
 use Rattle.pp_runner.proofs.crew.+run_lines.Goals as goal

@@ -6,7 +6,7 @@ use Rattle.pp_numbers.specs.PpNo.{all_processors, processor_count, processor_num
 use Rattle.pp_text.proofs.PrintingLemmas.{prints_nothing, prints_on, walk_zero, walk_more}
 use Rattle.pp_text.specs.TextWriter.{Prints}
 use Rattle.pp_machine.specs.MachineState.{processor_of}
-use Rattle.pp_machine.specs.Processor.{Processor}
+use Rattle.pp_processor.specs.Processor.{Processor}
 use Rattle.pp_deck.specs.DeckLine.{section as section_line}
 use Rattle.pp_listing.specs.ListedLine.{deck_line}
 use Rattle.pp_state.specs.Changes.{changed_lines, changed_section}

@@ -1,8 +1,8 @@
 use Rattle.std.proofs.Common.{◌≡◌, sym, ap, subst, ◌∙◌}
 use Rattle.pp_channel.specs.declared.channel_state.ChannelState.{ChannelState}
 use Rattle.pp_machine.specs.MachineState.{processor_of}
-use Rattle.pp_machine.specs.NeedAndEffect.{need}
-use Rattle.pp_machine.specs.declared.outcome.Outcome.TheVariants.{Held}
+use Rattle.pp_processor.specs.NeedAndEffect.{need}
+use Rattle.pp_processor.specs.declared.outcome.Outcome.TheVariants.{Held}
 use Rattle.pp_text.specs.Standing.{channel_held_text, held_text}
 use Rattle.pp_text.specs.TextWriter.{Prints}
 use Rattle.pp_text.proofs.PrintingLemmas.{◌▹◌, prints_nothing}

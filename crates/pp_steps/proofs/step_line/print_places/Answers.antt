@@ -1,6 +1,6 @@
 use Rattle.std.proofs.Common.{◌≡◌, ◌<◌, ℕ, arith, ap, ◌∙◌, sym, subst, slice_index}
 use Rattle.pp_word.specs.Address.{place_count}
-use Rattle.pp_machine.specs.Processor.{Processor}
+use Rattle.pp_processor.specs.Processor.{Processor}
 use Rattle.pp_text.proofs.PrintingLemmas.{prints_on}
 use Rattle.pp_text.specs.TextWriter.{Prints}
 use Rattle.pp_steps.specs.Stores.{IsApart}

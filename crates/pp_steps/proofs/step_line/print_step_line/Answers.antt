@@ -1,10 +1,10 @@
 use Rattle.std.proofs.Common.{◌≡◌, ◌<◌, length, ap, ◌∙◌, sym, subst, arith}
 use Rattle.pp_machine.specs.MachineState.{processor_of}
 use Rattle.pp_machine.specs.MachineStep.{answer_to, central_after, stepped}
-use Rattle.pp_machine.specs.NeedAndEffect.{need, processor_after}
-use Rattle.pp_machine.specs.Processor.{Processor, is_running}
+use Rattle.pp_processor.specs.NeedAndEffect.{need, processor_after}
+use Rattle.pp_processor.specs.Processor.{Processor, is_running}
 use Rattle.pp_numbers.specs.PpNo.{processor_index}
-use Rattle.pp_machine.specs.declared.need.Need.{Need}
+use Rattle.pp_processor.specs.declared.need.Need.{Need}
 use Rattle.pp_text.proofs.PrintingLemmas.{◌▹◌, prints_nothing}
 use Rattle.pp_text.specs.TextWriter.{Prints}
 use Rattle.pp_steps.specs.StepLine.{end_text, step_line}

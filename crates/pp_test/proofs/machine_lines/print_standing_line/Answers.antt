@@ -1,5 +1,5 @@
 use Rattle.std.proofs.Common.{List, ℕ, ◌++◌, ap, ◌∙◌}
-use Rattle.pp_machine.specs.Processor.{Processor}
+use Rattle.pp_processor.specs.Processor.{Processor}
 use Rattle.pp_text.specs.PrintedText.{line_end, processor_line}
 use Rattle.pp_text.proofs.PrintingLemmas.{◌▹◌, prints_on}
 use Rattle.pp_text.specs.Standing.{standing}

@@ -1,8 +1,8 @@
 use Rattle.std.proofs.Common.{ap, sym, ◌∙◌, Option}
 use Rattle.pp_channel.specs.History.{active}
 use Rattle.pp_channel.specs.declared.flags.Flags.{Flags}
-use Rattle.pp_machine.specs.Processor.{Processor}
-use Rattle.pp_machine.specs.declared.block.Block.{Block}
+use Rattle.pp_processor.specs.Processor.{Processor}
+use Rattle.pp_processor.specs.declared.block.Block.{Block}
 use Rattle.pp_text.proofs.HeldLemmas.{test_looked, test_made, test_none, goes_on}
 use Rattle.pp_text.proofs.standing.is_held.Goals as goal
 use Rattle.pp_text.proofs.standing.is_held.Goals.{then-only_looks-via-then-only_looks, then-only_looks-via-else-only_looks+then-is_some}

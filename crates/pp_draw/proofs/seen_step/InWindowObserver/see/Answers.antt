@@ -1,5 +1,5 @@
 use Rattle.std.proofs.Common.{◌≡◌, ◌∷◌, ◌++◌, ℕ, [], true, false, ap, get_or, arith, set, sym, ◌∙◌}
-use Rattle.pp_machine.specs.declared.outcome.Outcome.{Outcome}
+use Rattle.pp_processor.specs.declared.outcome.Outcome.{Outcome}
 use Rattle.pp_machine.specs.MachineStep.{step_outcome}
 use Rattle.pp_numbers.specs.declared.window.Window.{Window}
 use Rattle.pp_run.specs.RunSteps.{RunStep}

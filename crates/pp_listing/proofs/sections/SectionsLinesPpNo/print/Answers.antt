@@ -1,7 +1,7 @@
 use Rattle.std.proofs.Common.{ap, append_assoc, subst, sym, ◌∙◌, List, ℕ, ◌++◌}
 use Rattle.std.proofs.lemmas.List.Concat.{flat_map-append}
 use Rattle.pp_deck.specs.DeckLine.{section}
-use Rattle.pp_machine.specs.Processor.{Processor, word_at}
+use Rattle.pp_processor.specs.Processor.{Processor, word_at}
 use Rattle.pp_text.proofs.PrintingLemmas.{◌▹◌}
 use Rattle.pp_text.specs.TextWriter.{Prints}
 use Rattle.pp_listing.specs.ListedLine.{deck_line, text_line, text_of}

@@ -5,7 +5,7 @@ use Rattle.pp_numbers.specs.ChannelNo.{channel_places, channel_count, channel_in
 use Rattle.pp_channel.specs.declared.event.Event.{Event}
 use Rattle.pp_channel.specs.declared.event.Event.TheVariants.{Activate}
 use Rattle.pp_machine.specs.Headline.{HoldsOnChannel, events_on}
-use Rattle.pp_machine.specs.Processor.{new_processor}
+use Rattle.pp_processor.specs.Processor.{new_processor}
 use Rattle.pp_numbers.specs.PpNo.{processor_count}
 use Rattle.pp_machine.specs.declared.trace.Trace.{Trace}
 use Rattle.pp_machine.proofs.HeadlineLemmas.{none_opened}

@@ -8,12 +8,13 @@ use Rattle.pp_channel.specs.History.{IsLawful}
 use Rattle.pp_channel.specs.Law.{KeepsLaw}
 use Rattle.pp_channel.specs.declared.event.Event.{Event}
 use Rattle.pp_numbers.specs.ChannelNo.{channel_index, names_channel}
-use Rattle.pp_machine.specs.declared.{trace.Trace.Trace, need.Need.Need}
+use Rattle.pp_processor.specs.declared.{need.Need.Need}
+use Rattle.pp_machine.specs.declared.{trace.Trace.Trace}
 use Rattle.pp_machine.specs.Headline.{IsMachine, opening_history}
 use Rattle.pp_machine.specs.MachineState.{MachineState, history_of}
 use Rattle.pp_machine.specs.MachineStep.{histories_after, served}
-use Rattle.pp_machine.specs.declared.answer.Answer.TheVariants as answers
-use Rattle.pp_machine.specs.declared.need.Need.TheVariants.{Channel}
+use Rattle.pp_processor.specs.declared.answer.Answer.TheVariants as answers
+use Rattle.pp_processor.specs.declared.need.Need.TheVariants.{Channel}
 use Rattle.pp_machine.proofs.TakenLemmas.{own_history, popped, some_is_made}
 use Rattle.pp_machine.proofs.MachineStepLemmas.{served_without_event}
 use Rattle.pp_machine.proofs.HeadlineLemmas.{headline_after_event}

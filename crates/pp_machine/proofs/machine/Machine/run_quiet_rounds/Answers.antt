@@ -1,7 +1,7 @@
 use Rattle.std.proofs.Common.{arith, ◌≡◌, ◌≤◌, ◌+◌, ◌-◌, ◌*◌, ◌^◌, ap, sym, subst, ◌∙◌, length, List}
 use Rattle.std.specs.Prelude.{min}
 use Rattle.pp_machine.specs.MachineState.{MachineState}
-use Rattle.pp_machine.specs.Processor.{Processor}
+use Rattle.pp_processor.specs.Processor.{Processor}
 use Rattle.pp_numbers.specs.PpNo.{processor_count}
 use Rattle.pp_numbers.specs.Profile.{processors_in}
 use Rattle.pp_machine.specs.Quiet.{AreAhead}

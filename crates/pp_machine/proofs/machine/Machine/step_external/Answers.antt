@@ -2,16 +2,16 @@ use Rattle.std.proofs.Common.{◌≡◌, length, arith, refl, sym, ap, ◌∙◌
 use Rattle.std.specs.Prelude.{IsTrue, nat_lt}
 use Rattle.std.proofs.lemmas.List.{length-set}
 use Rattle.pp_channel.specs.Answer.{channel_state}
-use Rattle.pp_machine.specs.NextStep.{IsNext}
+use Rattle.pp_processor.specs.NextStep.{IsNext}
 use Rattle.pp_machine.specs.MachineState.{MachineState, history_of, processor_of}
 use Rattle.pp_machine.specs.MachineStep.{answer_to, served, taken}
-use Rattle.pp_machine.specs.NeedAndEffect.{need, outcome}
-use Rattle.pp_machine.specs.Processor.{Processor}
-use Rattle.pp_machine.specs.Replay.{fits}
-use Rattle.pp_machine.specs.declared.{answer.Answer.Answer, need.Need.Need}
-use Rattle.pp_machine.specs.declared.answer.Answer.TheVariants as answers
-use Rattle.pp_machine.specs.declared.need.Need.TheVariants.{Channel, Read, Write}
-use Rattle.pp_machine.proofs.ReplayLemmas.{state_fits}
+use Rattle.pp_processor.specs.NeedAndEffect.{need, outcome}
+use Rattle.pp_processor.specs.Processor.{Processor}
+use Rattle.pp_processor.specs.Replay.{fits}
+use Rattle.pp_processor.specs.declared.{answer.Answer.Answer, need.Need.Need}
+use Rattle.pp_processor.specs.declared.answer.Answer.TheVariants as answers
+use Rattle.pp_processor.specs.declared.need.Need.TheVariants.{Channel, Read, Write}
+use Rattle.pp_processor.proofs.ReplayLemmas.{state_fits}
 use Rattle.pp_machine.proofs.TakenLemmas.{own_processor, taken_by, stepped_for, outcome_for, with_processors}
 use Rattle.pp_machine.proofs.machine.Machine.step_external.Goals as goal
 

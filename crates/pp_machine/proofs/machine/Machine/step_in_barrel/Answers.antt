@@ -2,14 +2,14 @@ use Rattle.std.proofs.Common.{◌≡◌, ◌<◌, Some, length, arith, refl, sym
 use Rattle.std.specs.Prelude.{if◌then◌else◌}
 use Rattle.std.proofs.lemmas.List.{length-set}
 use Rattle.pp_channel.specs.declared.chan_op.ChanOp.TheVariants.{Probe}
-use Rattle.pp_machine.specs.NextStep.{IsNext}
+use Rattle.pp_processor.specs.NextStep.{IsNext}
 use Rattle.pp_machine.specs.MachineState.{MachineState, processor_of}
 use Rattle.pp_machine.specs.MachineStep.{IsStep, stepped, step_outcome}
-use Rattle.pp_machine.specs.NeedAndEffect.{need, outcome}
-use Rattle.pp_machine.specs.Processor.{Processor}
+use Rattle.pp_processor.specs.NeedAndEffect.{need, outcome}
+use Rattle.pp_processor.specs.Processor.{Processor}
 use Rattle.pp_numbers.specs.Profile.{has_channel}
-use Rattle.pp_machine.specs.declared.answer.Answer.TheVariants as answers
-use Rattle.pp_machine.specs.declared.need.Need.TheVariants.{Local, Channel}
+use Rattle.pp_processor.specs.declared.answer.Answer.TheVariants as answers
+use Rattle.pp_processor.specs.declared.need.Need.TheVariants.{Local, Channel}
 use Rattle.pp_machine.proofs.MachineStepLemmas.{stepped_alone, outcome_alone}
 use Rattle.pp_machine.proofs.TakenLemmas.{own_processor, taken_by, same_machine, with_processors}
 use Rattle.pp_machine.proofs.machine.Machine.step_in_barrel.Goals.{in-Some+else-step_internal+else-tests_flags, in_default-next}

@@ -5,10 +5,10 @@ use Rattle.pp_channel.specs.Answer.{flags_of}
 use Rattle.pp_channel.specs.declared.chan_op.ChanOp.TheVariants.{Probe}
 use Rattle.pp_channel.specs.declared.reply.Reply.TheVariants as replies
 use Rattle.pp_machine.specs.MachineState.{history_of, processor_of}
-use Rattle.pp_machine.specs.NeedAndEffect.{need}
+use Rattle.pp_processor.specs.NeedAndEffect.{need}
 use Rattle.pp_numbers.specs.Profile.{has_channel}
-use Rattle.pp_machine.specs.declared.answer.Answer.TheVariants as answers
-use Rattle.pp_machine.specs.declared.need.Need.TheVariants.{Local, Channel}
+use Rattle.pp_processor.specs.declared.answer.Answer.TheVariants as answers
+use Rattle.pp_processor.specs.declared.need.Need.TheVariants.{Local, Channel}
 use Rattle.pp_machine.proofs.MachineStepLemmas.{stepped_alone, stepped_by_probe, outcome_alone, outcome_by_probe}
 use Rattle.pp_machine.proofs.TakenLemmas.{own_processor, taken_by, moved_alone, if_found, if_missing, with_processors}
 use Rattle.pp_machine.proofs.machine.Machine.test_flags.Goals as goal

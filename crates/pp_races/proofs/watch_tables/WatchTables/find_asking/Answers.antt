@@ -1,6 +1,6 @@
 use Rattle.std.proofs.Common.{◌≡◌, [], Some, None, append-nil, refl, sym, ap, ◌∙◌}
 use Rattle.std.specs.Prelude.{◌++◌}
-use Rattle.pp_machine.specs.declared.need.Need.TheVariants.{Channel}
+use Rattle.pp_processor.specs.declared.need.Need.TheVariants.{Channel}
 use Rattle.pp_races.specs.ByFlags.{at}
 use Rattle.pp_races.specs.Findings.{end_by_need, held_before}
 use Rattle.pp_races.specs.Watch.{asking_step}

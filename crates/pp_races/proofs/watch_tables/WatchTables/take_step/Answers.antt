@@ -1,7 +1,7 @@
 use Rattle.std.proofs.Common.{List, length, sym, subst, ap, ◌∙◌}
 use Rattle.std.proofs.lemmas.List.{with_items_is}
-use Rattle.pp_machine.specs.NeedAndEffect.{need}
-use Rattle.pp_machine.specs.declared.need.Need.{Need}
+use Rattle.pp_processor.specs.NeedAndEffect.{need}
+use Rattle.pp_processor.specs.declared.need.Need.{Need}
 use Rattle.pp_races.specs.Tables.{AreUses}
 use Rattle.pp_races.specs.declared.word_use.WordUse.{WordUse}
 use Rattle.pp_races.proofs.UseLemmas.{uses_kept}

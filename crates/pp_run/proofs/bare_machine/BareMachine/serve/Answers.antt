@@ -3,7 +3,7 @@ use Rattle.std.specs.Prelude.{IsTrue}
 use Rattle.std.proofs.lemmas.List.{get_or_read}
 use Rattle.pp_channel.specs.Answer.{channel_state, history_after}
 use Rattle.pp_numbers.specs.ChannelNo.{channel_count, names_channel, channel_places}
-use Rattle.pp_machine.proofs.ReplayLemmas.{state_fits}
+use Rattle.pp_processor.proofs.ReplayLemmas.{state_fits}
 use Rattle.pp_machine.specs.MachineState.{history_of}
 use Rattle.pp_run.proofs.BareLemmas.{states_set}
 use Rattle.pp_run.proofs.bare_machine.BareMachine.serve.Goals as goal

@@ -1,5 +1,5 @@
 use Rattle.std.proofs.Common.{◌∷◌, ◌++◌, [], ap, ◌∙◌, arith}
-use Rattle.pp_machine.specs.declared.outcome.Outcome.{Outcome}
+use Rattle.pp_processor.specs.declared.outcome.Outcome.{Outcome}
 use Rattle.pp_run.specs.RunSteps.{outcome_of, seen_of}
 use Rattle.pp_run.proofs.RunStepLemmas.{counted_at, counted_more, few_seen}
 use Rattle.pp_run.specs.StepCounts.{counts_of, no_steps}

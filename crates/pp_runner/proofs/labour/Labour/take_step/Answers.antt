@@ -1,9 +1,9 @@
 use Rattle.std.proofs.Common.{◌≡◌, ◌<◌, ◌+◌, ℕ, List, length, refl, sym, ap, ◌∙◌, subst, arith, rules}
 use Rattle.std.specs.Prelude.{vec_len, vec_capacity}
 use Rattle.pp_line.specs.LineLog.{seen_on}
-use Rattle.pp_machine.specs.NeedAndEffect.{need}
-use Rattle.pp_machine.specs.Processor.{Processor}
-use Rattle.pp_machine.specs.declared.answer.Answer.{Answer}
+use Rattle.pp_processor.specs.NeedAndEffect.{need}
+use Rattle.pp_processor.specs.Processor.{Processor}
+use Rattle.pp_processor.specs.declared.answer.Answer.{Answer}
 use Rattle.pp_runner.proofs.EndLemmas.{end_memory, end_patience, end_worn}
 use Rattle.pp_runner.proofs.LineLemmas.{same_line_still, same_line_twice, operated_none, operated_again, operated_more, operated_tries, operated_held}
 use Rattle.pp_runner.specs.Labour.{IsAtWork, HasOperated, operations}

@@ -1,5 +1,5 @@
 use Rattle.std.proofs.Common.{◌≡◌, ◌<◌, ◌+◌, ◌*◌, vec_len, vec_capacity}
-use Rattle.pp_machine.specs.NeedAndEffect.{need}
+use Rattle.pp_processor.specs.NeedAndEffect.{need}
 use Rattle.pp_runner.specs.Labour.{IsAtWork, IsSameLine, HasOperated, operations}
 use Rattle.pp_runner.specs.End.{WasHeld}
 use Rattle.pp_runner.proofs.labour.Labour.take_step.Given as goal

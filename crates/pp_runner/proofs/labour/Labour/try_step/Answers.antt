@@ -1,5 +1,5 @@
 use Rattle.std.proofs.Common.{◌≡◌, ℕ, List, length, refl, sym, ◌∙◌, subst, arith}
-use Rattle.pp_machine.specs.NeedAndEffect.{need}
+use Rattle.pp_processor.specs.NeedAndEffect.{need}
 use Rattle.pp_runner.specs.Types.{Answer, Need}
 use Rattle.pp_runner.specs.Labour.{IsAtWork, IsAnswered}
 use Rattle.pp_runner.proofs.LabourLemmas.{work_moved, work_held, work_worn}

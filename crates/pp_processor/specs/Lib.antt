@@ -1,0 +1,11 @@
+pub mod PpMemory
+pub mod Processor
+pub mod Operand
+pub mod Step
+pub mod Effect
+pub mod Block
+pub mod InstructionTable
+pub mod NeedAndEffect
+pub mod NextStep
+pub mod Replay
+pub mod BlockResults
