@@ -15,7 +15,7 @@ use Rattle.pp_processor.specs.Step.{local}
 use Rattle.pp_instructions.specs.InstructionEffect.{sure_fault}
 
 -- the operations stand in the order of their codes
-code_at : (code : ℕ) → code < 2 ^ 6 → code_of (opcode_at code) ≡ code
+pub code_at : (code : ℕ) → code < 2 ^ 6 → code_of (opcode_at code) ≡ code
 code_at code small =
     let none_less : 0 + code ≡ code = omega arith in
     sym (get_or-map code_of operations code PSN 0 small) ∙ (get_or-range_with_len 0 (2 ^ 6) code 0 small ∙ none_less)

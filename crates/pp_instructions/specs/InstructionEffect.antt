@@ -38,6 +38,10 @@ jump_of_code profile code place d m =
     else if is_within 0o64 0o67 code && has_channel profile d then m
     else None
 
+abbrev pub target_of : Profile → Instruction → Option ℕ
+target_of profile i =
+    jump_of_code profile (i.word / 2 ^ 6) i.place (i.word % 2 ^ 6) i.second
+
 -- a jump to its own place leads nowhere, and none to place 0000: so a subroutine ends, until RJM
 -- stores the place to return to
 abbrev pub unless_idle : ℕ → Option ℕ → Option ℕ
@@ -45,8 +49,7 @@ unless_idle place None = None
 unless_idle place (Some target) = if target == place || target == 0 then None else Some target
 
 unfoldable pub leads_to : Profile → Instruction → Option ℕ
-leads_to profile i = unless_idle i.place
-    (jump_of_code profile (i.word / 2 ^ 6) i.place (i.word % 2 ^ 6) i.second)
+leads_to profile i = unless_idle i.place (target_of profile i)
 
 -- the channel that an instruction works on
 unfoldable pub channel_named : Profile → ℕ → Option ℕ

@@ -1,5 +1,9 @@
 ghost use Rattle.std.specs.Prelude.{ℕ, ◌≡◌, ◌<◌, ◌/◌, ◌%◌, ◌^◌, Some};
 ghost use Rattle.pp_instructions.specs.InstructionEffect.{sure_fault};
+ghost use Rattle.pp_instructions.specs.NextPlace.{MayComeTo, StandsAt};
+ghost use Rattle.pp_instructions.specs.declared.instruction.Instruction.{Instruction};
+ghost use Rattle.pp_processor.specs.NeedAndEffect.{processor_after};
+ghost use Rattle.pp_processor.specs.declared.answer.Answer.{Answer};
 ghost use Rattle.pp_processor.specs.Effect.{faults};
 ghost use Rattle.pp_processor.specs.InstructionTable.{instruction};
 ghost use Rattle.pp_processor.specs.Processor.{Processor};
@@ -13,4 +17,13 @@ pub fn sure_fault_law()
     ensures { (pp : Processor) (word fault : ℕ) → word < 2 ^ 12
         → sure_fault pp.profile word ≡ Some fault
         → instruction (opcode_at (word / 2 ^ 6)) pp (word % 2 ^ 6) ≡ local (faults pp fault) }
+{}
+
+/// A processor comes from an instruction to no other place than those that are said: whatever it
+/// holds and is answered, its step leaves P where it was, or behind the instruction if that goes
+/// on, or where the instruction leads, or, by an index, anywhere.
+#[tactic(auto, using(crate::proofs::NextPlaceLemmas::comes_to))]
+pub fn next_place_law()
+    ensures { (pp : Processor) (i : Instruction) (answer : Answer) → StandsAt i pp
+        → MayComeTo pp.profile i (processor_after pp answer).p }
 {}

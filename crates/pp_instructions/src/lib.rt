@@ -11,4 +11,4 @@ mod law;
 pub use claim::{Claim, Claims, comment_place};
 pub use column::Columns;
 pub use instruction::{Instruction, Instructions, word_of};
-pub use law::sure_fault_law;
+pub use law::{next_place_law, sure_fault_law};
