@@ -1,5 +1,5 @@
 -- What comes of the kind of things that a line gives.
-use Rattle.std.proofs.Common.{◌≡◌, ℕ, ◌+◌, Bool, true, false, List, [], ◌++◌, Option, Some, None, refl, sym, ap, ◌∙◌, add-one}
+use Rattle.std.proofs.Common.{◌≡◌, ◌≢◌, ℕ, ◌+◌, Bool, true, false, List, [], ◌++◌, Option, Some, None, refl, sym, ap, ◌∙◌, add-one}
 use Rattle.std.specs.List.{flat_map}
 use Rattle.std.proofs.lemmas.List.{append-nil}
 use Rattle.pp_numbers.specs.declared.profile.Profile.{Profile}
@@ -10,6 +10,7 @@ use Rattle.pp_lint.specs.Given.{Note, given, given_at, note_if, notes, notes_of_
 use Rattle.pp_lint.specs.InstructionsOfLine.{first_place, instructions_of}
 use Rattle.pp_lint.specs.RunFindings.{run_findings}
 use Rattle.pp_lint.specs.StraightLine.{behind_all, behind_line, fault_findings, reached_at}
+use Rattle.pp_instructions.specs.declared.instruction.Instruction.{Instruction}
 use Rattle.pp_lint.specs.declared.{row.Kind.Kind, row.Row.Row}
 use Rattle.pp_lint.specs.declared.row.Kind.TheVariants.{Central, Channel, Dead, Fault, Name, Start, Target, Word}
 
@@ -25,6 +26,10 @@ is_start kind = false
 abbrev pub is_name : Kind → Bool
 is_name (Name n) = true
 is_name kind = false
+
+pub no_word : (kind : Kind) → ((n : ℕ) → kind ≢ Word n) → is_word kind ≡ false
+no_word (Word n) other = absurd (other n refl)
+no_word kind other = refl
 
 module _ (profile : Profile) (said : Option Line) where
   pub words_within : (number : ℕ) (kind : Kind) (n : ℕ) → kind ≡ Word n → notes_within number profile kind said ≡ flat_map (notes_of_instruction number profile n) (instructions_of said)
@@ -69,12 +74,6 @@ module _ (profile : Profile) (noted : List Note) (said : Option Line) (reached :
   behind_other (Target n) word name = refl
   behind_other (Channel n) word name = refl
 
-  pub run_words : (k : ℕ) (line : List ℕ) (n : ℕ)
-      → fault_findings profile k line noted n (first_place said) reached (instructions_of said) ++ alone_findings profile k line noted n (first_place said) (instructions_of said)
-      ≡ run_findings profile k line noted reached (Word n) said
-  unfolding run_findings
-  run_words k line n = refl
-
   pub run_none : (k : ℕ) (line : List ℕ) (kind : Kind) → is_word kind ≡ false → run_findings profile k line noted reached kind said ≡ []
   unfolding run_findings
   run_none k line Fault word = refl
@@ -88,8 +87,11 @@ module _ (profile : Profile) (noted : List Note) (said : Option Line) (reached :
 
 -- by the row that the line gives
 module _ (profile : Profile) (noted : List Note) (said : Option Line) (reached : Option ℕ) (k : ℕ) (line : List ℕ) (s : Option ℕ) (row : Row) where
-  pub run_given : (n : ℕ) → row ≡ given s said → row.kind ≡ Word n → run_findings profile k line noted reached (Word n) said ≡ run_findings profile k line noted reached (given s said).kind said
-  run_given n value is = ap (λ kind. run_findings profile k line noted reached kind said) (sym is ∙ ap (λ (r : Row). r.kind) value)
+  pub run_words : (n first : ℕ) (is : List Instruction) → row ≡ given s said → row.kind ≡ Word n → first ≡ first_place said → is ≡ instructions_of said
+      → fault_findings profile k line noted n first reached is ++ alone_findings profile k line noted n first (instructions_of said)
+      ≡ run_findings profile k line noted reached (given s said).kind said
+  unfolding run_findings
+  run_words n first is value kind from all = rw (sym value) (rw kind (rw from (rw all refl)))
 
   pub run_nothing : row ≡ given s said → is_word row.kind ≡ false → run_findings profile k line noted reached (given s said).kind said ≡ []
   run_nothing value word = run_none profile noted said reached k line (given s said).kind (ap (λ (r : Row). is_word r.kind) (sym value) ∙ word)

@@ -20,11 +20,12 @@ use crate::first_lines::FirstLines;
 use crate::line_findings::print_place;
 use crate::row::Kind;
 use crate::straight_line::field_of;
+use crate::word_line::WordLine;
 use crate::words::instructions_of;
 use pp_instructions::{Columns, Instruction};
 use pp_numbers::{PROCESSORS, PpNo, Profile};
 use pp_text::{TextWriter, octal2, print_short_octal};
-use pp_word::{Word6, Word12};
+use pp_word::Word6;
 use std::alloc::Allocator;
 use std::io::Write;
 
@@ -36,34 +37,22 @@ const CHANNELS_END: u8 = 0o34;
 pub(crate) fn print_alone_findings<A: Allocator, W: Write>(
     text: &mut TextWriter<W>,
     firsts: &FirstLines<A>,
-    profile: Profile,
-    n: PpNo,
-    number: u64,
-    line: &[u8],
-    first: Word12,
+    words: &WordLine,
 ) -> bool
-    ensures prints { (before : Before) (k : ℕ) (notes : List Note) → HasNoFault before line.now
-        → Shows firsts.now notes → number ≡ k + 1
-        → Prints W.contents text.old text.new (flat_map finding_line
-        (alone_findings profile k line.now notes n first
-        (instructions_of (said_after before (fields_of line.now))))) }
-    ensures found { (before : Before) (k : ℕ) (notes : List Note) → HasNoFault before line.now
-        → Shows firsts.now notes → number ≡ k + 1 → result ≡ is_something_found
-        (alone_findings profile k line.now notes n first
-        (instructions_of (said_after before (fields_of line.now)))) }
+    ensures prints { (before : Before) (k : ℕ) (notes : List Note)
+        → HasNoFault before words.now.line.now → Shows firsts.now notes → words.now.number ≡ k + 1
+        → Prints W.contents text.old text.new (flat_map finding_line (alone_findings
+        words.now.profile k words.now.line.now notes words.now.n words.now.first
+        (instructions_of (said_after before (fields_of words.now.line.now))))) }
+    ensures found { (before : Before) (k : ℕ) (notes : List Note)
+        → HasNoFault before words.now.line.now → Shows firsts.now notes → words.now.number ≡ k + 1
+        → result ≡ is_something_found (alone_findings
+        words.now.profile k words.now.line.now notes words.now.n words.now.first
+        (instructions_of (said_after before (fields_of words.now.line.now)))) }
 {
     let mut is_found = false;
     for c in 0..CHANNELS_END {
-        let found = print_alone_finding(
-            text,
-            firsts,
-            profile,
-            n,
-            number,
-            line,
-            first,
-            Word6::truncated(c),
-        );
+        let found = print_alone_finding(text, firsts, words, Word6::truncated(c));
         is_found = is_found || found;
     }
     is_found
@@ -127,33 +116,31 @@ fn is_used_by_another<A: Allocator>(firsts: &FirstLines<A>, n: PpNo, c: Word6, m
 fn print_alone_finding<A: Allocator, W: Write>(
     text: &mut TextWriter<W>,
     firsts: &FirstLines<A>,
-    profile: Profile,
-    n: PpNo,
-    number: u64,
-    line: &[u8],
-    first: Word12,
+    words: &WordLine,
     c: Word6,
 ) -> bool
-    ensures prints { (before : Before) (k : ℕ) (notes : List Note) → HasNoFault before line.now
-        → Shows firsts.now notes → number ≡ k + 1
-        → Prints W.contents text.old text.new (flat_map finding_line
-        (alone_finding profile k line.now notes n first
-        (instructions_of (said_after before (fields_of line.now))) c)) }
-    ensures found { (before : Before) (k : ℕ) (notes : List Note) → HasNoFault before line.now
-        → Shows firsts.now notes → number ≡ k + 1 → result ≡ is_something_found
-        (alone_finding profile k line.now notes n first
-        (instructions_of (said_after before (fields_of line.now))) c) }
+    ensures prints { (before : Before) (k : ℕ) (notes : List Note)
+        → HasNoFault before words.now.line.now → Shows firsts.now notes → words.now.number ≡ k + 1
+        → Prints W.contents text.old text.new (flat_map finding_line (alone_finding
+        words.now.profile k words.now.line.now notes words.now.n words.now.first
+        (instructions_of (said_after before (fields_of words.now.line.now))) c)) }
+    ensures found { (before : Before) (k : ℕ) (notes : List Note)
+        → HasNoFault before words.now.line.now → Shows firsts.now notes → words.now.number ≡ k + 1
+        → result ≡ is_something_found (alone_finding
+        words.now.profile k words.now.line.now notes words.now.n words.now.first
+        (instructions_of (said_after before (fields_of words.now.line.now))) c) }
 {
-    if !is_alone(firsts, profile, n, number, c) {
+    if !is_alone(firsts, words.profile, words.n, words.number, c) {
         return false;
     }
-    let Some(i) = first_use(profile, c, line) else {
+    let Some(i) = first_use(words.profile, c, words.line) else {
         return false;
     };
     if i.sends_function() {
         return false;
     }
-    print_alone(text, n, c, number, line, field_of(first, &i));
+    let field = field_of(words.first, &i);
+    print_alone(text, words.n, c, words.number, words.line, field);
     true
 }
 

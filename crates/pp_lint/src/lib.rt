@@ -16,6 +16,7 @@ mod run_findings;
 mod straight_line;
 mod text_lines;
 mod warnings;
+mod word_line;
 mod words;
 
 pub use fault_words::print_bytes;

@@ -9,7 +9,6 @@ ghost use Rattle.pp_lint.specs.LineFault.{said_after};
 ghost use Rattle.pp_lint.specs.LintText.{finding_line, is_something_found};
 ghost use Rattle.pp_lint.specs.RunFindings.{run_findings};
 ghost use Rattle.pp_lint.specs.WordsOfLine.{HasNoFault};
-ghost use Rattle.pp_lint.specs.declared.row.Kind.{Kind};
 ghost use Rattle.pp_text.specs.TextWriter.{Prints};
 
 use crate::channel_use::print_alone_findings;
@@ -17,9 +16,9 @@ use crate::first_lines::FirstLines;
 use crate::line_fault::Before;
 use crate::row::{Kind, row_of};
 use crate::straight_line::print_fault_findings;
+use crate::word_line::WordLine;
 use crate::words::{first_place, instructions_of};
 use pp_deck::Fields;
-use pp_numbers::PpNo;
 use pp_text::TextWriter;
 use pp_word::Word12;
 use std::alloc::Allocator;
@@ -48,50 +47,18 @@ pub(crate) fn print_run_findings<A: Allocator, W: Write>(
         (said_after before.now (fields_of line.now))) }
 {
     let row = row_of(before, &mut Fields::of(line));
-    match &row.kind {
-        Kind::Word(n) => print_word_findings(text, firsts, before, *n, reached, number, line),
-        Kind::Fault => false,
-        Kind::Name(_) => false,
-        Kind::Start(_) => false,
-        Kind::Central => false,
-        Kind::Dead => false,
-        Kind::Target(_) => false,
-        Kind::Channel(_) => false,
-    }
-}
-
-/// The same of a line of words of a processor.
-fn print_word_findings<A: Allocator, W: Write>(
-    text: &mut TextWriter<W>,
-    firsts: &FirstLines<A>,
-    before: &Before,
-    n: PpNo,
-    reached: &Option<Word12>,
-    number: u64,
-    line: &[u8],
-) -> bool
-    requires { HasNoFault before.now line.now }
-    ensures prints { (k : ℕ) (notes : List Note) → Shows firsts.now notes → number ≡ k + 1
-        → Prints W.contents text.old text.new (flat_map finding_line
-        (run_findings before.now.profile k line.now notes reached.now (Kind.Word n)
-        (said_after before.now (fields_of line.now)))) }
-    ensures found { (k : ℕ) (notes : List Note) → Shows firsts.now notes → number ≡ k + 1
-        → result ≡ is_something_found (run_findings before.now.profile k line.now notes reached.now
-        (Kind.Word n) (said_after before.now (fields_of line.now))) }
-{
-    let profile = before.profile;
-    let first = first_place(line);
-    let is_faulty = print_fault_findings(
-        text,
-        firsts,
-        profile,
-        n,
+    let Kind::Word(n) = &row.kind else {
+        return false;
+    };
+    let words = WordLine {
+        profile: before.profile,
+        n: *n,
         number,
         line,
-        reached,
-        first,
-        &mut instructions_of(line),
-    );
-    let is_alone = print_alone_findings(text, firsts, profile, n, number, line, first);
+        first: first_place(line),
+    };
+    let mut instructions = instructions_of(line);
+    let is_faulty = print_fault_findings(text, firsts, &words, reached, &mut instructions);
+    let is_alone = print_alone_findings(text, firsts, &words);
     is_faulty || is_alone
 }

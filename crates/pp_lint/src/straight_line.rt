@@ -15,6 +15,7 @@ ghost use Rattle.pp_text.specs.TextWriter.{Prints};
 use crate::first_lines::FirstLines;
 use crate::line_findings::print_place;
 use crate::row::Kind;
+use crate::word_line::WordLine;
 use crate::words::instructions_of;
 use pp_instructions::{Columns, Instruction, Instructions};
 use pp_numbers::{PpNo, Profile};
@@ -110,29 +111,27 @@ fn is_at(place: Word12, reached: &Option<Word12>) -> bool
 pub(crate) fn print_fault_findings<A: Allocator, W: Write>(
     text: &mut TextWriter<W>,
     firsts: &FirstLines<A>,
-    profile: Profile,
-    n: PpNo,
-    number: u64,
-    line: &[u8],
+    words: &WordLine,
     reached: &Option<Word12>,
-    first: Word12,
     instructions: &mut Instructions,
 ) -> bool
-    ensures prints { (k : ℕ) (notes : List Note) → Shows firsts.now notes → number ≡ k + 1
-        → Prints W.contents text.old text.new (flat_map finding_line
-        (fault_findings profile k line.now notes n first reached.now instructions.old)) }
-    ensures found { (k : ℕ) (notes : List Note) → Shows firsts.now notes → number ≡ k + 1
-        → result ≡ is_something_found
-        (fault_findings profile k line.now notes n first reached.now instructions.old) }
+    ensures prints { (k : ℕ) (notes : List Note) → Shows firsts.now notes
+        → words.now.number ≡ k + 1 → Prints W.contents text.old text.new
+        (flat_map finding_line (fault_findings words.now.profile k words.now.line.now notes
+        words.now.n words.now.first reached.now instructions.old)) }
+    ensures found { (k : ℕ) (notes : List Note) → Shows firsts.now notes
+        → words.now.number ≡ k + 1 → result ≡ is_something_found
+        (fault_findings words.now.profile k words.now.line.now notes
+        words.now.n words.now.first reached.now instructions.old) }
 {
-    let mut columns = Columns::of(line);
+    let mut columns = Columns::of(words.line);
     let mut reached = *reached;
     let mut is_found = false;
     while let Some(i) = instructions.next_instruction() {
-        let is_here = is_reached(firsts, n, &reached, &i);
-        let found = print_fault_finding(text, profile, number, &mut columns, is_here, first, &i);
+        let is_here = is_reached(firsts, words.n, &reached, &i);
+        let found = print_fault_finding(text, words, &mut columns, is_here, &i);
         is_found = is_found || found;
-        reached = behind(firsts, profile, n, &reached, &i);
+        reached = behind(firsts, words.profile, words.n, &reached, &i);
     }
     is_found
 }
@@ -141,26 +140,26 @@ pub(crate) fn print_fault_findings<A: Allocator, W: Write>(
 /// is so.
 fn print_fault_finding<W: Write>(
     text: &mut TextWriter<W>,
-    profile: Profile,
-    number: u64,
+    words: &WordLine,
     columns: &mut Columns,
     is_reached: bool,
-    first: Word12,
     i: &Instruction,
 ) -> bool
     ensures same { columns.new ≡ columns.old }
-    ensures prints { (k : ℕ) → number ≡ k + 1 → Prints W.contents text.old text.new
-        (flat_map finding_line (fault_finding profile k columns.old is_reached first i.now)) }
+    ensures prints { (k : ℕ) → words.now.number ≡ k + 1
+        → Prints W.contents text.old text.new (flat_map finding_line (fault_finding
+        words.now.profile k columns.old is_reached words.now.first i.now)) }
     ensures found { (k : ℕ) → result ≡ is_something_found
-        (fault_finding profile k columns.old is_reached first i.now) }
+        (fault_finding words.now.profile k columns.old is_reached words.now.first i.now) }
 {
     if !is_reached {
         return false;
     }
-    let Some(fault) = i.sure_fault(profile) else {
+    let Some(fault) = i.sure_fault(words.profile) else {
         return false;
     };
-    print_place(text, number, columns.column_of(field_of(first, i)));
+    let column = columns.column_of(field_of(words.first, i));
+    print_place(text, words.number, column);
     print_fault_text(text, fault, i);
     text.print(b"\n");
     true

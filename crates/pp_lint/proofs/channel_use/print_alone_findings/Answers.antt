@@ -18,7 +18,7 @@ loop-c-init g c = λ before k notes clean shows number. (prints_nothing _ _, ref
 
 pub loop-c-preserved : goal.loop-c-preserved
 loop-c-preserved g c = λ before k notes clean shows number.
-    let found = alone_finding c.args.profile k c.args.line.now notes c.args.n c.args.first (instructions_of (said_after before (fields_of c.args.line.now))) in
+    let found = alone_finding c.args.words.now.profile k c.args.words.now.line.now notes c.args.words.now.n c.args.words.now.first (instructions_of (said_after before (fields_of c.args.words.now.line.now))) in
     let here : c.truncated.result ≡ c.loop-c.c = c.truncated.ensures ∙ mod-eq_of_lt (omega (arith, c.loop-c-test.true)) in
     let either : c.if-is_found.is_found ≡ (c.loop-c.is_found || c.print_alone_finding-found.result) = elim c.if-is_found.branch [
       | then-is_found w ↦ rw w.if-is_found.true (w.is_found-is ∙ w.if-is_found.true)
@@ -32,10 +32,10 @@ loop-c-preserved g c = λ before k notes clean shows number.
 pub returns-clause-prints : goal.returns-clause-prints
 returns-clause-prints g c = λ before k notes clean shows number.
     let all : c.loop-c.c ≡ 28 = omega (arith, c.loop-c.auto.c-end, c.loop-c-test.false) in
-    subst (λ found. Prints g.W.Write.contents c.args.text.now c.loop-c.text (flat_map finding_line found)) (all_alone c.args.profile k c.args.line.now notes c.args.n c.args.first _ c.loop-c.c all)
+    subst (λ found. Prints g.W.Write.contents c.args.text.now c.loop-c.text (flat_map finding_line found)) (all_alone c.args.words.now.profile k c.args.words.now.line.now notes c.args.words.now.n c.args.words.now.first _ c.loop-c.c all)
     ((c.loop-c.invariant before k notes clean shows number).0)
 
 pub returns-clause-found : goal.returns-clause-found
 returns-clause-found g c = λ before k notes clean shows number.
     let all : c.loop-c.c ≡ 28 = omega (arith, c.loop-c.auto.c-end, c.loop-c-test.false) in
-    (c.loop-c.invariant before k notes clean shows number).1 ∙ ap is_something_found (all_alone c.args.profile k c.args.line.now notes c.args.n c.args.first _ c.loop-c.c all)
+    (c.loop-c.invariant before k notes clean shows number).1 ∙ ap is_something_found (all_alone c.args.words.now.profile k c.args.words.now.line.now notes c.args.words.now.n c.args.words.now.first _ c.loop-c.c all)

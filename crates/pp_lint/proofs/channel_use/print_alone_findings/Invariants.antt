@@ -13,6 +13,6 @@ use Rattle.pp_lint.specs.declared.line_fault.Before.{Before}
 use Rattle.pp_lint.proofs.channel_use.print_alone_findings.Given as goal
 
 abbrev pub invariant-loop-c : goal.invariant-loop-c
-invariant-loop-c g l = (before : Before) (k : ℕ) (notes : List Note) → HasNoFault before l.line → Shows l.firsts notes → l.number ≡ k + 1
-    → Prints g.W.Write.contents l.fn.text l.text (flat_map finding_line (flat_map (alone_finding l.profile k l.line notes l.n l.first (instructions_of (said_after before (fields_of l.line)))) (range_with_len 0 l.c)))
-    × (l.is_found ≡ is_something_found (flat_map (alone_finding l.profile k l.line notes l.n l.first (instructions_of (said_after before (fields_of l.line)))) (range_with_len 0 l.c)))
+invariant-loop-c g l = (before : Before) (k : ℕ) (notes : List Note) → HasNoFault before l.words.line.now → Shows l.firsts notes → l.words.number ≡ k + 1
+    → Prints g.W.Write.contents l.fn.text l.text (flat_map finding_line (flat_map (alone_finding l.words.profile k l.words.line.now notes l.words.n l.words.first (instructions_of (said_after before (fields_of l.words.line.now)))) (range_with_len 0 l.c)))
+    × (l.is_found ≡ is_something_found (flat_map (alone_finding l.words.profile k l.words.line.now notes l.words.n l.words.first (instructions_of (said_after before (fields_of l.words.line.now)))) (range_with_len 0 l.c)))

@@ -4,89 +4,43 @@ use Rattle.pp_text.specs.TextWriter.{Prints}
 use Rattle.pp_lint.specs.LintText.{finding_line, is_something_found}
 use Rattle.pp_lint.proofs.CommentLemmas.{none_found, prints_none}
 use Rattle.pp_instructions.proofs.FieldLemmas.{few_fields}
-use Rattle.pp_lint.proofs.RunLemmas.{run_given, run_nothing}
+use Rattle.pp_lint.proofs.RunLemmas.{no_word, run_nothing, run_words}
+use Rattle.pp_lint.proofs.WarningLemmas.{found_both, prints_both}
 use Rattle.pp_lint.proofs.run_findings.print_run_findings.Goals as goal
 
 pub row_of-row-requires-clause-fields : goal.row_of-row-requires-clause-fields
 row_of-row-requires-clause-fields g c = omega (arith, ap length c.of.ensures, few_fields c.args.line.now)
 
-pub returns-in-Word-clause-prints : goal.returns-in-Word-clause-prints
-returns-in-Word-clause-prints g c = λ k notes shows number.
+pub returns-in_default-clause-prints : goal.returns-in_default-clause-prints
+returns-in_default-clause-prints g c = λ k notes shows number.
     let value = rw c.of.ensures at (c.row_of-row.ensures.value (rw c.of.ensures c.requires.clean.none)) in
-    subst (λ found. Prints g.W.Write.contents c.args.text.now c.print_word_findings.new.text (flat_map finding_line found)) (run_given c.args.before.now.profile notes _ c.args.reached.now k c.args.line.now _ c.row_of-row.result _ value c.in-Word.is)
-    (c.print_word_findings.ensures.prints k notes shows number)
+    prints_none _ _ _ (run_nothing c.args.before.now.profile notes _ c.args.reached.now k c.args.line.now _ c.row_of-row.result value (no_word _ c.in_default.not-Word))
 
-pub returns-in-Word-clause-found : goal.returns-in-Word-clause-found
-returns-in-Word-clause-found g c = λ k notes shows number.
+pub returns-in_default-clause-found : goal.returns-in_default-clause-found
+returns-in_default-clause-found g c = λ k notes shows number.
     let value = rw c.of.ensures at (c.row_of-row.ensures.value (rw c.of.ensures c.requires.clean.none)) in
-    c.print_word_findings.ensures.found k notes shows number ∙ ap is_something_found (run_given c.args.before.now.profile notes _ c.args.reached.now k c.args.line.now _ c.row_of-row.result _ value c.in-Word.is)
+    none_found _ (run_nothing c.args.before.now.profile notes _ c.args.reached.now k c.args.line.now _ c.row_of-row.result value (no_word _ c.in_default.not-Word))
 
-pub returns-in-Fault-clause-prints : goal.returns-in-Fault-clause-prints
-returns-in-Fault-clause-prints g c = λ k notes shows number.
+pub returns-then-is_faulty-clause-prints : goal.returns-then-is_faulty-clause-prints
+returns-then-is_faulty-clause-prints g c = λ k notes shows number.
     let value = rw c.of.ensures at (c.row_of-row.ensures.value (rw c.of.ensures c.requires.clean.none)) in
-    prints_none _ _ _ (run_nothing c.args.before.now.profile notes _ c.args.reached.now k c.args.line.now _ c.row_of-row.result value (rw c.in-Fault.is refl))
+    subst (λ found. Prints g.W.Write.contents c.args.text.now c.print_alone_findings-is_alone.new.text (flat_map finding_line found)) (run_words c.args.before.now.profile notes _ c.args.reached.now k c.args.line.now _ c.row_of-row.result c.in-Word.n _ _ value c.in-Word.is (c.first_place.ensures c.args.before.now c.requires.clean) (c.instructions_of-instructions.ensures c.args.before.now c.requires.clean))
+    (prints_both _ _ _ _ _ _ (c.print_fault_findings-is_faulty.ensures.prints k notes shows number) (c.print_alone_findings-is_alone.ensures.prints c.args.before.now k notes c.requires.clean shows number))
 
-pub returns-in-Fault-clause-found : goal.returns-in-Fault-clause-found
-returns-in-Fault-clause-found g c = λ k notes shows number.
+pub returns-then-is_faulty-clause-found : goal.returns-then-is_faulty-clause-found
+returns-then-is_faulty-clause-found g c = λ k notes shows number.
     let value = rw c.of.ensures at (c.row_of-row.ensures.value (rw c.of.ensures c.requires.clean.none)) in
-    none_found _ (run_nothing c.args.before.now.profile notes _ c.args.reached.now k c.args.line.now _ c.row_of-row.result value (rw c.in-Fault.is refl))
+    found_both _ _ c.print_fault_findings-is_faulty.result c.print_alone_findings-is_alone.result _ (c.print_fault_findings-is_faulty.ensures.found k notes shows number) (c.print_alone_findings-is_alone.ensures.found c.args.before.now k notes c.requires.clean shows number) (rw c.if-is_faulty.true refl)
+    ∙ ap is_something_found (run_words c.args.before.now.profile notes _ c.args.reached.now k c.args.line.now _ c.row_of-row.result c.in-Word.n _ _ value c.in-Word.is (c.first_place.ensures c.args.before.now c.requires.clean) (c.instructions_of-instructions.ensures c.args.before.now c.requires.clean))
 
-pub returns-in-Name-clause-prints : goal.returns-in-Name-clause-prints
-returns-in-Name-clause-prints g c = λ k notes shows number.
+pub returns-else-is_faulty-clause-prints : goal.returns-else-is_faulty-clause-prints
+returns-else-is_faulty-clause-prints g c = λ k notes shows number.
     let value = rw c.of.ensures at (c.row_of-row.ensures.value (rw c.of.ensures c.requires.clean.none)) in
-    prints_none _ _ _ (run_nothing c.args.before.now.profile notes _ c.args.reached.now k c.args.line.now _ c.row_of-row.result value (rw c.in-Name.is refl))
+    subst (λ found. Prints g.W.Write.contents c.args.text.now c.print_alone_findings-is_alone.new.text (flat_map finding_line found)) (run_words c.args.before.now.profile notes _ c.args.reached.now k c.args.line.now _ c.row_of-row.result c.in-Word.n _ _ value c.in-Word.is (c.first_place.ensures c.args.before.now c.requires.clean) (c.instructions_of-instructions.ensures c.args.before.now c.requires.clean))
+    (prints_both _ _ _ _ _ _ (c.print_fault_findings-is_faulty.ensures.prints k notes shows number) (c.print_alone_findings-is_alone.ensures.prints c.args.before.now k notes c.requires.clean shows number))
 
-pub returns-in-Name-clause-found : goal.returns-in-Name-clause-found
-returns-in-Name-clause-found g c = λ k notes shows number.
+pub returns-else-is_faulty-clause-found : goal.returns-else-is_faulty-clause-found
+returns-else-is_faulty-clause-found g c = λ k notes shows number.
     let value = rw c.of.ensures at (c.row_of-row.ensures.value (rw c.of.ensures c.requires.clean.none)) in
-    none_found _ (run_nothing c.args.before.now.profile notes _ c.args.reached.now k c.args.line.now _ c.row_of-row.result value (rw c.in-Name.is refl))
-
-pub returns-in-Start-clause-prints : goal.returns-in-Start-clause-prints
-returns-in-Start-clause-prints g c = λ k notes shows number.
-    let value = rw c.of.ensures at (c.row_of-row.ensures.value (rw c.of.ensures c.requires.clean.none)) in
-    prints_none _ _ _ (run_nothing c.args.before.now.profile notes _ c.args.reached.now k c.args.line.now _ c.row_of-row.result value (rw c.in-Start.is refl))
-
-pub returns-in-Start-clause-found : goal.returns-in-Start-clause-found
-returns-in-Start-clause-found g c = λ k notes shows number.
-    let value = rw c.of.ensures at (c.row_of-row.ensures.value (rw c.of.ensures c.requires.clean.none)) in
-    none_found _ (run_nothing c.args.before.now.profile notes _ c.args.reached.now k c.args.line.now _ c.row_of-row.result value (rw c.in-Start.is refl))
-
-pub returns-in-Central-clause-prints : goal.returns-in-Central-clause-prints
-returns-in-Central-clause-prints g c = λ k notes shows number.
-    let value = rw c.of.ensures at (c.row_of-row.ensures.value (rw c.of.ensures c.requires.clean.none)) in
-    prints_none _ _ _ (run_nothing c.args.before.now.profile notes _ c.args.reached.now k c.args.line.now _ c.row_of-row.result value (rw c.in-Central.is refl))
-
-pub returns-in-Central-clause-found : goal.returns-in-Central-clause-found
-returns-in-Central-clause-found g c = λ k notes shows number.
-    let value = rw c.of.ensures at (c.row_of-row.ensures.value (rw c.of.ensures c.requires.clean.none)) in
-    none_found _ (run_nothing c.args.before.now.profile notes _ c.args.reached.now k c.args.line.now _ c.row_of-row.result value (rw c.in-Central.is refl))
-
-pub returns-in-Dead-clause-prints : goal.returns-in-Dead-clause-prints
-returns-in-Dead-clause-prints g c = λ k notes shows number.
-    let value = rw c.of.ensures at (c.row_of-row.ensures.value (rw c.of.ensures c.requires.clean.none)) in
-    prints_none _ _ _ (run_nothing c.args.before.now.profile notes _ c.args.reached.now k c.args.line.now _ c.row_of-row.result value (rw c.in-Dead.is refl))
-
-pub returns-in-Dead-clause-found : goal.returns-in-Dead-clause-found
-returns-in-Dead-clause-found g c = λ k notes shows number.
-    let value = rw c.of.ensures at (c.row_of-row.ensures.value (rw c.of.ensures c.requires.clean.none)) in
-    none_found _ (run_nothing c.args.before.now.profile notes _ c.args.reached.now k c.args.line.now _ c.row_of-row.result value (rw c.in-Dead.is refl))
-
-pub returns-in-Target-clause-prints : goal.returns-in-Target-clause-prints
-returns-in-Target-clause-prints g c = λ k notes shows number.
-    let value = rw c.of.ensures at (c.row_of-row.ensures.value (rw c.of.ensures c.requires.clean.none)) in
-    prints_none _ _ _ (run_nothing c.args.before.now.profile notes _ c.args.reached.now k c.args.line.now _ c.row_of-row.result value (rw c.in-Target.is refl))
-
-pub returns-in-Target-clause-found : goal.returns-in-Target-clause-found
-returns-in-Target-clause-found g c = λ k notes shows number.
-    let value = rw c.of.ensures at (c.row_of-row.ensures.value (rw c.of.ensures c.requires.clean.none)) in
-    none_found _ (run_nothing c.args.before.now.profile notes _ c.args.reached.now k c.args.line.now _ c.row_of-row.result value (rw c.in-Target.is refl))
-
-pub returns-in-Channel-clause-prints : goal.returns-in-Channel-clause-prints
-returns-in-Channel-clause-prints g c = λ k notes shows number.
-    let value = rw c.of.ensures at (c.row_of-row.ensures.value (rw c.of.ensures c.requires.clean.none)) in
-    prints_none _ _ _ (run_nothing c.args.before.now.profile notes _ c.args.reached.now k c.args.line.now _ c.row_of-row.result value (rw c.in-Channel.is refl))
-
-pub returns-in-Channel-clause-found : goal.returns-in-Channel-clause-found
-returns-in-Channel-clause-found g c = λ k notes shows number.
-    let value = rw c.of.ensures at (c.row_of-row.ensures.value (rw c.of.ensures c.requires.clean.none)) in
-    none_found _ (run_nothing c.args.before.now.profile notes _ c.args.reached.now k c.args.line.now _ c.row_of-row.result value (rw c.in-Channel.is refl))
+    found_both _ _ c.print_fault_findings-is_faulty.result c.print_alone_findings-is_alone.result _ (c.print_fault_findings-is_faulty.ensures.found k notes shows number) (c.print_alone_findings-is_alone.ensures.found c.args.before.now k notes c.requires.clean shows number) (rw c.if-is_faulty.false refl)
+    ∙ ap is_something_found (run_words c.args.before.now.profile notes _ c.args.reached.now k c.args.line.now _ c.row_of-row.result c.in-Word.n _ _ value c.in-Word.is (c.first_place.ensures c.args.before.now c.requires.clean) (c.instructions_of-instructions.ensures c.args.before.now c.requires.clean))

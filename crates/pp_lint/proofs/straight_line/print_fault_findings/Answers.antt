@@ -16,10 +16,10 @@ pub loop-i-preserved : goal.loop-i-preserved
 loop-i-preserved g c = record {
   columns = c.print_fault_finding-found.ensures.same ∙ c.loop-i.invariant.columns;
   printed = λ k notes shows number out rest. c.loop-i.invariant.printed k notes shows number out
-      (fault_prints c.args.profile k c.args.line.now c.loop-i.columns notes c.args.n c.args.first c.loop-i.reached _ _ _ c.in-Some.i _ c.loop-i.invariant.columns c.in-Some.ensures.taken (c.is_reached-is_here.ensures notes shows) (c.behind-reached.ensures notes shows)
+      (fault_prints c.args.words.now.profile k c.args.words.now.line.now c.loop-i.columns notes c.args.words.now.n c.args.words.now.first c.loop-i.reached _ _ _ c.in-Some.i _ c.loop-i.invariant.columns c.in-Some.ensures.taken (c.is_reached-is_here.ensures notes shows) (c.behind-reached.ensures notes shows)
       _ _ _ _ (c.print_fault_finding-found.ensures.prints k number) rest);
   found = λ k notes shows number.
-      fault_founds c.args.profile k c.args.line.now c.loop-i.columns notes c.args.n c.args.first c.loop-i.reached _ _ _ c.in-Some.i _ c.loop-i.invariant.columns c.in-Some.ensures.taken (c.is_reached-is_here.ensures notes shows) (c.behind-reached.ensures notes shows)
+      fault_founds c.args.words.now.profile k c.args.words.now.line.now c.loop-i.columns notes c.args.words.now.n c.args.words.now.first c.loop-i.reached _ _ _ c.in-Some.i _ c.loop-i.invariant.columns c.in-Some.ensures.taken (c.is_reached-is_here.ensures notes shows) (c.behind-reached.ensures notes shows)
       c.loop-i.is_found _ _ (c.print_fault_finding-found.ensures.found k) (elim c.if-is_found.branch [
         | then-is_found w ↦ rw w.if-is_found.true (w.is_found-is ∙ w.if-is_found.true)
         | else-is_found w ↦ rw w.if-is_found.false w.is_found-is
@@ -29,9 +29,9 @@ loop-i-preserved g c = record {
 pub returns-clause-prints : goal.returns-clause-prints
 returns-clause-prints g c = λ k notes shows number.
     c.loop-i.invariant.printed k notes shows number c.loop-i.text
-    (prints_none _ _ _ (ap (fault_findings c.args.profile k c.args.line.now notes c.args.n c.args.first c.loop-i.reached) c.in_default.ensures.none.0 ∙ none_faulty c.args.profile k c.args.line.now notes c.args.n c.args.first c.loop-i.reached))
+    (prints_none _ _ _ (ap (fault_findings c.args.words.now.profile k c.args.words.now.line.now notes c.args.words.now.n c.args.words.now.first c.loop-i.reached) c.in_default.ensures.none.0 ∙ none_faulty c.args.words.now.profile k c.args.words.now.line.now notes c.args.words.now.n c.args.words.now.first c.loop-i.reached))
 
 pub returns-clause-found : goal.returns-clause-found
 returns-clause-found g c = λ k notes shows number.
-    none_more c.loop-i.is_found _ (sym (none_found _ (ap (fault_findings c.args.profile k c.args.line.now notes c.args.n c.args.first c.loop-i.reached) c.in_default.ensures.none.0 ∙ none_faulty c.args.profile k c.args.line.now notes c.args.n c.args.first c.loop-i.reached)))
+    none_more c.loop-i.is_found _ (sym (none_found _ (ap (fault_findings c.args.words.now.profile k c.args.words.now.line.now notes c.args.words.now.n c.args.words.now.first c.loop-i.reached) c.in_default.ensures.none.0 ∙ none_faulty c.args.words.now.profile k c.args.words.now.line.now notes c.args.words.now.n c.args.words.now.first c.loop-i.reached)))
     ∙ c.loop-i.invariant.found k notes shows number

@@ -11,13 +11,13 @@ use Rattle.pp_lint.proofs.straight_line.print_fault_findings.Given as goal
 
 abbrev pub invariant-loop-i : goal.invariant-loop-i
 invariant-loop-i g l = record {
-  columns : l.columns ≡ l.line;
-  printed : (k : ℕ) (notes : List Note) → Shows l.firsts notes → l.number ≡ k + 1 → (out : TextWriter _)
-      → Prints g.W.Write.contents l.text out (flat_map finding_line (fault_findings l.profile k l.line notes l.n l.first l.reached l.instructions))
-      → Prints g.W.Write.contents l.fn.text out (flat_map finding_line (fault_findings l.profile k l.line notes l.n l.first l.fn.reached l.fn.instructions));
-  found : (k : ℕ) (notes : List Note) → Shows l.firsts notes → l.number ≡ k + 1
-      → (l.is_found || is_something_found (fault_findings l.profile k l.line notes l.n l.first l.reached l.instructions))
-      ≡ is_something_found (fault_findings l.profile k l.line notes l.n l.first l.fn.reached l.fn.instructions);
+  columns : l.columns ≡ l.words.line.now;
+  printed : (k : ℕ) (notes : List Note) → Shows l.firsts notes → l.words.number ≡ k + 1 → (out : TextWriter _)
+      → Prints g.W.Write.contents l.text out (flat_map finding_line (fault_findings l.words.profile k l.words.line.now notes l.words.n l.words.first l.reached l.instructions))
+      → Prints g.W.Write.contents l.fn.text out (flat_map finding_line (fault_findings l.words.profile k l.words.line.now notes l.words.n l.words.first l.fn.reached l.fn.instructions));
+  found : (k : ℕ) (notes : List Note) → Shows l.firsts notes → l.words.number ≡ k + 1
+      → (l.is_found || is_something_found (fault_findings l.words.profile k l.words.line.now notes l.words.n l.words.first l.reached l.instructions))
+      ≡ is_something_found (fault_findings l.words.profile k l.words.line.now notes l.words.n l.words.first l.fn.reached l.fn.instructions);
 }
 
 abbrev pub decreases-loop-i : goal.decreases-loop-i
