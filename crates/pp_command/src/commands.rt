@@ -348,7 +348,8 @@ Reads the deck from FILE or standard input. What stands after *= has to begin so
 word by word; what stands after *! must begin none. The lines of a run are those of processors and
 channels that state prints; the places of the processors shown, as 'PP 0 0050 0010'; the central
 words, as 'CM 20 00010002000300040005'; the events without their turns, as 'PP00 CH05 PUT 0007'; the
-word or two for how the run ends, as AT REST; and those that sessions --words prints.
+word or two for how the run ends, as AT REST; those that sessions --words prints; and those that
+lint prints of the deck, as 'nothing found'.
 
 Prints to standard output, for each expectation that fails, its line (decimal) and its text, and
 under it the line that has the most words in front in common; then HELD and how many there are, or

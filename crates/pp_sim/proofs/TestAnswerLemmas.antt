@@ -7,7 +7,7 @@ use Rattle.pp_numbers.specs.declared.profile.Profile.{Profile}
 use Rattle.pp_condition.specs.declared.until.Until.{Until}
 use Rattle.pp_deck.specs.DeckMeaning.{LoadedDeck, deck_meaning}
 use Rattle.pp_command.specs.declared.work.Tested.{Tested}
-use Rattle.pp_test.specs.RunLines.{IsRunText}
+use Rattle.pp_test.specs.JudgedLines.{IsJudgedText}
 use Rattle.pp_test.specs.Verdict.{is_held, verdict}
 use Rattle.pp_sim.specs.TestAnswer.{AnswersTest, ComesTo, HasTurns, IsTest}
 use Rattle.pp_sim.specs.TextAnswer.{IsLoadFault, most_bytes}
@@ -48,7 +48,7 @@ refused_test profile first until tested (fault.Trace f) bytes kept is = absurd i
 
 -- the run of the deck that the bytes mean has these lines, and this verdict on them
 pub comes_to : (profile : Profile) (first : List ℕ) (until : Option Until) (turns n : ℕ) (bytes lines : List ℕ) (held : Bool) (deck : LoadedDeck)
-    → deck_meaning profile bytes ≡ Ok deck → HasTurns first until turns deck n → IsRunText first n deck lines → held ≡ is_held bytes lines
+    → deck_meaning profile bytes ≡ Ok deck → HasTurns first until turns deck n → IsJudgedText bytes first n deck lines → held ≡ is_held bytes lines
     → ComesTo profile first until (Tested.Run turns) bytes held (verdict bytes lines)
 comes_to profile first until turns n bytes lines held deck meant many is held_is = record {
   deck = deck;

@@ -7,7 +7,7 @@ use Rattle.pp_condition.specs.declared.until.Until.{Until}
 use Rattle.pp_command.specs.declared.work.Tested.{Tested}
 use Rattle.pp_deck.specs.DeckMeaning.{LoadedDeck}
 use Rattle.pp_test.specs.EveryOrder.{IsEveryOrderText}
-use Rattle.pp_test.specs.RunLines.{IsRunText}
+use Rattle.pp_test.specs.JudgedLines.{IsJudgedText}
 use Rattle.pp_test.specs.Verdict.{is_held, verdict}
 use Rattle.pp_text.specs.Written.{AppendsFront}
 use Rattle.pp_sim.specs.TextAnswer.{IsFaultOf, IsOfDeck, most_bytes}
@@ -20,13 +20,14 @@ abbrev pub HasTurns : List ℕ → Option Until → ℕ → LoadedDeck → ℕ �
 HasTurns first None turns deck n = n ≡ turns
 HasTurns first (Some until) turns deck n = IsEndOf until (run_of first turns deck) deck.machine n
 
--- the verdict on its lines, by what these bytes expect, and whether it is that all held
+-- the verdict on the lines that it is judged by, by what these bytes expect, and whether it is that
+-- all held
 pub record IsRunVerdict (first : List ℕ) (until : Option Until) (turns : ℕ) (bytes : List ℕ)
     (held : Bool) (deck : LoadedDeck) (text : List ℕ) : Type 0 where
   pub turns_run : ℕ
   pub has_turns : HasTurns first until turns deck turns_run
   pub lines : List ℕ
-  pub lines_are : IsRunText first turns_run deck lines
+  pub lines_are : IsJudgedText bytes first turns_run deck lines
   pub held_is : held ≡ is_held bytes lines
   pub text_is : text ≡ verdict bytes lines
 

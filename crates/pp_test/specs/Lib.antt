@@ -1,5 +1,6 @@
 pub mod EveryOrder
 pub mod Expectations
+pub mod JudgedLines
 pub mod Nearest
 pub mod RunLines
 pub mod Verdict

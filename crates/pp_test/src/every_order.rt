@@ -4,6 +4,7 @@ ghost use Rattle.std.specs.Prelude.{◌≡◌, ◌≤◌, ◌^◌, ◌++◌, All
 ghost use Rattle.std.specs.Io.KnownBytes.{Appends};
 ghost use Rattle.pp_deck.specs.DeckMeaning.{LoadedDeck, deck_meaning};
 ghost use Rattle.pp_endings.specs.EndingsText.{order_line};
+ghost use Rattle.pp_lint.specs.LintText.{lint_text};
 ghost use Rattle.pp_test.specs.EveryOrder.{FirstFails, IsEndingText, IsEveryOrderText, IsHeldAfter, ending_word, held_line, or_more};
 ghost use Rattle.pp_test.specs.Expectations.{expectations};
 ghost use Rattle.pp_test.specs.Reading.{has_expectation};
@@ -12,10 +13,11 @@ ghost use Rattle.pp_text.specs.PrintedText.{line_end};
 ghost use Rattle.pp_text.specs.TextWriter.{Prints};
 
 use crate::expectation::expectation_in;
+use crate::judged_lines::write_findings;
 use crate::run_lines::run_to_lines;
 use crate::verdict::{print_last_words, print_verdict};
 use pp_channel::Memory;
-use pp_deck::{Deck, read_deck};
+use pp_deck::{Deck, deck_law, read_deck};
 use pp_endings::print_order_line;
 use pp_lint::TextLines;
 use pp_machine::{PpNo, Profile};
@@ -58,7 +60,9 @@ pub fn text_of_every_order<A: Allocator + Copy>(
     }
     let found = find_endings(alloc, &load.machine, states)?;
     let endings = found.endings.as_slice();
-    if let Some(text) = first_failure(alloc, profile, bytes, endings)? {
+    let findings = findings_text(alloc, profile, bytes)?;
+    let findings = findings.as_slice();
+    if let Some(text) = first_failure(alloc, profile, bytes, findings, endings)? {
         return Ok(EveryOrder { held: false, text });
     }
     let text = held_text(alloc, count, endings.len() as u64, !found.are_all)?;
@@ -154,13 +158,28 @@ fn print_ending_word<W: Write>(text: &mut TextWriter<W>, endings: u64)
     }
 }
 
+/// What is found in a deck.
+fn findings_text<A: Allocator + Copy>(
+    alloc: A,
+    profile: Profile,
+    bytes: &[u8],
+) -> Result<Vec<u8, A>, Memory>
+    ensures { IfOk result (λ text. text.items ≡ lint_text profile bytes.now) }
+{
+    let mut text = Vec::new(alloc);
+    write_findings(alloc, &mut text, profile, bytes)?;
+    Ok(text)
+}
+
 /// What is said of the first of some endings in which an expectation fails, if there is one.
 fn first_failure<A: Allocator + Copy>(
     alloc: A,
     profile: Profile,
     bytes: &[u8],
+    findings: &[u8],
     endings: &[Ending<A>],
 ) -> Result<Option<Vec<u8, A>>, Memory>
+    requires found { findings.now ≡ lint_text profile bytes.now }
     requires short { length bytes.now ≤ 2 ^ 62 }
     requires few { All (λ order. length order ≤ 999999)
         (map (λ ending. ending.order.items) endings.now) }
@@ -173,7 +192,7 @@ fn first_failure<A: Allocator + Copy>(
 {
     for ending in endings {
         let order = ending.order.as_slice();
-        let lines = lines_of_ending(alloc, profile, bytes, order)?;
+        let lines = lines_of_ending(alloc, profile, bytes, findings, order)?;
         let mut text = Vec::new(alloc);
         if !write_ending(&mut text, bytes, order, lines.as_slice())? {
             return Ok(Some(text));
@@ -182,28 +201,27 @@ fn first_failure<A: Allocator + Copy>(
     Ok(None)
 }
 
-/// The lines of the run of just these steps of a deck.
+/// The lines of the run of just these steps of a deck, and of what is found in it.
 fn lines_of_ending<A: Allocator + Copy>(
     alloc: A,
     profile: Profile,
     bytes: &[u8],
+    findings: &[u8],
     order: &[PpNo],
 ) -> Result<Vec<u8, A>, Memory>
-    requires { length order.now ≤ 999999 }
+    requires found { findings.now ≡ lint_text profile bytes.now }
+    requires few { length order.now ≤ 999999 }
     ensures { IfOk result (λ lines. (deck : LoadedDeck) → deck_meaning profile bytes.now ≡ Ok deck
-        → IsEndingText deck order.now lines.items) }
+        → IsEndingText bytes.now deck order.now lines.items) }
 {
+    deck_law();
     let Ok(mut loaded) = read_deck(alloc, profile, bytes) else {
         return Err(Memory);
     };
-    run_to_lines(
-        alloc,
-        profile,
-        bytes,
-        &mut loaded,
-        order,
-        order.len() as u32,
-    )
+    let turns = order.len() as u32;
+    let mut lines = run_to_lines(alloc, profile, bytes, &mut loaded, order, turns)?;
+    lines.extend_from_slice(findings)?;
+    Ok(lines)
 }
 
 /// Writes an order, and the verdict on the lines of its run. Returns whether all held.

@@ -21,7 +21,7 @@ use std::io::Write;
 /// what the run comes to, in lines: the processors in use, with all their places, the channels,
 /// central memory, the events without turns, how the run ends, and the sessions with their words.
 /// The deck is that of these bytes, which are read once more to find how it ends.
-pub fn run_to_lines<A: Allocator + Copy>(
+pub(crate) fn run_to_lines<A: Allocator + Copy>(
     alloc: A,
     profile: Profile,
     bytes: &[u8],

@@ -14,7 +14,7 @@ use pp_condition::{Until, steps_until};
 use pp_deck::Deck;
 use pp_machine::{PpNo, Profile};
 use pp_run::Order;
-use pp_test::{run_to_lines, text_of_every_order, write_verdict};
+use pp_test::{lines_to_judge, text_of_every_order, write_verdict};
 use pp_text::write_whole;
 use std::alloc::Allocator;
 use std::io::{Read, Write};
@@ -105,7 +105,7 @@ fn write_test_of_run<A: Allocator + Copy, W: Write>(
         deck.now.bytes.now (W.contents writer.old) (W.contents writer.new) }
 {
     let turns = turns_of_run(alloc, loaded, first, until, turns)?;
-    let lines = run_to_lines(alloc, deck.profile, deck.bytes, loaded, first, turns)?;
+    let lines = lines_to_judge(alloc, deck.profile, deck.bytes, loaded, first, turns)?;
     match write_verdict(writer, deck.bytes, lines.as_slice()) {
         Ok(true) => Ok(()),
         Ok(false) => Err(TextFault::Findings),

@@ -15,8 +15,8 @@ order_at order endings i e own low is named = named ∙ ap order is ∙ sym (get
 in_map : {E : Type 0} (order : E → List ℕ) (endings : List E) (i : ℕ) → i < length endings → i < length (map order endings)
 in_map order endings i low = omega (arith, low, length-map endings order)
 
-pub lines_of_ending-requires : goal.lines_of_ending-requires
-lines_of_ending-requires g c =
+pub lines_of_ending-requires-clause-few : goal.lines_of_ending-requires-clause-few
+lines_of_ending-requires-clause-few g c =
     let i = c.loop-ending.ending-index in
     let low = c.loop-ending-test.true in
     let at = order_at (λ ending. ending.order.items) c.args.endings.now i _ _ low c.ending-item.is c.as_slice-order.ensures.value in
@@ -48,7 +48,7 @@ returns-then-not-branch-clause-some g c = λ deck meant.
       within = in_map (λ ending. ending.order.items) c.args.endings.now i low;
       before = c.loop-ending.invariant deck meant;
       lines = lines;
-      lines_are = subst (λ (order : List ℕ). IsEndingText deck order lines) at (c.in_ok-lines.ensures deck meant);
+      lines_are = subst (λ (order : List ℕ). IsEndingText bytes deck order lines) at (c.in_ok-lines.ensures deck meant);
       fails = held ∙ c.if-not-branch.true;
       text_is = written ∙ ap (λ (items : List ℕ). items ++ (order_line c.as_slice-order.result.now ++ verdict bytes lines)) c.new-text.ensures.items
           ∙ ap (λ (order : List ℕ). order_line order ++ verdict bytes lines) at;
