@@ -1,34 +1,32 @@
--- The lines that the barrel prints are a lawful trace.
-use Rattle.std.proofs.Common.{All, ◌≡◌, ◌∙◌, ℕ, zero, suc, ◌<◌, ◌==◌, Bool, true, false, List, [], ◌∷◌, ◌++◌, length, map, take, get_or, Option, Some, None, refl, sym, ap, subst, append_assoc, arith, add-one}
-use Rattle.std.specs.Prelude.{IfSome, IsTrue, if◌then◌else◌, is_some}
-use Rattle.std.specs.List.{AllByRecursion, cons_option, last_or}
+-- What the barrel prints is read as a lawful trace.
+use Rattle.std.proofs.Common.{All, ◌≡◌, ◌∙◌, ℕ, zero, suc, ◌^◌, ◌<◌, Bool, true, false, List, [], ◌∷◌, ◌++◌, add-one, get_or, length, map, take, Option, Some, None, refl, sym, ap, subst, append_assoc, arith}
+use Rattle.std.specs.Prelude.{◌==◌, IfSome, IsTrue, if◌then◌else◌, slice_index_or}
+use Rattle.std.specs.List.{cons_option, flat_map, last_or}
 use Rattle.std.specs.List.Sorted.{IsStrictlyIncreasing}
-use Rattle.std.proofs.lemmas.Bool.{ne_eqb}
+use Rattle.std.proofs.lemmas.Bool.{and_parts, ne_eqb}
 use Rattle.std.proofs.lemmas.List.{append-nil, take_more}
-use Rattle.std.proofs.lemmas.List.Elements.{All-head, All-tail, filter_map-append}
-use Rattle.pp_channel.proofs.HistoryLemmas.{Fits as FitsState, active_at, full_at, held_word, is_active, state_at, waiting_at}
-use Rattle.pp_channel.proofs.HistoryWalk.{State, Inactive}
+use Rattle.std.proofs.lemmas.List.Elements.{All-head, All-tail}
 use Rattle.pp_numbers.proofs.LastElements.{last_or-push}
-use Rattle.pp_channel.specs.Answer.{channel_state}
-use Rattle.pp_numbers.specs.ChannelNo.{names_channel}
-use Rattle.pp_channel.specs.History.{IsLawful, active, waiting, history_on}
-use Rattle.pp_channel.specs.declared.{channel_state.ChannelState.ChannelState, event.Event.Event}
+use Rattle.pp_numbers.specs.ChannelNo.{all_channels, names_channel}
+use Rattle.pp_numbers.specs.PpNo.{all_processors, is_named, names_processor, processor_index}
+use Rattle.pp_channel.specs.History.{IsLawful}
+use Rattle.pp_channel.specs.declared.event.Event.{Event}
 use Rattle.pp_machine.specs.Headline as headline
-use Rattle.pp_machine.specs.MachineState.{MachineState, history_of}
+use Rattle.pp_machine.specs.MachineState.{MachineState, history_of, processor_of}
 use Rattle.pp_machine.specs.declared.trace.Trace.{Trace}
 use Rattle.pp_deck.specs.DeckText.{lines_of}
-use Rattle.pp_text.specs.PrintedText.{printed}
+use Rattle.pp_text.specs.PrintedText.{event_line, named_processor_line, printed, state_text, used_channel_line}
 use Rattle.pp_text.specs.TextLaw.{EventFits}
-use Rattle.pp_check.specs.LawfulTrace.{AreLawful, Fits, IsLawfulTrace, event_on, events_on, history, is_opened, last_turn, parsed_lines, opening, turn_of, turns}
-use Rattle.pp_laws.specs.PrintedTrace.{AreOpenedBy, IsPrintable}
+use Rattle.pp_check.specs.LawfulTrace.{Fits, IsLawfulTrace, events_on, history, is_opened, last_turn, parsed_lines, opening, turn_of, turns}
 use Rattle.pp_check.specs.declared.trace_line.TraceLine.{TraceLine}
-use Rattle.pp_check.specs.declared.trace_line.TraceLine.TheVariants.{AtTurn, Standing, Other}
-use Rattle.pp_check.proofs.KeepsLemmas.{TellsNone, nothing_told, state_told}
+use Rattle.pp_check.specs.declared.trace_line.TraceLine.TheVariants.{AtTurn, Other}
 use Rattle.pp_check.proofs.OpeningLemmas.{lawful_opening}
-use Rattle.pp_laws.proofs.PrintedLineLemmas.{shown_state}
-use Rattle.pp_text.specs.PrintedText.{each_below}
-use Rattle.pp_laws.proofs.PrintedTextLemmas.{all_said, at_turn, channel_lines, processor_lines, said_is, said_lines, state_lines, whole_text}
-use Rattle.pp_check.proofs.TraceLemmas.{history_same, lawful_push}
+use Rattle.pp_laws.specs.PrintedTrace.{AreOpenedBy, IsPrintable}
+use Rattle.pp_laws.proofs.PrintedLineLemmas.{are_trace_fields, event_line_is, event_line_read, plain_state, trace_fields}
+use Rattle.pp_laws.proofs.PrintedTextLemmas.{IsRead, Says, Tells, says_map, shown_both, shown_channels, shown_each, shown_if, shown_processor, tells_fields, text_read}
+
+unfoldable pub at_turn : Trace → TraceLine
+at_turn e = AtTurn e.turn e.channel e.event
 
 -- ---- the events
 
@@ -103,121 +101,26 @@ lawful_events named m opened is opens = record {
       (subst (λ (o : Option ℕ). IfSome o (λ last. last < get_or ts k 0)) (sym (ap (last_or None) (front_turns m.trace k))) (rising_fits ts is.rising k (omega (arith, within, as_many m.trace))));
 }
 
--- ---- the lines behind the events
-
--- a line that shows how a channel stands after lines, or nothing
-abbrev pub Shows : List Bool → List TraceLine → TraceLine → Type 0
-Shows opened lines (Standing c state) = state ≡ channel_state (history opened lines c)
-Shows opened lines Other = Unit {0}
-Shows opened lines line = ⊥
-
-shows_none : (opened : List Bool) (lines : List TraceLine) (line : TraceLine) → Shows opened lines line → TellsNone line
-shows_none opened lines (Standing c state) shows = state_told c state
-shows_none opened lines Other shows = nothing_told
-shows_none opened lines line shows = absurd shows
-
-shows_fit : (opened : List Bool) (lines : List TraceLine) (line : TraceLine) → Shows opened lines line → Fits opened lines line
-shows_fit opened lines (Standing c state) shows = shows
-shows_fit opened lines Other shows = tt
-shows_fit opened lines line shows = absurd shows
-
-shows_still : (opened : List Bool) (lines : List TraceLine) (line x : TraceLine) → TellsNone line → Shows opened lines x → Shows opened (lines ++ line ∷ []) x
-shows_still opened lines line (Standing c state) none shows = shows ∙ ap channel_state (sym (history_same opened lines line c (none.event c)))
-shows_still opened lines line Other none shows = tt
-shows_still opened lines line x none shows = shows
-
-all_still : (opened : List Bool) (lines : List TraceLine) (line : TraceLine) (more : List TraceLine) → TellsNone line → AllByRecursion (Shows opened lines) more → AllByRecursion (Shows opened (lines ++ line ∷ [])) more
-all_still opened lines line [] none all = all
-all_still opened lines line (x ∷ more) none all = (shows_still opened lines line x none all.0, all_still opened lines line more none all.1)
-
-pub lawful_shown : (opened : List Bool) (lines more : List TraceLine) → IsLawfulTrace opened lines → AllByRecursion (Shows opened lines) more → IsLawfulTrace opened (lines ++ more)
-lawful_shown opened lines [] lawful all = subst (IsLawfulTrace opened) (sym (append-nil lines)) lawful
-lawful_shown opened lines (x ∷ more) lawful all =
-    let none = shows_none opened lines x all.0 in
-    let next = lawful_push opened lines x lawful (shows_fit opened lines x all.0) (λ c. let P : List Event → Type 0 = λ h. IsLawful h in subst P (sym (history_same opened lines x c (none.event c))) (lawful.histories c)) in
-    subst (IsLawfulTrace opened) (append_assoc lines (x ∷ []) more) (lawful_shown opened (lines ++ x ∷ []) more next (all_still opened lines x more none all.1))
-
--- ---- what they show
-
--- flags and register
-abbrev state_by : Bool → Bool → Option ℕ → ChannelState
-state_by is_active is_full word =
-    record { flags = record { active = is_active; full = is_full }; register = word }
-
-at_state : (s : State) → shown_state (is_active s) (held_word s) ≡ state_by (is_active s) (is_some (held_word s)) (held_word s)
-unfolding shown_state
-at_state Inactive = refl
-at_state s = refl
-
-shown_by_state : (h : List Event) (s : State) → FitsState h s → shown_state (active h) (waiting h) ≡ channel_state h
-shown_by_state h s fits = grind (arith, active_at, full_at, waiting_at, shown_state, is_active, at_state, state_by, held_word)
-
-pub all_both : (opened : List Bool) (lines xs ys : List TraceLine) → AllByRecursion (Shows opened lines) xs → AllByRecursion (Shows opened lines) ys → AllByRecursion (Shows opened lines) (xs ++ ys)
-all_both opened lines [] ys first second = second
-all_both opened lines (x ∷ xs) ys first second = (first.0, all_both opened lines xs ys first.1 second)
-
-pub all_below : (opened : List Bool) (lines : List TraceLine) (k : ℕ) (f : ℕ → List TraceLine) → ((n : ℕ) → AllByRecursion (Shows opened lines) (f n)) → AllByRecursion (Shows opened lines) (each_below k f)
-unfolding each_below
-all_below opened lines zero f each = tt
-all_below opened lines (suc k) f each = all_both opened lines (each_below k f) (f k) (all_below opened lines k f each) (each k)
-
-processors_show : (opened : List Bool) (lines : List TraceLine) (named : List Bool) (n : ℕ) → AllByRecursion (Shows opened lines) (processor_lines named n)
-unfolding processor_lines
-processors_show opened lines named n = grind arith
-
-pub history_shows : (opened : List Bool) (lines : List TraceLine) (c : ℕ) (h : List Event) → history opened lines c ≡ h → IsLawful h → AllByRecursion (Shows opened lines) (state_lines c h)
-unfolding state_lines
-history_shows opened lines c [] same lawful = tt
-history_shows opened lines c (e ∷ h) same lawful = ((let s = state_at (e ∷ h) lawful in shown_by_state (e ∷ h) s.0 s.2) ∙ ap channel_state (sym same), tt)
-
-channels_show : (named : List Bool) (m : MachineState) (opened : List Bool) → IsPrintable named m → AreOpenedBy m opened → (c : ℕ) → AllByRecursion (Shows opened (map at_turn m.trace)) (channel_lines m.histories c)
-unfolding channel_lines
-channels_show named m opened is opens c = by_name (names_channel c) refl
-  where
-    by_name : (b : Bool) → names_channel c ≡ b → AllByRecursion (Shows opened (map at_turn m.trace)) (if b then state_lines c (history_on c m.histories) else [])
-    by_name false unnamed = tt
-    by_name true names = history_shows opened (map at_turn m.trace) c (history_of c m) (history_told named m opened is opens c names) (is.headline c names).lawful
-
 -- ---- the whole text
 
--- what stands behind the events
-shown_lines : List Bool → MachineState → List TraceLine
-shown_lines named m =
-    each_below 0o100 (processor_lines named) ++ (each_below 0o100 (channel_lines m.histories) ++ Other ∷ [])
+abbrev IsShort : Trace → Type 0
+IsShort e = EventFits e × (e.turn < 10 ^ 19)
 
-all_shown : (named : List Bool) (m : MachineState) (opened : List Bool) → IsPrintable named m → AreOpenedBy m opened → AllByRecursion (Shows opened (map at_turn m.trace)) (shown_lines named m)
-unfolding shown_lines
-all_shown named m opened is opens =
+says_event : (e : Trace) → IsShort e → Says Tells (event_line e) (at_turn e ∷ [])
+unfolding at_turn
+says_event e (fits, short) = subst (λ text. Says Tells text (at_turn e ∷ [])) (sym (event_line_is e)) (tells_fields (trace_fields e) (at_turn e) (are_trace_fields e) (event_line_read e fits short))
+
+pub printed_read : (named : List Bool) (m : MachineState) (opened : List Bool) → IsPrintable named m → AreOpenedBy m opened → IsRead opened (map at_turn m.trace) (printed named m)
+unfolding printed
+printed_read named m opened is opens =
     let events = map at_turn m.trace in
-    let processors = each_below 0o100 (processor_lines named) in
-    let channels = each_below 0o100 (channel_lines m.histories) in
-    all_both opened events processors (channels ++ Other ∷ []) (all_below opened events 0o100 (processor_lines named) (processors_show opened events named))
-    (all_both opened events channels (Other ∷ []) (all_below opened events 0o100 (channel_lines m.histories) (channels_show named m opened is opens)) (tt, tt))
-
-text_says : (named : List Bool) (m : MachineState) → IsPrintable named m → parsed_lines (lines_of (printed named m)) ≡ map at_turn m.trace ++ shown_lines named m
-unfolding said_lines shown_lines
-text_says named m is =
-    said_is (lines_of (printed named m)) (said_lines named m ++ Other ∷ []) (whole_text named m is) ∙ simp append_assoc
-
-pub printed_lawful : (named : List Bool) (m : MachineState) (opened : List Bool) → IsPrintable named m → AreOpenedBy m opened → AreLawful opened (lines_of (printed named m))
-printed_lawful named m opened is opens = record {
-  said = all_said (lines_of (printed named m)) (said_lines named m ++ Other ∷ []) (whole_text named m is);
-  lawful = subst (IsLawfulTrace opened) (sym (text_says named m is)) (lawful_shown opened (map at_turn m.trace) (shown_lines named m) (lawful_events named m opened is opens) (all_shown named m opened is opens));
-}
-
-pub events_both : (c : ℕ) (xs ys : List TraceLine) → events_on c (xs ++ ys) ≡ events_on c xs ++ events_on c ys
-unfolding events_on
-events_both c xs ys = filter_map-append (event_on c) xs ys
-
-pub none_shown : (opened : List Bool) (lines more : List TraceLine) (c : ℕ) → AllByRecursion (Shows opened lines) more → events_on c more ≡ []
-unfolding events_on
-none_shown opened lines [] c all = refl
-none_shown opened lines (x ∷ more) c all = grind (arith, shows_none, none_shown opened lines more c all.1)
+    rw (append_assoc (flat_map event_line m.trace) (flat_map (named_processor_line named m) all_processors) (flat_map (used_channel_line m.histories) all_channels))
+    (text_read opened events _ _ (says_map Tells IsShort event_line at_turn m.trace (λ k d lt. (is.fits.trace k d lt, is.few_turns k d lt)) says_event) (lawful_events named m opened is opens)
+    (shown_both opened events _ _
+    (shown_each opened events (λ n. Unit {0}) (named_processor_line named m) all_processors (λ k d lt. tt) (λ n _.
+        let pp = processor_of n m in
+        shown_if opened events (is_named named n) _ (λ at. shown_processor opened events n pp (state_text pp.state) (plain_state pp.state) (and_parts (names_processor n) (slice_index_or named (processor_index n) false) at).0)))
+    (shown_channels opened events m.histories (λ c names. (history_told named m opened is opens c names, (is.headline c names).lawful)) is.fits.channels)))
 
 pub printed_events : (named : List Bool) (m : MachineState) (opened : List Bool) → IsPrintable named m → AreOpenedBy m opened → (c : ℕ) → events_on c (parsed_lines (lines_of (printed named m))) ≡ headline.events_on c m.trace
-printed_events named m opened is opens c =
-    ap (events_on c) (text_says named m is)
-    ∙ events_both c (map at_turn m.trace) (shown_lines named m)
-    ∙ ap (λ (es : List Event). events_on c (map at_turn m.trace) ++ es) (none_shown opened (map at_turn m.trace) (shown_lines named m) c (all_shown named m opened is opens))
-    ∙ append-nil (events_on c (map at_turn m.trace))
-    ∙ told_events c m.trace
+printed_events named m opened is opens c = (printed_read named m opened is opens).told c ∙ told_events c m.trace

@@ -1,7 +1,7 @@
 -- What threads print is read as a lawful trace.
-use Rattle.std.proofs.Common.{All, codes, ◌≡◌, ◌≢◌, ◌∙◌, ℕ, zero, suc, ◌+◌, ◌^◌, ◌<◌, ◌≤◌, Bool, true, false, List, [], ◌∷◌, ◌++◌, length, map, Option, Some, None, refl, sym, ap, subst, append_assoc, arith, inl, inr}
+use Rattle.std.proofs.Common.{All, ◌≡◌, ◌≢◌, ◌∙◌, ℕ, zero, suc, ◌+◌, ◌^◌, ◌<◌, ◌≤◌, Bool, true, false, List, [], ◌∷◌, ◌++◌, length, map, Option, Some, None, refl, sym, ap, subst, append_assoc, arith, inl, inr}
 use Rattle.std.specs.Prelude.{IsTrue, if◌then◌else◌, slice_get, slice_index_or}
-use Rattle.std.specs.List.{AllByRecursion, cons_option, enumerate_from, filter_map, flat_map, list_all}
+use Rattle.std.specs.List.{cons_option, enumerate_from, filter_map, flat_map, list_all}
 use Rattle.std.proofs.lemmas.Bool.{and_parts, cases_eq}
 use Rattle.std.proofs.lemmas.List.{append-nil, length_push}
 use Rattle.std.proofs.lemmas.List.Elements.{All-head, All-tail}
@@ -17,24 +17,22 @@ use Rattle.pp_machine.specs.MachineState.{MachineState}
 use Rattle.pp_numbers.specs.PpNo.{all_processors, names_processor, processor_index, processor_number, is_named}
 use Rattle.pp_numbers.specs.Limits.{RunLimits}
 use Rattle.pp_runner.specs.WorkerReport.{logs_of}
-use Rattle.pp_report.proofs.ReportLawLemmas.{numbered_channel_events, told_after, unnamed_line, with_number}
+use Rattle.pp_report.proofs.ReportLawLemmas.{numbered_channel_events, told_after, with_number}
 use Rattle.pp_report.specs.PrintedReport.{author_place, channel_events, end_text, line_by, named_worker_line, numbered_event_line, printed_report, worker_line}
-use Rattle.pp_deck.proofs.FieldTextLemmas.{is_plain, octal_plain}
-use Rattle.pp_word.specs.Numeral.{decimal, octal}
-use Rattle.pp_text.specs.PrintedText.{event_text, line_end, used_channel_line}
+use Rattle.pp_text.specs.PrintedText.{used_channel_line}
 use Rattle.pp_report.specs.ReportLaw.{FitsItsLine, FitsItsReport, PrintedEvent, printed_by, printed_on}
-use Rattle.pp_check.specs.LawfulTrace.{AreLawful, IsLawfulTrace, event_on, events_on, history, parsed_lines, opening}
+use Rattle.pp_check.specs.LawfulTrace.{IsLawfulTrace, event_on, events_on, history, parsed_lines, opening}
 use Rattle.pp_laws.specs.PrintedTrace.{AreOpenedBy, IsPrintableReport}
-use Rattle.pp_check.specs.TraceLine.{parsed_line}
 use Rattle.pp_check.specs.declared.trace_line.TraceLine.{TraceLine}
-use Rattle.pp_check.specs.declared.trace_line.TraceLine.TheVariants.{Numbered, Other}
+use Rattle.pp_check.specs.declared.trace_line.TraceLine.TheVariants.{Numbered}
 use Rattle.pp_check.proofs.KeepsLemmas.{event_line, numbered_here}
 use Rattle.pp_check.proofs.OpeningLemmas.{lawful_start}
-use Rattle.pp_laws.proofs.PrintedLawLemmas.{Shows, all_below, all_both, events_both, history_shows, lawful_shown, none_shown}
-use Rattle.pp_laws.proofs.PrintedLineLemmas.{numbered_body, numbered_line_read, plain_numbered, plain_processor, processor_body, processor_line_is, processor_line_read}
 use Rattle.pp_text.specs.PrintedText.{each_below}
-use Rattle.pp_laws.proofs.PrintedTextLemmas.{Reads, all_said, channel_lines, no_text, reads_both, reads_channel, reads_channels, reads_if, reads_line, reads_processors, said_is, map_both, state_lines}
 use Rattle.pp_check.proofs.TraceLemmas.{history_more, history_same, lawful_push}
+use Rattle.pp_deck.proofs.FieldTextLemmas.{is_plain, octal_plain}
+use Rattle.pp_text.proofs.PrintingLemmas.{channels_by_number, each_is_flat}
+use Rattle.pp_laws.proofs.PrintedLineLemmas.{are_numbered_fields, numbered_fields, numbered_line_is, numbered_line_read}
+use Rattle.pp_laws.proofs.PrintedTextLemmas.{IsRead, IsShown, Says, Tells, events_both, says_below, says_both, says_if, shown_both, shown_channels, shown_each, shown_if, shown_none, shown_processor, tells_fields, text_read}
 
 -- ---- lines
 
@@ -46,14 +44,6 @@ plain_end End.Patience = refl
 plain_end End.Memory = refl
 plain_end End.Worn = refl
 
--- parts of a line, one after another
-joined : (d p o s e l : List ℕ) → ((((d ++ p) ++ o) ++ s) ++ e) ++ l ≡ (d ++ (p ++ (o ++ (s ++ e)))) ++ l
-joined d p o s e l = simp append_assoc
-
-numbered_line_is : (c number place : ℕ) (e : Event) → line_by c number e (Some place) ≡ numbered_body c number (processor_number place) e ++ line_end
-unfolding numbered_body
-numbered_line_is c number place e = ap (λ rest. codes "CH" ++ (octal 2 c ++ (codes " " ++ rest))) (joined (decimal number) (codes " PP") (octal 2 (processor_number place)) (codes " ") (event_text e) line_end)
-
 -- ---- the events of a channel
 
 -- events with their numbers
@@ -61,26 +51,26 @@ unfoldable pub numbered : ℕ → List (ℕ × Event) → List TraceLine
 numbered c events = map (λ ((number, event) : ℕ × Event). Numbered number c event) events
 
 -- what is read of one event more before others, if it has an author
-reads_event : (c number : ℕ) (e : Event) (author : Option ℕ) (text : List ℕ) (more : List PrintedEvent) → IsTrue (names_channel c) → number < 10 ^ 19 → All FitsItsLine (cons_option (printed_by number e author) more)
-    → (All FitsItsLine more → Reads text (numbered c (map with_number more))) → Reads (line_by c number e author ++ text) (numbered c (map with_number (cons_option (printed_by number e author) more)))
+says_event : (c number : ℕ) (e : Event) (author : Option ℕ) (text : List ℕ) (more : List PrintedEvent) → IsTrue (names_channel c) → number < 10 ^ 19 → All FitsItsLine (cons_option (printed_by number e author) more)
+    → (All FitsItsLine more → Says Tells text (numbered c (map with_number more))) → Says Tells (line_by c number e author ++ text) (numbered c (map with_number (cons_option (printed_by number e author) more)))
 unfolding numbered
-reads_event c number e None text more names below fits rest = rest fits
-reads_event c number e (Some place) text more names below fits rest =
-    let told : PrintedEvent = record { number = number; author = processor_number place; event = e } in
+says_event c number e None text more names below fits rest = rest fits
+says_event c number e (Some place) text more names below fits rest =
+    let n = processor_number place in
+    let told : PrintedEvent = record { number = number; author = n; event = e } in
     let here = All-head FitsItsLine told more fits in
-    reads_both (line_by c number e (Some place)) text (Numbered number c e ∷ []) (numbered c (map with_number more))
-    (subst (λ (l : List ℕ). Reads l (Numbered number c e ∷ [])) (sym (numbered_line_is c number place e))
-    (reads_line (numbered_body c number (processor_number place) e) (Numbered number c e) (plain_numbered c number (processor_number place) e) (numbered_line_read c number (processor_number place) e names below here.author here.word)))
+    says_both Tells (line_by c number e (Some place)) text (Numbered number c e ∷ []) (numbered c (map with_number more))
+    (subst (λ l. Says Tells l (Numbered number c e ∷ [])) (sym (numbered_line_is c number place e)) (tells_fields (numbered_fields c number n e) (Numbered number c e) (are_numbered_fields c number n e) (numbered_line_read c number n e names below here.author here.word)))
     (rest (All-tail FitsItsLine told more fits))
 
-reads_from : {Z : Type 0} (workers : List (Worker Z)) (c : ℕ) → IsTrue (names_channel c) → (k : ℕ) (es : List Event)
+says_from : {Z : Type 0} (workers : List (Worker Z)) (c : ℕ) → IsTrue (names_channel c) → (k : ℕ) (es : List Event)
     → All FitsItsLine (filter_map (λ ((number, event) : ℕ × Event). printed_by number event (author_place c workers number)) (enumerate_from k es))
-    → k + length es < 10 ^ 19 → Reads (flat_map (numbered_event_line c workers) (enumerate_from k es)) (numbered c (map with_number (filter_map (λ ((number, event) : ℕ × Event). printed_by number event (author_place c workers number)) (enumerate_from k es))))
+    → k + length es < 10 ^ 19 → Says Tells (flat_map (numbered_event_line c workers) (enumerate_from k es)) (numbered c (map with_number (filter_map (λ ((number, event) : ℕ × Event). printed_by number event (author_place c workers number)) (enumerate_from k es))))
 unfolding numbered numbered_event_line
-reads_from workers c names k [] fits few = λ rest. refl
-reads_from {Z} workers c names k (e ∷ es) fits few =
-    reads_event c k e (author_place c workers k) (flat_map (numbered_event_line c workers) (enumerate_from (k + 1) es)) (filter_map (λ ((number, event) : ℕ × Event). printed_by number event (author_place c workers number)) (enumerate_from (k + 1) es))
-    names (omega (arith, few)) fits (λ rest. reads_from workers c names (k + 1) es rest (omega (arith, few)))
+says_from workers c names k [] fits few = λ rest more is. is
+says_from {Z} workers c names k (e ∷ es) fits few =
+    says_event c k e (author_place c workers k) (flat_map (numbered_event_line c workers) (enumerate_from (k + 1) es)) (filter_map (λ ((number, event) : ℕ × Event). printed_by number event (author_place c workers number)) (enumerate_from (k + 1) es))
+    names (omega (arith, few)) fits (λ rest. says_from workers c names (k + 1) es rest (omega (arith, few)))
 
 -- ---- the lines of a channel among others
 
@@ -139,21 +129,9 @@ module _ (opened : List Bool) (histories : List (List Event)) where
 
 -- ---- the parts of the text
 
-end_lines : {Z : Type 0} → Option (Worker Z) → List TraceLine
-end_lines None = []
-end_lines (Some worker) = Other ∷ []
-
-reads_worker : {Z : Type 0} (n : ℕ) (o : Option (Worker Z)) → IsTrue (names_processor n) → Reads (worker_line n o) (end_lines o)
-unfolding end_lines
-reads_worker n None names = λ rest. refl
-reads_worker n (Some worker) names =
-    let said = end_text worker.finish in
-    subst (λ (text : List ℕ). Reads text (Other ∷ [])) (sym (processor_line_is n worker.pp said))
-    (reads_line (processor_body n worker.pp said) Other (plain_processor n worker.pp said (plain_end worker.finish)) (processor_line_read n worker.pp said (plain_end worker.finish) names))
-
--- a text, and a line without fields behind it
-pub text_reads : (text : List ℕ) (lines : List TraceLine) → Reads text lines → map parsed_line (lines_of text) ≡ map (λ l. Some l) (lines ++ Other ∷ [])
-text_reads text lines reads = grind (arith, append-nil, no_text, map_both)
+shown_worker : {Z : Type 0} (opened : List Bool) (events : List TraceLine) (n : ℕ) (o : Option (Worker Z)) → IsTrue (names_processor n) → IsShown opened events (worker_line n o)
+shown_worker opened events n None names = shown_none opened events
+shown_worker opened events n (Some worker) names = shown_processor opened events n worker.pp (end_text worker.finish) (plain_end worker.finish) names
 
 -- a report over what was open before, with what the lines of its text want
 pub record StandsOver {Z : Type 0} (named : List Bool) (report : Report Z) (opened : List Bool) : Type 0 where
@@ -169,38 +147,16 @@ module _ {Z : Type 0} (named : List Bool) (report : Report Z) (opened : List Boo
   event_lines c =
       if names_channel c then numbered c (map with_number (printed_on c report)) else []
 
-  worker_lines : ℕ → List TraceLine
-  worker_lines n =
-      if is_named named n then end_lines (slice_get report.ends.items (processor_index n)) else []
-
-  all_events : List TraceLine
+  pub all_events : List TraceLine
   all_events = each_below 0o100 event_lines
 
-  shown_lines : List TraceLine
-  shown_lines =
-      each_below 0o100 worker_lines ++ (each_below 0o100 (channel_lines report.channels) ++ Other ∷ [])
-
-  reads_events : (c : ℕ) → Reads (numbered_channel_events report.ends.items report.channels c) (event_lines c)
-  unfolding event_lines
-  reads_events c = reads_if (names_channel c) _ (numbered c (map with_number (printed_on c report))) (λ names. reads_from report.ends.items c names 0 (history_on c report.channels) (is.fits.events c names) (omega (arith, is.few_events c names)))
-
-  reads_workers : (n : ℕ) → Reads (named_worker_line named report.ends.items n) (worker_lines n)
-  unfolding worker_lines
-  reads_workers n = reads_if (is_named named n) _ (end_lines (slice_get report.ends.items (processor_index n))) (λ at. reads_worker n (slice_get report.ends.items (processor_index n)) (and_parts (names_processor n) (slice_index_or named (processor_index n) false) at).0)
-
-  said : map parsed_line (lines_of (printed_report named report)) ≡ map (λ l. Some l) (((all_events ++ each_below 0o100 worker_lines) ++ each_below 0o100 (channel_lines report.channels)) ++ Other ∷ [])
-  unfolding printed_report all_events
-  said =
-      let events = flat_map (channel_events report.ends.items report.channels) all_channels in
-      let workers = flat_map (named_worker_line named report.ends.items) all_processors in
-      let channels = flat_map (used_channel_line report.channels) all_channels in
-      text_reads (printed_report named report) _ (reads_both (events ++ workers) channels _ _
-      (reads_both events workers _ _ (reads_channels (channel_events report.ends.items report.channels) event_lines reads_events) (reads_processors (named_worker_line named report.ends.items) worker_lines (unnamed_line named report.ends.items) reads_workers))
-      (reads_channels (used_channel_line report.channels) (channel_lines report.channels) (reads_channel report.channels is.fits.channels)))
-
-  text_says : parsed_lines (lines_of (printed_report named report)) ≡ all_events ++ shown_lines
-  unfolding shown_lines
-  text_says = said_is (lines_of (printed_report named report)) _ said ∙ simp append_assoc
+  says_events : Says Tells (flat_map (channel_events report.ends.items report.channels) all_channels) all_events
+  unfolding all_events event_lines
+  says_events =
+      let events = numbered_channel_events report.ends.items report.channels in
+      rw (channels_by_number (channel_events report.ends.items report.channels), ← each_is_flat 0o100 events)
+      (says_below Tells 0o100 events event_lines (λ c _. says_if Tells (names_channel c) _ (numbered c (map with_number (printed_on c report))) (λ names.
+      says_from report.ends.items c names 0 (history_on c report.channels) (is.fits.events c names) (omega (arith, is.few_events c names)))))
 
   -- the lines of the events tell all histories
   tell_next : (n : ℕ) (lines : List TraceLine) → Tell opened report.channels n lines → (b : Bool) → names_channel n ≡ b → Tell opened report.channels (suc n) (lines ++ (if b then numbered n (map with_number (printed_on n report)) else []))
@@ -218,35 +174,21 @@ module _ {Z : Type 0} (named : List Bool) (report : Report Z) (opened : List Boo
   tell_below zero = tell_none opened report.channels
   tell_below (suc n) = tell_next n (each_below n event_lines) (tell_below n) (names_channel n) refl
 
-  all_shown : AllByRecursion (Shows opened all_events) shown_lines
-  unfolding shown_lines worker_lines channel_lines all_events end_lines
-  all_shown =
-      let events = each_below 0o100 event_lines in
-      let workers = each_below 0o100 worker_lines in
-      let channels = each_below 0o100 (channel_lines report.channels) in
+  pub report_read : IsRead opened all_events (printed_report named report)
+  unfolding printed_report all_events
+  report_read =
       let tell = tell_below 0o100 in
-      all_both opened events workers (channels ++ Other ∷ []) (all_below opened events 0o100 worker_lines (λ n. by_test events (is_named named n) (slice_get report.ends.items (processor_index n))))
-      (all_both opened events channels (Other ∷ []) (all_below opened events 0o100 (channel_lines report.channels) (λ c. by_name events c (tell.told c) (names_channel c) refl)) (tt, tt))
-    where
-      by_test : (events : List TraceLine) (b : Bool) (o : Option (Worker Z)) → AllByRecursion (Shows opened events) (if b then end_lines o else [])
-      by_test events false o = tt
-      by_test events true None = tt
-      by_test events true (Some worker) = (tt, tt)
-
-      by_name : (events : List TraceLine) (c : ℕ) → (c < 0o100 → IsTrue (names_channel c) → history opened events c ≡ history_on c report.channels) → (b : Bool) → names_channel c ≡ b → AllByRecursion (Shows opened events) (if b then state_lines c (history_on c report.channels) else [])
-      by_name events c told false unnamed = tt
-      by_name events c told true names = history_shows opened events c (history_on c report.channels) (told (channel_fits c names) names) (is.lawful c names)
-
-  pub report_lawful : AreLawful opened (lines_of (printed_report named report))
-  unfolding all_events
-  report_lawful = grind (arith, said, all_said, text_says, lawful_shown, all_events, shown_lines, tell_below, all_shown)
+      let workers = report.ends.items in
+      rw (append_assoc (flat_map (channel_events workers report.channels) all_channels) (flat_map (named_worker_line named workers) all_processors) (flat_map (used_channel_line report.channels) all_channels))
+      (text_read opened all_events _ _ says_events tell.lawful
+      (shown_both opened all_events _ _
+      (shown_each opened all_events (λ n. Unit {0}) (named_worker_line named workers) all_processors (λ k d lt. tt) (λ n _.
+      shown_if opened all_events (is_named named n) _ (λ at. shown_worker opened all_events n (slice_get workers (processor_index n)) (and_parts (names_processor n) (slice_index_or named (processor_index n) false) at).0)))
+      (shown_channels opened all_events report.channels (λ c names. (tell.told c (channel_fits c names) names, is.lawful c names)) is.fits.channels)))
 
   pub report_histories : (c : ℕ) → IsTrue (names_channel c) → history opened (parsed_lines (lines_of (printed_report named report))) c ≡ history_on c report.channels
   unfolding all_events
-  report_histories c names =
-      ap (λ (lines : List TraceLine). history opened lines c) text_says
-      ∙ ap (λ (more : List Event). opening opened c ++ more) (events_both c all_events shown_lines ∙ ap (λ (more : List Event). events_on c all_events ++ more) (none_shown opened all_events shown_lines c all_shown) ∙ append-nil (events_on c all_events))
-      ∙ (tell_below 0o100).told c (channel_fits c names) names
+  report_histories c names = ap (λ es. opening opened c ++ es) (report_read.told c) ∙ (tell_below 0o100).told c (channel_fits c names) names
 
 -- ---- a report of a run
 

@@ -13,12 +13,12 @@ use Rattle.pp_deck.specs.DeckLine.{Line, line_after, central_size, central_words
 use Rattle.pp_deck.specs.DeckMeaning.{LoadedDeck, deck_meaning, meaning_of_lines, is_foreign, size_of, loaded, with_dead_start, stated_size}
 use Rattle.pp_deck.specs.Reading.{Progress, before_lines, after_line, after_lines, deck_so_far, progress_of}
 use Rattle.pp_deck.proofs.SectionLemmas.{after_line_parts, current_after}
-use Rattle.pp_deck.specs.DeckText.{is_line_feed, lines_of}
+use Rattle.pp_deck.specs.DeckText.{lines_of}
 use Rattle.pp_deck.proofs.FieldLemmas.{next_line}
 use Rattle.pp_deck.proofs.ProgressLemmas.{after_lines_is}
 use Rattle.pp_deck.proofs.ReadingLemmas.{ReadTo, read_none, read_more, read_blank, read_all}
-use Rattle.pp_listing.specs.ListedLine.{ListedLine, says, listed_text, text_line}
-use Rattle.pp_deck.proofs.FieldTextLemmas.{is_plain, plain_least, plain_most, no_fields, fields_comment, fields_of_plain, octal_field, short_field}
+use Rattle.pp_listing.specs.ListedLine.{ListedLine, says, text_line}
+use Rattle.pp_deck.proofs.FieldTextLemmas.{is_plain, plain_most, no_fields, fields_comment, fields_of_plain, octal_field, short_field}
 use Rattle.pp_listing.proofs.ListedLineLemmas.{fields_said, line_fields, line_plain, no_line_feed}
 use Rattle.std.proofs.lemmas.List.Elements.{All-head, All-tail}
 use Rattle.pp_word.specs.Address.{place_count}
