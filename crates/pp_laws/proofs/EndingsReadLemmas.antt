@@ -1,41 +1,91 @@
 -- The orders that are read from the text of all endings are those that it was printed of.
-use Rattle.std.proofs.Common.{◌≡◌, add-one, ℕ, zero, suc, ◌≤◌, Bool, true, false, cond, eqb, List, [], ◌∷◌, ◌++◌, append-nil, length, take, Some, refl, sym, ap, ◌∙◌, subst, arith}
-use Rattle.std.specs.Prelude.{All, codes, slice_index_or}
-use Rattle.std.specs.List.{flat_map, join_with_byte}
+use Rattle.std.proofs.Common.{◌≡◌, ℕ, ◌+◌, ◌/◌, ◌%◌, Bool, false, eqb, [], ◌++◌, Option, None, Some, refl, arith, add-one, zero, suc, ◌≤◌, true, cond, List, ◌∷◌, append-nil, length, take, sym, ap, ◌∙◌, subst}
+use Rattle.std.specs.Prelude.{codes, All, slice_index_or}
 use Rattle.std.proofs.lemmas.Bool.{ne_eqb}
+use Rattle.pp_word.specs.Numeral.{octal, short_decimal}
+use Rattle.pp_channel.specs.declared.flags.Flags.{Flags}
+use Rattle.pp_machine.specs.MachineState.{MachineState, processor_of}
+use Rattle.pp_processor.specs.declared.{block.Block.Block, block.BlockKind.BlockKind, need.Need.Need, outcome.Outcome.Outcome}
+use Rattle.pp_processor.specs.declared.block.BlockKind.TheVariants.{Input, Output}
+use Rattle.pp_processor.specs.declared.need.Need.TheVariants.{Channel}
+use Rattle.pp_processor.specs.declared.outcome.Outcome.TheVariants.{Held}
+use Rattle.pp_deck.specs.DeckLine.{Line, central_size, central_words, section, start, words}
+use Rattle.pp_deck.proofs.FieldTextLemmas.{octal_plain, is_plain, plain_joined}
+use Rattle.pp_listing.specs.ListedLine.{line_text, deck_line}
+use Rattle.pp_text.specs.InstructionText.{block_text, running_text}
+use Rattle.pp_text.specs.Standing.{block_place_text, flags_text, held_text, standing}
+use Rattle.pp_endings.specs.EndingsText.{going_text, ending_at, ending_text, endings_text, going_line, head_line, order_line}
+use Rattle.pp_listing.proofs.ListedLineLemmas.{IsPlain, instruction_plain, plain_append, plain_if, bare_plain}
+use Rattle.pp_laws.proofs.PrintedLineLemmas.{plain_state, are_channel_fields, channel_field, channel_line_is, plain_processor, processor_body, processor_line_is, state_fields}
+use Rattle.pp_laws.specs.OrdersRead.{names_order, SaysMore, order_named, orders_on, orders_read}
+use Rattle.std.specs.List.{flat_map, join_with_byte}
 use Rattle.std.proofs.lemmas.List.{take_more}
 use lib.Seq.{take_all}
 use Rattle.std.proofs.lemmas.List.Elements.{All-get_or}
 use Rattle.pp_numbers.specs.PpNo.{all_processors, is_named}
 use Rattle.pp_numbers.specs.ChannelNo.{all_channels}
 use Rattle.pp_numbers.specs.declared.profile.Profile.{Profile}
-use Rattle.pp_word.specs.Numeral.{short_decimal}
 use Rattle.pp_channel.specs.History.{active, history_on, waiting}
 use Rattle.pp_channel.specs.declared.event.Event.{Event}
-use Rattle.pp_machine.specs.MachineState.{MachineState, processor_of}
 use Rattle.pp_processor.specs.Processor.{Processor}
 use Rattle.pp_machine.specs.Run.{run}
-use Rattle.pp_deck.specs.DeckLine.{Line}
 use Rattle.pp_deck.specs.DeckMeaning.{LoadedDeck}
 use Rattle.pp_deck.specs.InUse.{in_use}
-use Rattle.pp_deck.proofs.FieldTextLemmas.{is_plain, plain_joined}
-use Rattle.pp_listing.specs.ListedLine.{deck_line, line_text}
 use Rattle.pp_command.specs.OrderList.{listed_steps}
 use Rattle.pp_text.specs.OrderText.{order_text}
 use Rattle.pp_text.specs.PrintedText.{channel_line, each_below, line_end, used_channel_line}
-use Rattle.pp_text.specs.Standing.{standing}
 use Rattle.pp_state.specs.Changes.{changed_central, changed_sections}
 use Rattle.pp_state.specs.StateText.{changes_text}
 use Rattle.pp_orders.specs.Endings.{CanBeListed}
-use Rattle.pp_endings.specs.EndingsText.{ending_at, ending_text, endings_text, going_line, going_text, head_line, order_line}
-use Rattle.pp_laws.specs.OrdersRead.{SaysMore, names_order, order_named, orders_on, orders_read}
-use Rattle.pp_laws.proofs.PlainLemmas.{line_no_order, said_plain}
-use Rattle.pp_listing.proofs.ListedLineLemmas.{IsPlain, bare_plain, plain_append, plain_if}
 use Rattle.pp_listing.proofs.OrderCommentLemmas.{order_plain, plain_digit}
 use Rattle.pp_text.proofs.Telling.{short_decimal_pass}
 use Rattle.pp_laws.proofs.OrderReadLemmas.{read_back}
-use Rattle.pp_laws.proofs.PrintedLineLemmas.{are_channel_fields, channel_field, channel_line_is, plain_processor, processor_body, processor_line_is, state_fields}
 use Rattle.pp_laws.proofs.PrintedTextLemmas.{Says, says_below, says_both, says_none, split_line}
+
+-- ---- how a processor stands
+
+block_plain : (kind : BlockKind) → IsPlain (block_text kind)
+block_plain (Input c) = search octal_plain
+block_plain (Output c) = search octal_plain
+block_plain kind = refl
+
+running_plain : (block : Option Block) (place word m : ℕ) → IsPlain (running_text block place word m)
+running_plain None place word m = instruction_plain place word m
+running_plain (Some block) place word m = block_plain block.kind
+
+block_place_plain : (block : Option Block) → IsPlain (block_place_text block)
+block_place_plain None = refl
+block_place_plain (Some block) = plain_append (codes " BLOCK ") (octal 4 block.place) refl (octal_plain 4 block.place)
+
+flags_plain : (flags : Flags) → IsPlain (flags_text flags)
+flags_plain flags =
+    plain_if flags.active _ (codes "INACTIVE")
+    (plain_if flags.full (codes "ACTIVE FULL") (codes "ACTIVE EMPTY") refl refl) refl
+
+held_plain : (x : Need) (outcome : Outcome) (m : MachineState) → IsPlain (held_text x outcome m 0)
+held_plain (Channel c op) Held m = search (plain_append, octal_plain, flags_plain)
+held_plain (Channel c op) other m = refl
+held_plain x outcome m = refl
+
+going_plain : (goes_on : Bool) → IsPlain (going_text goes_on)
+going_plain goes_on = plain_if goes_on (codes " GOES ON") [] refl refl
+
+standing_plain : (n : ℕ) (m : MachineState) → IsPlain (standing n m 0)
+standing_plain n m = search (plain_append, plain_state, running_plain, block_place_plain, held_plain)
+
+pub said_plain : (n : ℕ) (m : MachineState) (goes_on : Bool) → IsPlain (standing n m 0 ++ going_text goes_on)
+said_plain n m goes_on = plain_append (standing n m 0) (going_text goes_on) (standing_plain n m) (going_plain goes_on)
+
+pub line_no_order : (line : Line) → names_order (line_text line) ≡ false
+line_no_order (central_size n) = refl
+line_no_order (central_words a ws) = refl
+line_no_order (section n) = refl
+line_no_order (start p a) = refl
+line_no_order (words x ws) =
+    let first = x / 8 / 8 / 8 % 8 in
+    let other : eqb (48 + first) 79 ≡ false = ne_eqb (48 + first) 79 (λ e. absurd (omega (arith, e))) in
+    rw other refl
+line_no_order line = refl
 
 module _ (profile : Profile) where
   -- these orders are read of a text

@@ -1,4 +1,4 @@
-use Rattle.pp_laws.proofs.PrintedReportLemmas.{report_histories, report_read, stands_over}
+use Rattle.pp_laws.proofs.PrintedLawLemmas.{report_histories, report_read, stands_over}
 use Rattle.pp_laws.proofs.traces.printed_report_law.Goals as goal
 
 pub returns : goal.returns
