@@ -27,11 +27,9 @@ use Rattle.pp_numbers.specs.ChannelNo.{all_channels}
 use Rattle.pp_numbers.specs.declared.profile.Profile.{Profile}
 use Rattle.pp_channel.specs.History.{active, history_on, waiting}
 use Rattle.pp_channel.specs.declared.event.Event.{Event}
-use Rattle.pp_processor.specs.Processor.{Processor}
 use Rattle.pp_machine.specs.Run.{run}
 use Rattle.pp_deck.specs.DeckMeaning.{LoadedDeck}
 use Rattle.pp_deck.specs.InUse.{in_use}
-use Rattle.pp_command.specs.OrderList.{listed_steps}
 use Rattle.pp_text.specs.OrderText.{order_text}
 use Rattle.pp_text.specs.PrintedText.{channel_line, each_below, line_end, used_channel_line}
 use Rattle.pp_state.specs.Changes.{changed_central, changed_sections}
@@ -100,59 +98,22 @@ module _ (profile : Profile) where
   unfolding orders_read
   line_said line order plain names named rest more is = ap (orders_on profile) (split_line line rest plain) ∙ rw (names, named, is) refl
 
-  -- what stands on the line of an order
-  order_body : List ℕ → List ℕ
-  order_body [] = codes "ORDER"
-  order_body (n ∷ ns) = codes "ORDER " ++ order_text (n ∷ ns)
-
-  order_line_is : (order : List ℕ) → order_body order ++ line_end ≡ order_line order
-  unfolding order_body
-  order_line_is [] = refl
-  order_line_is (n ∷ ns) =
-      let other : eqb (length (n ∷ ns)) 0 ≡ false = ne_eqb (length (n ∷ ns)) 0 (λ e. absurd (omega (arith, e))) in
-      rw other refl
-
-  body_plain : (order : List ℕ) → IsPlain (order_body order)
-  unfolding order_body
-  body_plain [] = refl
-  body_plain (n ∷ ns) = plain_append (codes "ORDER ") (order_text (n ∷ ns)) refl (order_plain (n ∷ ns))
-
-  body_names : (order : List ℕ) → names_order (order_body order) ≡ true
-  unfolding order_body
-  body_names [] = refl
-  body_names (n ∷ ns) = refl
-
-  -- what is read there
-  body_named : (n : ℕ) (ns : List ℕ) → order_named profile (order_body (n ∷ ns)) ≡ listed_steps profile (order_text (n ∷ ns))
-  unfolding order_body
-  body_named n ns =
-      let long : eqb (length (codes "ORDER " ++ order_text (n ∷ ns))) 5 ≡ false = ne_eqb (length (codes "ORDER " ++ order_text (n ∷ ns))) 5 (λ e. absurd (omega (arith, e))) in
-      rw long refl
-
-  nothing_named : order_named profile (order_body []) ≡ Some []
-  unfolding order_body
-  nothing_named = refl
-
-  listed_named : (order : List ℕ) → CanBeListed profile order → order_named profile (order_body order) ≡ Some order
-  listed_named [] listable = nothing_named
-  listed_named (n ∷ ns) listable = body_named n ns ∙ read_back profile (n ∷ ns) (omega arith) listable.few listable.of_machine
-
   says_order : (order : List ℕ) → CanBeListed profile order → Says Reads (order_line order) (order ∷ [])
-  says_order order listable =
-      subst (λ text. Says Reads text (order ∷ [])) (order_line_is order)
-      (line_said (order_body order) order (body_plain order) (body_names order) (listed_named order listable))
+  says_order [] listable = line_said (codes "ORDER") [] refl refl refl
+  says_order (n ∷ ns) listable =
+      let order = n ∷ ns in
+      let line = codes "ORDER " ++ order_text order in
+      rw (ne_eqb (length order) 0 (λ e. absurd (omega (arith, e))))
+      (line_said line order (plain_append (codes "ORDER ") (order_text order) refl (order_plain order)) refl
+      (rw (ne_eqb (length line) 5 (λ e. absurd (omega (arith, e)))) (read_back profile order (omega arith) listable.few listable.of_machine)))
 
   -- ---- what stands behind it
-
-  no_order : (n : ℕ) (pp : Processor) (said : List ℕ) → names_order (processor_body n pp said) ≡ false
-  unfolding processor_body
-  no_order n pp said = refl
 
   passes_processor : (shown going : List Bool) (m : MachineState) (n : ℕ) → Says Reads (going_line shown going m n) []
   passes_processor shown going m n =
       let said = standing n m 0 ++ going_text (is_named going n) in
       by_name (is_named shown n) _ (subst (λ text. Says Reads text []) (sym (processor_line_is n (processor_of n m) said))
-      (other_line (processor_body n (processor_of n m) said) (plain_processor n (processor_of n m) said (said_plain n m (is_named going n))) (no_order n (processor_of n m) said)))
+      (other_line (processor_body n (processor_of n m) said) (plain_processor n (processor_of n m) said (said_plain n m (is_named going n))) refl))
     where
       by_name : (b : Bool) (text : List ℕ) → Says Reads text [] → Says Reads (cond b text []) []
       by_name true text says = says

@@ -1,5 +1,5 @@
 -- An order is read as it is printed.
-use Rattle.std.proofs.Common.{add-one, ◌≡◌, ℕ, zero, suc, ◌+◌, ◌-◌, ◌/◌, ◌%◌, ◌^◌, ◌<◌, ◌≤◌, Bool, true, false, cond, eqb, IsTrue, List, [], ◌∷◌, ◌++◌, append-nil, drop, get_or, length, length-append, map, replicate, Some, None, refl, sym, ap, ◌∙◌, inl, inr, arith}
+use Rattle.std.proofs.Common.{add-one, ◌≡◌, ℕ, zero, suc, ◌+◌, ◌-◌, ◌/◌, ◌%◌, ◌^◌, ◌<◌, ◌≤◌, Bool, true, false, cond, eqb, IsTrue, List, [], ◌∷◌, ◌++◌, append-nil, drop, length, length-append, map, replicate, Some, None, refl, sym, ap, ◌∙◌, inl, inr, arith}
 use Rattle.std.specs.Prelude.{All, codes, nat_lt, not, position, take}
 use Rattle.std.specs.List.{join_with_byte, list_all, position_or_len, slice_split}
 use lib.Seq.{drop-append_seam, drop-drop, take-append-le, take_all}
@@ -9,7 +9,7 @@ use Rattle.std.proofs.lemmas.List.{length-drop, length-replicate}
 use Rattle.std.proofs.lemmas.List.Elements.{All-append, All-drop, All-head, All-nil, All-push, All-tail}
 use Rattle.std.proofs.lemmas.List.Splits.{slice_split_at, slice_split_none}
 use Rattle.std.proofs.lemmas.List.Sums.{AllPass-from_list_all, prefix_len_is}
-use Rattle.pp_word.specs.Numeral.{digit, is_digit, numeral, short_decimal, short_octal, unpadded, value_of}
+use Rattle.pp_word.specs.Numeral.{digit, is_digit, numeral, short_decimal, short_octal, unpadded}
 use Rattle.pp_word.proofs.NumeralLemmas.{Pass, short_pass, short_read}
 use Rattle.pp_text.proofs.Telling.{decimal_digit, short_decimal_pass, short_decimal_value}
 use Rattle.pp_listing.proofs.OrderCommentLemmas.{row_pass}
@@ -195,11 +195,10 @@ read_back profile (n ∷ ns) some few all =
 
 -- ---- what is left of an order
 
-Has : Profile → ℕ → Type 0
+abbrev Has : Profile → ℕ → Type 0
 Has profile n = IsTrue (has_processor profile n)
 
 turn_has : (profile : Profile) (turn : ℕ) → Has profile (processor_in_turn profile turn)
-unfolding Has
 turn_has profile turn =
     let place = turn % processors_in profile in
     let within = rest_within profile turn in
@@ -228,5 +227,4 @@ left_few profile first steps few =
 
 pub left_read : (profile : Profile) (first : List ℕ) (steps : ℕ) → length first ≤ 999999 → All (λ n. IsTrue (has_processor profile n)) first → 0 < length (order_left first profile steps)
     → listed_steps profile (order_text (order_left first profile steps)) ≡ Some (order_left first profile steps)
-unfolding Has
 left_read profile first steps few all some = read_back profile (order_left first profile steps) some (left_few profile first steps few) (left_has profile first steps all)

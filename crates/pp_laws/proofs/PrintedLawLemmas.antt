@@ -3,7 +3,7 @@ use Rattle.std.proofs.Common.{All, ◌≡◌, ◌≢◌, ◌∙◌, ℕ, zero, s
 use Rattle.std.specs.Prelude.{IsTrue, if◌then◌else◌, slice_get, slice_index_or, ◌==◌, IfSome}
 use Rattle.std.specs.List.{cons_option, enumerate_from, filter_map, flat_map, list_all, last_or}
 use Rattle.std.proofs.lemmas.Bool.{and_parts, cases_eq, ne_eqb}
-use Rattle.std.proofs.lemmas.List.{append-nil, length_push, take_more}
+use Rattle.std.proofs.lemmas.List.{append-nil, length-map, length_push, take_more}
 use Rattle.std.proofs.lemmas.List.Elements.{All-head, All-tail}
 use Rattle.pp_numbers.proofs.ChannelNoLemmas.{channel_fits}
 use Rattle.pp_channel.proofs.FrontLemmas.{lawful_front}
@@ -38,13 +38,13 @@ use Rattle.pp_machine.specs.Headline as headline
 use Rattle.pp_machine.specs.declared.trace.Trace.{Trace}
 use Rattle.pp_text.specs.TextLaw.{EventFits}
 
-unfoldable pub at_turn : Trace → TraceLine
+abbrev pub at_turn : Trace → TraceLine
 at_turn e = AtTurn e.turn e.channel e.event
 
 -- ---- the events of the barrel
 
 told_events : (c : ℕ) (trace : List Trace) → events_on c (map at_turn trace) ≡ headline.events_on c trace
-unfolding at_turn events_on
+unfolding events_on
 told_events c [] = refl
 told_events c (e ∷ trace) = ap (cons_option (if e.channel == c then Some e.event else None)) (told_events c trace)
 
@@ -85,13 +85,12 @@ rising_fits ts rise (suc k) within =
     subst (λ (o : Option ℕ). IfSome o (λ l. l < get_or ts (suc k) 0)) (sym at) next
 
 turn_at : (trace : List Trace) (k : ℕ) → k < length (map at_turn trace) → turn_of (get_or (map at_turn trace) k Other) ≡ Some (get_or (map (λ e. e.turn) trace) k 0)
-unfolding at_turn
 turn_at [] k within = absurd (omega (arith, within))
 turn_at (e ∷ trace) zero within = refl
 turn_at (e ∷ trace) (suc k) within = turn_at trace k (omega (arith, within))
 
 front_turns : (trace : List Trace) (k : ℕ) → turns (take k (map at_turn trace)) ≡ take k (map (λ e. e.turn) trace)
-unfolding at_turn turns
+unfolding turns
 front_turns trace zero = refl
 front_turns [] (suc k) = refl
 front_turns (e ∷ trace) (suc k) = ap (λ (more : List ℕ). e.turn ∷ more) (front_turns trace k)
@@ -100,10 +99,6 @@ fits_by_turn : (opened : List Bool) (before : List TraceLine) (line : TraceLine)
 fits_by_turn opened before (AtTurn t c e) turn is less = grind arith
 fits_by_turn opened before line turn is less = absurd (cc)
 
-as_many : (trace : List Trace) → length (map at_turn trace) ≡ length (map (λ e. e.turn) trace)
-as_many [] = refl
-as_many (e ∷ trace) = omega (arith, as_many trace)
-
 lawful_events : (named : List Bool) (m : MachineState) (opened : List Bool) → IsPrintable named m → AreOpenedBy m opened → IsLawfulTrace opened (map at_turn m.trace)
 unfolding last_turn
 lawful_events named m opened is opens = record {
@@ -111,7 +106,7 @@ lawful_events named m opened is opens = record {
   each_fits = λ k within.
       let ts = map (λ e. e.turn) m.trace in
       fits_by_turn opened (take k (map at_turn m.trace)) (get_or (map at_turn m.trace) k Other) (get_or ts k 0) (turn_at m.trace k within)
-      (subst (λ (o : Option ℕ). IfSome o (λ last. last < get_or ts k 0)) (sym (ap (last_or None) (front_turns m.trace k))) (rising_fits ts is.rising k (omega (arith, within, as_many m.trace))));
+      (subst (λ (o : Option ℕ). IfSome o (λ last. last < get_or ts k 0)) (sym (ap (last_or None) (front_turns m.trace k))) (rising_fits ts is.rising k (omega (arith, within, length-map m.trace at_turn, length-map m.trace (λ e. e.turn)))));
 }
 
 -- ---- the text of a machine
@@ -120,7 +115,6 @@ abbrev IsShort : Trace → Type 0
 IsShort e = EventFits e × (e.turn < 10 ^ 19)
 
 says_event : (e : Trace) → IsShort e → Says Tells (event_line e) (at_turn e ∷ [])
-unfolding at_turn
 says_event e (fits, short) = subst (λ text. Says Tells text (at_turn e ∷ [])) (sym (event_line_is e)) (tells_fields (trace_fields e) (at_turn e) (are_trace_fields e) (event_line_read e fits short))
 
 pub printed_read : (named : List Bool) (m : MachineState) (opened : List Bool) → IsPrintable named m → AreOpenedBy m opened → IsRead opened (map at_turn m.trace) (printed named m)
@@ -131,8 +125,8 @@ printed_read named m opened is opens =
     (text_read opened events _ _ (says_map Tells IsShort event_line at_turn m.trace (λ k d lt. (is.fits.trace k d lt, is.few_turns k d lt)) says_event) (lawful_events named m opened is opens)
     (shown_both opened events _ _
     (shown_each opened events (λ n. Unit {0}) (named_processor_line named m) all_processors (λ k d lt. tt) (λ n _.
-        let pp = processor_of n m in
-        shown_if opened events (is_named named n) _ (λ at. shown_processor opened events n pp (state_text pp.state) (plain_state pp.state) (and_parts (names_processor n) (slice_index_or named (processor_index n) false) at).0)))
+    let pp = processor_of n m in
+    shown_if opened events (is_named named n) _ (λ at. shown_processor opened events n pp (state_text pp.state) (plain_state pp.state) (and_parts (names_processor n) (slice_index_or named (processor_index n) false) at).0)))
     (shown_channels opened events m.histories (λ c names. (history_told named m opened is opens c names, (is.headline c names).lawful)) is.fits.channels)))
 
 pub printed_events : (named : List Bool) (m : MachineState) (opened : List Bool) → IsPrintable named m → AreOpenedBy m opened → (c : ℕ) → events_on c (parsed_lines (lines_of (printed named m))) ≡ headline.events_on c m.trace

@@ -12,7 +12,7 @@ use Rattle.pp_channel.specs.declared.event.Event.TheVariants.{Activate, Disconne
 use Rattle.pp_deck.proofs.FieldTextLemmas.{IsField, decimal_is_field, fields_first, fields_of_plain, is_plain, octal_ink, octal_is_field, octal_plain}
 use Rattle.pp_deck.specs.DeckText.{fields_of}
 use Rattle.pp_numbers.proofs.PpNoLemmas.{processor_fits}
-use Rattle.pp_numbers.specs.PpNo.{names_processor}
+use Rattle.pp_numbers.specs.PpNo.{names_processor, processor_number}
 use Rattle.pp_processor.specs.Processor.{Processor}
 use Rattle.pp_processor.specs.declared.{pp_state.PpState.PpState}
 use Rattle.pp_machine.specs.declared.{trace.Trace.Trace}
@@ -20,7 +20,6 @@ use Rattle.pp_processor.specs.declared.pp_state.PpState.TheVariants.{Fault}
 use Rattle.pp_word.specs.Numeral.{decimal, is_digit, numeral, octal}
 use Rattle.pp_word.proofs.NumeralLemmas.{decimal_are, decimal_read, octal_read}
 use Rattle.pp_listing.proofs.ListedLineLemmas.{plain_append}
-use Rattle.pp_numbers.specs.PpNo.{processor_number}
 use Rattle.pp_report.specs.PrintedReport.{line_by}
 use Rattle.pp_channel.specs.ChannelText.{channel_text}
 use Rattle.pp_text.specs.PrintedText.{channel_line as printed_channel_line, event_line, event_text, line_end, processor_line, state_text}
@@ -73,7 +72,7 @@ count_no_channel n = rw (digit_first 67 72 (decimal n) (omega arith) (decimal_ar
 
 -- ---- events
 
-pub event_fields : Event → List (List ℕ)
+abbrev pub event_fields : Event → List (List ℕ)
 event_fields Activate = codes "ACN" ∷ []
 event_fields Disconnect = codes "DCN" ∷ []
 event_fields (Put w) = codes "PUT" ∷ octal 4 w ∷ []
@@ -81,7 +80,6 @@ event_fields (Take w) = codes "TAK" ∷ octal 4 w ∷ []
 event_fields (Function w) = codes "FNC" ∷ octal 4 w ∷ []
 
 are_event_fields : (e : Event) → AllByRecursion IsField (event_fields e)
-unfolding event_fields
 are_event_fields Activate = (record { some = omega arith; ink = refl }, tt)
 are_event_fields Disconnect = (record { some = omega arith; ink = refl }, tt)
 are_event_fields (Put w) = (record { some = omega arith; ink = refl }, (octal_is_field 4 w (omega arith), tt))
@@ -90,13 +88,12 @@ are_event_fields (Function w) = (record { some = omega arith; ink = refl }, (oct
 
 -- behind another field
 event_joined : (field : List ℕ) (e : Event) → field ++ 32 ∷ event_text e ≡ join_with_byte 32 (field ∷ event_fields e)
-unfolding event_fields
 event_joined field Activate = refl
 event_joined field Disconnect = refl
 event_joined field e = grind arith
 
 event_read : (e : Event) → HasTwelveBitWord e → parsed_event (event_fields e) ≡ Some e
-unfolding event_fields parsed_event
+unfolding parsed_event
 event_read Activate bits = refl
 event_read Disconnect bits = refl
 event_read (Put w) bits = rw (octal_read 4 4 w (omega arith) (omega arith) (omega (arith, bits))) refl
@@ -122,11 +119,11 @@ event_line_read e told below = grind (arith, count_no_processor, count_no_channe
 -- ---- the line of a processor
 
 -- what stands in it, with what is said of the processor last
-unfoldable pub processor_body : ℕ → Processor → List ℕ → List ℕ
+abbrev pub processor_body : ℕ → Processor → List ℕ → List ℕ
 processor_body n pp said = processor_field n ++ (32 ∷ codes "P=" ++ octal 4 pp.p ++ (codes " A=" ++ octal 6 pp.a ++ (codes " " ++ said)))
 
 pub processor_line_is : (n : ℕ) (pp : Processor) (said : List ℕ) → processor_line n pp said ≡ processor_body n pp said ++ line_end
-unfolding processor_line processor_body
+unfolding processor_line
 processor_line_is n pp said = simp append_assoc
 
 pub plain_state : (state : PpState) → list_all is_plain (state_text state) ≡ true
@@ -134,11 +131,10 @@ plain_state (Fault number) = octal_plain 1 number
 plain_state state = refl
 
 pub plain_processor : (n : ℕ) (pp : Processor) (said : List ℕ) → list_all is_plain said ≡ true → list_all is_plain (processor_body n pp said) ≡ true
-unfolding processor_body
 plain_processor n pp said plain = search (plain_append, octal_plain, plain)
 
 pub processor_line_read : (n : ℕ) (pp : Processor) (said : List ℕ) → list_all is_plain said ≡ true → IsTrue (names_processor n) → parsed_line (fields_of (processor_body n pp said)) ≡ Some Other
-unfolding parsed_line processor_body
+unfolding parsed_line
 processor_line_read n pp said plain names =
     let rest = codes "P=" ++ octal 4 pp.p ++ (codes " A=" ++ octal 6 pp.a ++ (codes " " ++ said)) in
     ap parsed_line (fields_of_plain (processor_body n pp said) (plain_processor n pp said plain) ∙ fields_first (processor_field n) rest (is_processor_field n))
@@ -167,34 +163,30 @@ numbered_line_read c number n e names below author bits =
 
 -- ---- the line of a channel
 
-pub state_fields : Bool → Option ℕ → List (List ℕ)
+abbrev pub state_fields : Bool → Option ℕ → List (List ℕ)
 state_fields is_active (Some w) = codes "ACTIVE" ∷ codes "FULL" ∷ octal 4 w ∷ []
 state_fields true None = codes "ACTIVE" ∷ codes "EMPTY" ∷ []
 state_fields false None = codes "INACTIVE" ∷ []
 
 -- the state that the words of a line tell
-unfoldable pub shown_state : Bool → Option ℕ → ChannelState
+abbrev pub shown_state : Bool → Option ℕ → ChannelState
 shown_state is_active (Some w) = full_with w
 shown_state true None = empty
 shown_state false None = inactive
 
 pub channel_line_is : (c : ℕ) (e : Event) (h : List Event) → printed_channel_line c (e ∷ h) ≡ line_of (channel_field c ∷ state_fields (active (e ∷ h)) (waiting (e ∷ h)))
-unfolding state_fields
 channel_line_is c e h = by_state (active (e ∷ h)) (waiting (e ∷ h))
   where
     by_state : (is_active : Bool) (word : Option ℕ) → codes "CH" ++ octal 2 c ++ codes " " ++ channel_text is_active word ++ line_end ≡ line_of (channel_field c ∷ state_fields is_active word)
-    by_state is_active (Some w) = refl
-    by_state true None = refl
-    by_state false None = refl
+    by_state is_active word = grind arith
 
 pub are_channel_fields : (c : ℕ) (is_active : Bool) (word : Option ℕ) → AllByRecursion IsField (channel_field c ∷ state_fields is_active word)
-unfolding state_fields
 are_channel_fields c is_active (Some w) = (is_channel_field c, (record { some = omega arith; ink = refl }, (record { some = omega arith; ink = refl }, (octal_is_field 4 w (omega arith), tt))))
 are_channel_fields c true None = (is_channel_field c, (record { some = omega arith; ink = refl }, (record { some = omega arith; ink = refl }, tt)))
 are_channel_fields c false None = (is_channel_field c, (record { some = omega arith; ink = refl }, tt))
 
 pub channel_line_read : (c : ℕ) (is_active : Bool) (word : Option ℕ) → IsTrue (names_channel c) → IfSome word (λ w. w < 2 ^ 12) → parsed_line (channel_field c ∷ state_fields is_active word) ≡ Some (Standing c (shown_state is_active word))
-unfolding parsed_line channel_line state_fields parsed_state shown_state numeral
+unfolding parsed_line channel_line parsed_state numeral
 channel_line_read c is_active word names bits = rw (channel_no_processor c, channel_read c names) (by_word is_active word bits)
   where
     by_word : (is_active : Bool) (word : Option ℕ) → IfSome word (λ w. w < 2 ^ 12) → channel_line c (state_fields is_active word) ≡ Some (Standing c (shown_state is_active word))

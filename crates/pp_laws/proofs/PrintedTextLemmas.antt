@@ -121,7 +121,6 @@ unfolding events_on
 events_both c xs ys = filter_map-append (event_on c) xs ys
 
 shown_by_state : (h : List Event) (s : State) → FitsState h s → shown_state (active h) (waiting h) ≡ channel_state h
-unfolding shown_state
 shown_by_state h s fits = grind (arith, active_at, full_at, waiting_at, is_active, held_word)
 
 module _ (opened : List Bool) (events : List TraceLine) where
