@@ -1,9 +1,9 @@
 -- Fields that were printed are read as they stand; printed numbers are such fields, and octal ones are read back.
-use Rattle.std.proofs.Common.{◌≡◌, ℕ, zero, suc, replicate, ◌-◌, ◌<◌, ◌≤◌, Bool, true, false, not, List, [], ◌∷◌, ◌++◌, length, get_or, refl, sym, ap, ◌∙◌, arith, ◌+◌, ◌^◌, Option, Ok, lit<}
+use Rattle.std.proofs.Common.{◌≡◌, ℕ, zero, suc, replicate, ◌-◌, ◌<◌, ◌≤◌, Bool, true, false, not, List, [], ◌∷◌, ◌++◌, length, get_or, refl, sym, ap, ◌∙◌, arith, ◌+◌, ◌^◌, Option, Ok, lit<, append_assoc}
 use Rattle.std.specs.Prelude.{nat_le, filter, slice_index, ◌==◌, ◌&&◌}
-use Rattle.std.specs.List.{list_all, slice_split, onto_first, take_while, All}
+use Rattle.std.specs.List.{AllByRecursion, join_with_byte, list_all, slice_split, onto_first, take_while, All}
 use Rattle.std.proofs.lemmas.Bool.{and_from, and_parts, cond-false, le-leb, leb-true, ne_eqb}
-use Rattle.std.proofs.lemmas.List.{append-nil}
+use Rattle.std.proofs.lemmas.List.Folds.{list_all-append}
 use Rattle.std.proofs.lemmas.List.Sums.{take_while-cons, AllPass-from_list_all}
 use Rattle.std.proofs.lemmas.List.Splits.{slice_split-cons_yes, slice_split-cons_no, slice_split_none, slice_split_at}
 use Rattle.pp_deck.specs.DeckText.{is_blank, is_comment, is_nonempty, fields_in, fields_of}
@@ -63,20 +63,15 @@ no_more : pieces [] ≡ []
 unfolding pieces
 no_more = refl
 
--- a text that begins with a blank or is empty, so that a field may stand before it, and its fields
-abbrev pub IsTail : List ℕ → List (List ℕ) → Type 0
-IsTail text fields = (field : List ℕ) → IsField field → fields_in (field ++ text) ≡ field ∷ fields
+-- a field at the end of a text
+fields_last : (field : List ℕ) → IsField field → fields_in field ≡ field ∷ []
+fields_last [] h = absurd (omega (arith, h.some))
+fields_last (c ∷ field) h = grind (arith, fields_are, pieces, slice_split_none, no_blanks, field_piece, no_more)
 
-pub tail_none : IsTail [] []
-tail_none [] h = absurd (omega (arith, h.some))
-tail_none (c ∷ field) h = grind (arith, append-nil, fields_are, pieces, slice_split_none, no_blanks, field_piece, no_more)
-
-pub tail_blank : (text : List ℕ) → IsTail (32 ∷ text) (fields_in text)
-tail_blank text [] h = absurd (omega (arith, h.some))
-tail_blank text (c ∷ field) h = grind (arith, fields_are, pieces, slice_split_at, no_blanks, field_piece)
-
-pub tail_field : (field text : List ℕ) (fields : List (List ℕ)) → IsField field → IsTail text fields → IsTail (32 ∷ field ++ text) (field ∷ fields)
-tail_field field text fields h tail = λ first is. tail_blank (field ++ text) first is ∙ ap (λ (more : List (List ℕ)). first ∷ more) (tail field h)
+-- one before a blank
+pub fields_first : (field text : List ℕ) → IsField field → fields_in (field ++ 32 ∷ text) ≡ field ∷ fields_in text
+fields_first [] text h = absurd (omega (arith, h.some))
+fields_first (c ∷ field) text h = grind (arith, fields_are, pieces, slice_split_at, no_blanks, field_piece)
 
 pub fields_blank : (text : List ℕ) → fields_in (32 ∷ text) ≡ fields_in text
 fields_blank text = fields_are (32 ∷ text) ∙ ap pieces (slice_split-cons_yes is_blank 32 text refl) ∙ empty_piece (slice_split is_blank text) ∙ sym (fields_are text)
@@ -90,13 +85,6 @@ star_piece (part ∷ parts) = take_while-cons (λ field. not (is_comment field))
 pub fields_comment : (text : List ℕ) → fields_in (42 ∷ text) ≡ []
 fields_comment text = fields_are (42 ∷ text) ∙ ap pieces (slice_split-cons_no is_blank 42 text refl) ∙ star_piece (slice_split is_blank text)
 
--- a field at the end of a text
-pub fields_last : (field : List ℕ) → IsField field → fields_in field ≡ field ∷ []
-fields_last field h = ap fields_in (sym (append-nil field)) ∙ tail_none field h
-
-pub tail_last : (field : List ℕ) → IsField field → IsTail (32 ∷ field) (field ∷ [])
-tail_last field h = λ first is. tail_blank field first is ∙ ap (λ (more : List (List ℕ)). first ∷ more) (fields_last field h)
-
 pub no_fields : fields_in [] ≡ []
 unfolding fields_in
 no_fields = refl
@@ -106,8 +94,28 @@ pub blanks_comment : (k : ℕ) (text : List ℕ) → fields_in (replicate k 32 +
 blanks_comment zero text = fields_comment text
 blanks_comment (suc k) text = fields_blank (replicate k 32 ++ 42 ∷ text) ∙ blanks_comment k text
 
-pub tail_comment : (k : ℕ) (text : List ℕ) → IsTail (32 ∷ replicate k 32 ++ 42 ∷ text) []
-tail_comment k text = λ field h. tail_blank (replicate k 32 ++ 42 ∷ text) field h ∙ ap (λ (more : List (List ℕ)). field ∷ more) (blanks_comment k text)
+-- ---- fields with a blank between each two
+
+pub fields_joined : (fields : List (List ℕ)) → AllByRecursion IsField fields → fields_in (join_with_byte 32 fields) ≡ fields
+fields_joined [] all = no_fields
+fields_joined (field ∷ []) all = fields_last field all.0
+fields_joined (field ∷ next ∷ fields) all = fields_first field _ all.0 ∙ ap (λ more. field ∷ more) (fields_joined (next ∷ fields) all.1)
+
+-- before what has none
+pub fields_commented : (field : List ℕ) (fields : List (List ℕ)) (text : List ℕ) → AllByRecursion IsField (field ∷ fields) → fields_in text ≡ [] → fields_in (join_with_byte 32 (field ∷ fields) ++ 32 ∷ text) ≡ field ∷ fields
+fields_commented field [] text all none = fields_first field text all.0 ∙ ap (λ more. field ∷ more) none
+fields_commented field (next ∷ fields) text all none =
+    ap fields_in (append_assoc field (32 ∷ join_with_byte 32 (next ∷ fields)) (32 ∷ text)) ∙ fields_first field _ all.0
+    ∙ ap (λ more. field ∷ more) (fields_commented next fields text all.1 none)
+
+ink_plain : (field : List ℕ) → list_all is_ink field ≡ true → list_all is_plain field ≡ true
+ink_plain [] ink = refl
+ink_plain (c ∷ field) ink = grind (arith, and_parts, and_from, ink_least, le-leb, ink_plain field)
+
+pub plain_joined : (fields : List (List ℕ)) → AllByRecursion IsField fields → list_all is_plain (join_with_byte 32 fields) ≡ true
+plain_joined [] all = refl
+plain_joined (field ∷ []) all = ink_plain field all.0.ink
+plain_joined (field ∷ next ∷ fields) all = list_all-append is_plain field (32 ∷ join_with_byte 32 (next ∷ fields)) ∙ and_from _ _ (ink_plain field all.0.ink) (plain_joined (next ∷ fields) all.1)
 
 -- a line that does not end in CR
 plain_here : (line : List ℕ) (i : ℕ) → list_all is_plain line ≡ true → (slice_index line i == 13) ≡ false
@@ -117,6 +125,10 @@ plain_here (c ∷ line) (suc i) e = plain_here line i (and_parts (is_plain c) (l
 
 pub fields_of_plain : (line : List ℕ) → list_all is_plain line ≡ true → fields_of line ≡ fields_in line
 fields_of_plain line e = ap fields_in (cond-false (slice_index line (length line - 1) == 13) _ line (plain_here line (length line - 1) e))
+
+-- so are they read as a line
+pub fields_read : (fields : List (List ℕ)) → AllByRecursion IsField fields → fields_of (join_with_byte 32 fields) ≡ fields
+fields_read fields all = fields_of_plain (join_with_byte 32 fields) (plain_joined fields all) ∙ fields_joined fields all
 
 ink_digit : Pass 10 is_ink
 ink_digit d lt = and_from (nat_le 43 (48 + d)) (nat_le (48 + d) 126) (le-leb 43 (48 + d) (omega arith)) (le-leb (48 + d) 126 (omega (arith, lt)))

@@ -9,10 +9,8 @@ mod RisingTurnLemmas
 mod PrintedLineLemmas
 mod PrintedTextLemmas
 mod PrintedLawLemmas
-mod PrintedReportLemmas
 mod ReportLemmas
 mod GoingOnLemmas
 mod OrderReadLemmas
-mod PlainLemmas
 mod EndingsReadLemmas
 mod OneEndingLemmas

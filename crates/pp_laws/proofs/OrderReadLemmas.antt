@@ -1,5 +1,5 @@
 -- An order is read as it is printed.
-use Rattle.std.proofs.Common.{◌≡◌, ℕ, zero, suc, ◌+◌, ◌-◌, ◌/◌, ◌%◌, ◌^◌, ◌<◌, ◌≤◌, Bool, true, false, cond, eqb, IsTrue, List, [], ◌∷◌, ◌++◌, append-nil, drop, get_or, length, length-append, map, replicate, Some, None, refl, sym, ap, ◌∙◌, inl, inr, arith}
+use Rattle.std.proofs.Common.{add-one, ◌≡◌, ℕ, zero, suc, ◌+◌, ◌-◌, ◌/◌, ◌%◌, ◌^◌, ◌<◌, ◌≤◌, Bool, true, false, cond, eqb, IsTrue, List, [], ◌∷◌, ◌++◌, append-nil, drop, length, length-append, map, replicate, Some, None, refl, sym, ap, ◌∙◌, inl, inr, arith}
 use Rattle.std.specs.Prelude.{All, codes, nat_lt, not, position, take}
 use Rattle.std.specs.List.{join_with_byte, list_all, position_or_len, slice_split}
 use lib.Seq.{drop-append_seam, drop-drop, take-append-le, take_all}
@@ -9,7 +9,7 @@ use Rattle.std.proofs.lemmas.List.{length-drop, length-replicate}
 use Rattle.std.proofs.lemmas.List.Elements.{All-append, All-drop, All-head, All-nil, All-push, All-tail}
 use Rattle.std.proofs.lemmas.List.Splits.{slice_split_at, slice_split_none}
 use Rattle.std.proofs.lemmas.List.Sums.{AllPass-from_list_all, prefix_len_is}
-use Rattle.pp_word.specs.Numeral.{digit, is_digit, numeral, short_decimal, short_octal, unpadded, value_of}
+use Rattle.pp_word.specs.Numeral.{digit, is_digit, numeral, short_decimal, short_octal, unpadded}
 use Rattle.pp_word.proofs.NumeralLemmas.{Pass, short_pass, short_read}
 use Rattle.pp_text.proofs.Telling.{decimal_digit, short_decimal_pass, short_decimal_value}
 use Rattle.pp_listing.proofs.OrderCommentLemmas.{row_pass}
@@ -40,10 +40,6 @@ unpadded_short (suc most) (suc k) n h =
           rw (ne_eqb n 0 some) (omega (arith, short, all))
     ]
 
-read_number : (n : ℕ) (text : List ℕ) → 1 ≤ length text → length text ≤ 6 → list_all (is_digit 10) text ≡ true → value_of 10 text ≡ n → numeral 10 6 text ≡ Some n
-unfolding numeral
-read_number n text some short digits value = grind (arith, le-leb)
-
 decimal_length : (n : ℕ) → n ≤ 999999 → (1 ≤ length (short_decimal n)) × (length (short_decimal n) ≤ 6)
 unfolding short_decimal
 decimal_length n few =
@@ -52,7 +48,8 @@ decimal_length n few =
     (omega (arith, all), omega (arith, all, short))
 
 pub count_read : (n : ℕ) → n ≤ 999999 → numeral 10 6 (short_decimal n) ≡ Some n
-count_read n few = let long = decimal_length n few in read_number n (short_decimal n) long.0 long.1 (short_decimal_pass (is_digit 10) decimal_digit n) (short_decimal_value n (omega (arith, few)))
+unfolding numeral
+count_read n few = let long = decimal_length n few in rw (le-leb 1 _ long.0, le-leb _ 6 long.1, short_decimal_pass (is_digit 10) decimal_digit n, short_decimal_value n (omega (arith, few))) refl
 
 -- ---- what a text is cut at
 
@@ -60,20 +57,13 @@ count_read n few = let long = decimal_length n few in read_number n (short_decim
 pub Lacks : ℕ → List ℕ → Type 0
 Lacks mark text = list_all (λ c. not (eqb c mark)) text ≡ true
 
-not_true : (b : Bool) → not b ≡ true → b ≡ false
-not_true true e = absurd (cc)
-not_true false e = refl
-
 each_lacks : (mark : ℕ) (text : List ℕ) → Lacks mark text → All (λ c. eqb c mark ≡ false) text
 unfolding Lacks
-each_lacks mark text lacks = λ k d lt. not_true (eqb (get_or text k d) mark) (AllPass-from_list_all (λ c. not (eqb c mark)) text lacks k d lt)
+each_lacks mark text lacks = λ k d lt. let is = AllPass-from_list_all (λ c. not (eqb c mark)) text lacks k d lt in grind (arith, is)
 
--- a mark behind the digits
-pub digit_other : (mark : ℕ) → 57 < mark → Pass 10 (λ c. not (eqb c mark))
-digit_other mark past d low = let other : eqb (48 + d) mark ≡ false = ne_eqb (48 + d) mark (λ e. absurd (omega (arith, past, low, e))) in rw other refl
-
-digit_before : (mark : ℕ) → mark < 48 → Pass 10 (λ c. not (eqb c mark))
-digit_before mark before d low = let other : eqb (48 + d) mark ≡ false = ne_eqb (48 + d) mark (λ e. absurd (omega (arith, before, e))) in rw other refl
+-- a mark that is no digit
+digit_other : (mark : ℕ) → is_digit 10 mark ≡ false → Pass 10 (λ c. not (eqb c mark))
+digit_other mark none d low = grind (arith, decimal_digit, cases_eq, ne_eqb)
 
 pub octal_lacks : (mark n : ℕ) → Pass 10 (λ c. not (eqb c mark)) → Lacks mark (short_octal 2 n)
 unfolding Lacks
@@ -81,7 +71,7 @@ octal_lacks mark n h = short_pass (λ c. not (eqb c mark)) (λ d low. h d (omega
 
 row_lacks : (row : StepsInARow) → Lacks 44 (row_text row)
 unfolding Lacks
-row_lacks row = row_pass (λ c. not (eqb c 44)) (digit_before 44 (omega arith)) refl row
+row_lacks row = row_pass (λ c. not (eqb c 44)) (digit_other 44 refl) refl row
 
 rows_split : (row : StepsInARow) (rows : List StepsInARow) → slice_split is_comma (join_with_byte 44 (map row_text (row ∷ rows))) ≡ map row_text (row ∷ rows)
 rows_split row [] = slice_split_none is_comma (row_text row) (each_lacks 44 (row_text row) (row_lacks row))
@@ -122,10 +112,6 @@ module _ (profile : Profile) where
   unfolding numbered
   number_read n has = rw (short_read 2 n (omega arith) (omega (arith, processor_fits n (processor_named profile n has))), has) refl
 
-  item_one : (n : ℕ) → IsTrue (has_processor profile n) → item_steps profile (short_octal 2 n) ≡ Some (replicate 1 n)
-  unfolding item_steps
-  item_one n has = rw (no_colon (short_octal 2 n) (octal_lacks 58 n (digit_other 58 (omega arith))), number_read n has) refl
-
   item_more : (n k : ℕ) → IsTrue (has_processor profile n) → 1 ≤ k → k ≤ 999999 → item_steps profile (short_octal 2 n ++ 58 ∷ short_decimal k) ≡ Some (replicate k n)
   unfolding item_steps
   item_more n k has some few =
@@ -134,11 +120,11 @@ module _ (profile : Profile) where
       let place = length number in
       let before : take place (number ++ 58 ∷ count) ≡ number = take-append-le place number (58 ∷ count) (omega arith) ∙ take_all place number (omega arith) in
       let behind : drop (place + 1) (number ++ 58 ∷ count) ≡ count = sym (drop-drop 1 place (number ++ 58 ∷ count)) ∙ ap (drop 1) (drop-append_seam number (58 ∷ count)) in
-      rw (first_colon number count (octal_lacks 58 n (digit_other 58 (omega arith))), before, behind, number_read n has, count_read k few) (steps_some n k some)
+      rw (first_colon number count (octal_lacks 58 n (digit_other 58 refl)), before, behind, number_read n has, count_read k few) (steps_some n k some)
 
   item_by_count : (n k : ℕ) (b : Bool) → eqb k 1 ≡ b → IsTrue (has_processor profile n) → 1 ≤ k → k ≤ 999999 → item_steps profile (short_octal 2 n ++ cond b [] (codes ":" ++ short_decimal k)) ≡ Some (replicate k n)
-  item_by_count n k true one has some few =
-      ap (item_steps profile) (append-nil (short_octal 2 n)) ∙ item_one n has ∙ ap (λ (c : ℕ). Some (replicate c n)) (sym (eqb-true k 1 one))
+  unfolding item_steps
+  item_by_count n k true one has some few = rw (append-nil (short_octal 2 n), no_colon (short_octal 2 n) (octal_lacks 58 n (digit_other 58 refl)), number_read n has, eqb-true k 1 one) refl
   item_by_count n k false other has some few = item_more n k has some few
 
   item_read : (row : StepsInARow) → IsTrue (has_processor profile row.processor) → 1 ≤ row.count → row.count ≤ 999999 → item_steps profile (row_text row) ≡ Some (replicate row.count row.processor)
@@ -163,17 +149,18 @@ all_read profile (row ∷ rows) exist few =
     let own = length-replicate row.count row.processor in
     rw (item_read profile row exist.0.0 exist.0.1 (omega (arith, few, long, own)), all_read profile rows exist.1 (omega (arith, few, long, own))) refl
 
+-- what holds of one row more, and of one step more in the first row, if it is of the same processor
+step_by : (P : List StepsInARow → Type 0) (n : ℕ) (row : StepsInARow) (rows : List StepsInARow) → (row.processor ≡ n → P (record row { count = row.count + 1 } ∷ rows)) → P (record { processor = n; count = 1 } ∷ row ∷ rows) → P (step_and_rows n (row ∷ rows))
+step_by P n row rows same other = by (eqb row.processor n) refl
+  where
+    by : (b : Bool) → eqb row.processor n ≡ b → P (cond b (record row { count = row.count + 1 } ∷ rows) (record { processor = n; count = 1 } ∷ row ∷ rows))
+    by true is = same (eqb-true row.processor n is)
+    by false is = other
+
 step_in : (n : ℕ) (rows : List StepsInARow) → steps_in (step_and_rows n rows) ≡ n ∷ steps_in rows
 unfolding steps_in
 step_in n [] = refl
-step_in n (row ∷ rows) = by (eqb row.processor n) refl
-  where
-    by : (b : Bool) → eqb row.processor n ≡ b → steps_in (cond b (record row { count = row.count + 1 } ∷ rows) (record { processor = n; count = 1 } ∷ row ∷ rows)) ≡ n ∷ steps_in (row ∷ rows)
-    by true same =
-        let more : row.count + 1 ≡ suc row.count = omega arith in
-        ap (λ (k : ℕ). replicate k row.processor ++ steps_in rows) more
-        ∙ ap (λ (m : ℕ). m ∷ (replicate row.count row.processor ++ steps_in rows)) (eqb-true row.processor n same)
-    by false other = refl
+step_in n (row ∷ rows) = step_by (λ all. steps_in all ≡ n ∷ steps_in (row ∷ rows)) n row rows (λ same. rw (add-one, same) refl) refl
 
 pub steps_are : (ns : List ℕ) → steps_in (rows_of ns) ≡ ns
 unfolding rows_of steps_in
@@ -183,11 +170,7 @@ steps_are (n ∷ ns) = step_in n (rows_of ns) ∙ ap (λ (ks : List ℕ). n ∷ 
 step_exists : (Is : ℕ → Type 0) (n : ℕ) (rows : List StepsInARow) → Is n → Exist Is rows → Exist Is (step_and_rows n rows)
 unfolding Exist
 step_exists Is n [] has exist = ((has, omega arith), tt)
-step_exists Is n (row ∷ rows) has exist = by (eqb row.processor n)
-  where
-    by : (b : Bool) → Exist Is (cond b (record row { count = row.count + 1 } ∷ rows) (record { processor = n; count = 1 } ∷ row ∷ rows))
-    by true = ((exist.0.0, omega arith), exist.1)
-    by false = ((has, omega arith), exist)
+step_exists Is n (row ∷ rows) has exist = step_by (Exist Is) n row rows (λ _. ((exist.0.0, omega arith), exist.1)) ((has, omega arith), exist)
 
 pub rows_exist : (Is : ℕ → Type 0) (ns : List ℕ) → All Is ns → Exist Is (rows_of ns)
 unfolding rows_of Exist
@@ -196,11 +179,7 @@ rows_exist Is (n ∷ ns) all = step_exists Is n (rows_of ns) (All-head Is n ns a
 
 some_rows : (n : ℕ) (rows : List StepsInARow) → slice_split is_comma (join_with_byte 44 (map row_text (step_and_rows n rows))) ≡ map row_text (step_and_rows n rows)
 some_rows n [] = rows_split (record { processor = n; count = 1 }) []
-some_rows n (row ∷ rows) = by (eqb row.processor n)
-  where
-    by : (b : Bool) → slice_split is_comma (join_with_byte 44 (map row_text (cond b (record row { count = row.count + 1 } ∷ rows) (record { processor = n; count = 1 } ∷ row ∷ rows)))) ≡ map row_text (cond b (record row { count = row.count + 1 } ∷ rows) (record { processor = n; count = 1 } ∷ row ∷ rows))
-    by true = rows_split (record row { count = row.count + 1 }) rows
-    by false = rows_split (record { processor = n; count = 1 }) (row ∷ rows)
+some_rows n (row ∷ rows) = step_by (λ all. slice_split is_comma (join_with_byte 44 (map row_text all)) ≡ map row_text all) n row rows (λ _. rows_split (record row { count = row.count + 1 }) rows) (rows_split (record { processor = n; count = 1 }) (row ∷ rows))
 
 pub items_are : (n : ℕ) (ns : List ℕ) → numbers_of (order_text (n ∷ ns)) ≡ map row_text (rows_of (n ∷ ns))
 unfolding numbers_of order_text rows_of
@@ -216,11 +195,10 @@ read_back profile (n ∷ ns) some few all =
 
 -- ---- what is left of an order
 
-Has : Profile → ℕ → Type 0
+abbrev Has : Profile → ℕ → Type 0
 Has profile n = IsTrue (has_processor profile n)
 
 turn_has : (profile : Profile) (turn : ℕ) → Has profile (processor_in_turn profile turn)
-unfolding Has
 turn_has profile turn =
     let place = turn % processors_in profile in
     let within = rest_within profile turn in
@@ -249,5 +227,4 @@ left_few profile first steps few =
 
 pub left_read : (profile : Profile) (first : List ℕ) (steps : ℕ) → length first ≤ 999999 → All (λ n. IsTrue (has_processor profile n)) first → 0 < length (order_left first profile steps)
     → listed_steps profile (order_text (order_left first profile steps)) ≡ Some (order_left first profile steps)
-unfolding Has
 left_read profile first steps few all some = read_back profile (order_left first profile steps) some (left_few profile first steps few) (left_has profile first steps all)

@@ -1,39 +1,50 @@
--- The lines that the barrel prints are a lawful trace.
-use Rattle.std.proofs.Common.{All, ◌≡◌, ◌∙◌, ℕ, zero, suc, ◌<◌, ◌==◌, Bool, true, false, List, [], ◌∷◌, ◌++◌, length, map, take, get_or, Option, Some, None, refl, sym, ap, subst, append_assoc, arith, add-one}
-use Rattle.std.specs.Prelude.{IfSome, IsTrue, if◌then◌else◌, is_some}
-use Rattle.std.specs.List.{AllByRecursion, cons_option, last_or}
-use Rattle.std.specs.List.Sorted.{IsStrictlyIncreasing}
-use Rattle.std.proofs.lemmas.Bool.{ne_eqb}
-use Rattle.std.proofs.lemmas.List.{append-nil, take_more}
-use Rattle.std.proofs.lemmas.List.Elements.{All-head, All-tail, filter_map-append}
-use Rattle.pp_channel.proofs.HistoryLemmas.{Fits as FitsState, active_at, full_at, held_word, is_active, state_at, waiting_at}
-use Rattle.pp_channel.proofs.HistoryWalk.{State, Inactive}
-use Rattle.pp_numbers.proofs.LastElements.{last_or-push}
-use Rattle.pp_channel.specs.Answer.{channel_state}
-use Rattle.pp_numbers.specs.ChannelNo.{names_channel}
-use Rattle.pp_channel.specs.History.{IsLawful, active, waiting, history_on}
-use Rattle.pp_channel.specs.declared.{channel_state.ChannelState.ChannelState, event.Event.Event}
-use Rattle.pp_machine.specs.Headline as headline
-use Rattle.pp_machine.specs.MachineState.{MachineState, history_of}
-use Rattle.pp_machine.specs.declared.trace.Trace.{Trace}
+-- What the barrel prints is read as a lawful trace, and so is what threads print.
+use Rattle.std.proofs.Common.{All, ◌≡◌, ◌≢◌, ◌∙◌, ℕ, zero, suc, ◌+◌, ◌^◌, ◌<◌, ◌≤◌, Bool, true, false, List, [], ◌∷◌, ◌++◌, length, map, Option, Some, None, refl, sym, ap, subst, append_assoc, arith, inl, inr, add-one, get_or, take}
+use Rattle.std.specs.Prelude.{IsTrue, if◌then◌else◌, slice_get, slice_index_or, ◌==◌, IfSome}
+use Rattle.std.specs.List.{cons_option, enumerate_from, filter_map, flat_map, list_all, last_or}
+use Rattle.std.proofs.lemmas.Bool.{and_parts, cases_eq, ne_eqb}
+use Rattle.std.proofs.lemmas.List.{append-nil, length-map, length_push, take_more}
+use Rattle.std.proofs.lemmas.List.Elements.{All-head, All-tail}
+use Rattle.pp_numbers.proofs.ChannelNoLemmas.{channel_fits}
+use Rattle.pp_channel.proofs.FrontLemmas.{lawful_front}
+use Rattle.pp_channel.proofs.EachHistory.{lawful_on}
+use Rattle.pp_numbers.specs.ChannelNo.{all_channels, names_channel}
+use Rattle.pp_channel.specs.History.{IsLawful, history_on}
+use Rattle.pp_line.specs.Merge.{Merges}
+use Rattle.pp_report.specs.Types.{End, Event, Report, Worker}
 use Rattle.pp_deck.specs.DeckText.{lines_of}
-use Rattle.pp_text.specs.PrintedText.{printed}
-use Rattle.pp_text.specs.TextLaw.{EventFits}
-use Rattle.pp_check.specs.LawfulTrace.{AreLawful, Fits, IsLawfulTrace, event_on, events_on, history, is_opened, last_turn, parsed_lines, opening, turn_of, turns}
-use Rattle.pp_laws.specs.PrintedTrace.{AreOpenedBy, IsPrintable}
+use Rattle.pp_machine.specs.MachineState.{MachineState, history_of, processor_of}
+use Rattle.pp_numbers.specs.PpNo.{all_processors, names_processor, processor_index, processor_number, is_named}
+use Rattle.pp_numbers.specs.Limits.{RunLimits}
+use Rattle.pp_runner.specs.WorkerReport.{logs_of}
+use Rattle.pp_report.proofs.ReportLawLemmas.{numbered_channel_events, told_after, with_number}
+use Rattle.pp_report.specs.PrintedReport.{author_place, channel_events, end_text, line_by, named_worker_line, numbered_event_line, printed_report, worker_line}
+use Rattle.pp_text.specs.PrintedText.{used_channel_line, each_below, event_line, named_processor_line, printed, state_text}
+use Rattle.pp_report.specs.ReportLaw.{FitsItsLine, FitsItsReport, PrintedEvent, printed_by, printed_on}
+use Rattle.pp_check.specs.LawfulTrace.{IsLawfulTrace, event_on, events_on, history, parsed_lines, opening, Fits, is_opened, last_turn, turn_of, turns}
+use Rattle.pp_laws.specs.PrintedTrace.{AreOpenedBy, IsPrintableReport, IsPrintable}
 use Rattle.pp_check.specs.declared.trace_line.TraceLine.{TraceLine}
-use Rattle.pp_check.specs.declared.trace_line.TraceLine.TheVariants.{AtTurn, Standing, Other}
-use Rattle.pp_check.proofs.KeepsLemmas.{TellsNone, nothing_told, state_told}
-use Rattle.pp_check.proofs.OpeningLemmas.{lawful_opening}
-use Rattle.pp_laws.proofs.PrintedLineLemmas.{shown_state}
-use Rattle.pp_text.specs.PrintedText.{each_below}
-use Rattle.pp_laws.proofs.PrintedTextLemmas.{all_said, at_turn, channel_lines, processor_lines, said_is, said_lines, state_lines, whole_text}
-use Rattle.pp_check.proofs.TraceLemmas.{history_same, lawful_push}
+use Rattle.pp_check.specs.declared.trace_line.TraceLine.TheVariants.{Numbered, AtTurn, Other}
+use Rattle.pp_check.proofs.KeepsLemmas.{event_line as told_line, numbered_here}
+use Rattle.pp_check.proofs.OpeningLemmas.{lawful_start, lawful_opening}
+use Rattle.pp_check.proofs.TraceLemmas.{history_more, history_same, lawful_push}
+use Rattle.pp_deck.proofs.FieldTextLemmas.{is_plain, octal_plain}
+use Rattle.pp_text.proofs.PrintingLemmas.{channels_by_number, each_is_flat}
+use Rattle.pp_laws.proofs.PrintedLineLemmas.{are_numbered_fields, numbered_fields, numbered_line_is, numbered_line_read, are_trace_fields, event_line_is, event_line_read, plain_state, trace_fields}
+use Rattle.pp_laws.proofs.PrintedTextLemmas.{IsRead, IsShown, Says, Tells, events_both, says_below, says_both, says_if, shown_both, shown_channels, shown_each, shown_if, shown_none, shown_processor, tells_fields, text_read, says_map}
+use Rattle.std.specs.List.Sorted.{IsStrictlyIncreasing}
+use Rattle.pp_numbers.proofs.LastElements.{last_or-push}
+use Rattle.pp_machine.specs.Headline as headline
+use Rattle.pp_machine.specs.declared.trace.Trace.{Trace}
+use Rattle.pp_text.specs.TextLaw.{EventFits}
 
--- ---- the events
+abbrev pub at_turn : Trace → TraceLine
+at_turn e = AtTurn e.turn e.channel e.event
+
+-- ---- the events of the barrel
 
 told_events : (c : ℕ) (trace : List Trace) → events_on c (map at_turn trace) ≡ headline.events_on c trace
-unfolding at_turn events_on
+unfolding events_on
 told_events c [] = refl
 told_events c (e ∷ trace) = ap (cons_option (if e.channel == c then Some e.event else None)) (told_events c trace)
 
@@ -74,13 +85,12 @@ rising_fits ts rise (suc k) within =
     subst (λ (o : Option ℕ). IfSome o (λ l. l < get_or ts (suc k) 0)) (sym at) next
 
 turn_at : (trace : List Trace) (k : ℕ) → k < length (map at_turn trace) → turn_of (get_or (map at_turn trace) k Other) ≡ Some (get_or (map (λ e. e.turn) trace) k 0)
-unfolding at_turn
 turn_at [] k within = absurd (omega (arith, within))
 turn_at (e ∷ trace) zero within = refl
 turn_at (e ∷ trace) (suc k) within = turn_at trace k (omega (arith, within))
 
 front_turns : (trace : List Trace) (k : ℕ) → turns (take k (map at_turn trace)) ≡ take k (map (λ e. e.turn) trace)
-unfolding at_turn turns
+unfolding turns
 front_turns trace zero = refl
 front_turns [] (suc k) = refl
 front_turns (e ∷ trace) (suc k) = ap (λ (more : List ℕ). e.turn ∷ more) (front_turns trace k)
@@ -89,10 +99,6 @@ fits_by_turn : (opened : List Bool) (before : List TraceLine) (line : TraceLine)
 fits_by_turn opened before (AtTurn t c e) turn is less = grind arith
 fits_by_turn opened before line turn is less = absurd (cc)
 
-as_many : (trace : List Trace) → length (map at_turn trace) ≡ length (map (λ e. e.turn) trace)
-as_many [] = refl
-as_many (e ∷ trace) = omega (arith, as_many trace)
-
 lawful_events : (named : List Bool) (m : MachineState) (opened : List Bool) → IsPrintable named m → AreOpenedBy m opened → IsLawfulTrace opened (map at_turn m.trace)
 unfolding last_turn
 lawful_events named m opened is opens = record {
@@ -100,124 +106,189 @@ lawful_events named m opened is opens = record {
   each_fits = λ k within.
       let ts = map (λ e. e.turn) m.trace in
       fits_by_turn opened (take k (map at_turn m.trace)) (get_or (map at_turn m.trace) k Other) (get_or ts k 0) (turn_at m.trace k within)
-      (subst (λ (o : Option ℕ). IfSome o (λ last. last < get_or ts k 0)) (sym (ap (last_or None) (front_turns m.trace k))) (rising_fits ts is.rising k (omega (arith, within, as_many m.trace))));
+      (subst (λ (o : Option ℕ). IfSome o (λ last. last < get_or ts k 0)) (sym (ap (last_or None) (front_turns m.trace k))) (rising_fits ts is.rising k (omega (arith, within, length-map m.trace at_turn, length-map m.trace (λ e. e.turn)))));
 }
 
--- ---- the lines behind the events
+-- ---- the text of a machine
 
--- a line that shows how a channel stands after lines, or nothing
-abbrev pub Shows : List Bool → List TraceLine → TraceLine → Type 0
-Shows opened lines (Standing c state) = state ≡ channel_state (history opened lines c)
-Shows opened lines Other = Unit {0}
-Shows opened lines line = ⊥
+abbrev IsShort : Trace → Type 0
+IsShort e = EventFits e × (e.turn < 10 ^ 19)
 
-shows_none : (opened : List Bool) (lines : List TraceLine) (line : TraceLine) → Shows opened lines line → TellsNone line
-shows_none opened lines (Standing c state) shows = state_told c state
-shows_none opened lines Other shows = nothing_told
-shows_none opened lines line shows = absurd shows
+says_event : (e : Trace) → IsShort e → Says Tells (event_line e) (at_turn e ∷ [])
+says_event e (fits, short) = subst (λ text. Says Tells text (at_turn e ∷ [])) (sym (event_line_is e)) (tells_fields (trace_fields e) (at_turn e) (are_trace_fields e) (event_line_read e fits short))
 
-shows_fit : (opened : List Bool) (lines : List TraceLine) (line : TraceLine) → Shows opened lines line → Fits opened lines line
-shows_fit opened lines (Standing c state) shows = shows
-shows_fit opened lines Other shows = tt
-shows_fit opened lines line shows = absurd shows
-
-shows_still : (opened : List Bool) (lines : List TraceLine) (line x : TraceLine) → TellsNone line → Shows opened lines x → Shows opened (lines ++ line ∷ []) x
-shows_still opened lines line (Standing c state) none shows = shows ∙ ap channel_state (sym (history_same opened lines line c (none.event c)))
-shows_still opened lines line Other none shows = tt
-shows_still opened lines line x none shows = shows
-
-all_still : (opened : List Bool) (lines : List TraceLine) (line : TraceLine) (more : List TraceLine) → TellsNone line → AllByRecursion (Shows opened lines) more → AllByRecursion (Shows opened (lines ++ line ∷ [])) more
-all_still opened lines line [] none all = all
-all_still opened lines line (x ∷ more) none all = (shows_still opened lines line x none all.0, all_still opened lines line more none all.1)
-
-pub lawful_shown : (opened : List Bool) (lines more : List TraceLine) → IsLawfulTrace opened lines → AllByRecursion (Shows opened lines) more → IsLawfulTrace opened (lines ++ more)
-lawful_shown opened lines [] lawful all = subst (IsLawfulTrace opened) (sym (append-nil lines)) lawful
-lawful_shown opened lines (x ∷ more) lawful all =
-    let none = shows_none opened lines x all.0 in
-    let next = lawful_push opened lines x lawful (shows_fit opened lines x all.0) (λ c. let P : List Event → Type 0 = λ h. IsLawful h in subst P (sym (history_same opened lines x c (none.event c))) (lawful.histories c)) in
-    subst (IsLawfulTrace opened) (append_assoc lines (x ∷ []) more) (lawful_shown opened (lines ++ x ∷ []) more next (all_still opened lines x more none all.1))
-
--- ---- what they show
-
--- flags and register
-abbrev state_by : Bool → Bool → Option ℕ → ChannelState
-state_by is_active is_full word =
-    record { flags = record { active = is_active; full = is_full }; register = word }
-
-at_state : (s : State) → shown_state (is_active s) (held_word s) ≡ state_by (is_active s) (is_some (held_word s)) (held_word s)
-unfolding shown_state
-at_state Inactive = refl
-at_state s = refl
-
-shown_by_state : (h : List Event) (s : State) → FitsState h s → shown_state (active h) (waiting h) ≡ channel_state h
-shown_by_state h s fits = grind (arith, active_at, full_at, waiting_at, shown_state, is_active, at_state, state_by, held_word)
-
-pub all_both : (opened : List Bool) (lines xs ys : List TraceLine) → AllByRecursion (Shows opened lines) xs → AllByRecursion (Shows opened lines) ys → AllByRecursion (Shows opened lines) (xs ++ ys)
-all_both opened lines [] ys first second = second
-all_both opened lines (x ∷ xs) ys first second = (first.0, all_both opened lines xs ys first.1 second)
-
-pub all_below : (opened : List Bool) (lines : List TraceLine) (k : ℕ) (f : ℕ → List TraceLine) → ((n : ℕ) → AllByRecursion (Shows opened lines) (f n)) → AllByRecursion (Shows opened lines) (each_below k f)
-unfolding each_below
-all_below opened lines zero f each = tt
-all_below opened lines (suc k) f each = all_both opened lines (each_below k f) (f k) (all_below opened lines k f each) (each k)
-
-processors_show : (opened : List Bool) (lines : List TraceLine) (named : List Bool) (n : ℕ) → AllByRecursion (Shows opened lines) (processor_lines named n)
-unfolding processor_lines
-processors_show opened lines named n = grind arith
-
-pub history_shows : (opened : List Bool) (lines : List TraceLine) (c : ℕ) (h : List Event) → history opened lines c ≡ h → IsLawful h → AllByRecursion (Shows opened lines) (state_lines c h)
-unfolding state_lines
-history_shows opened lines c [] same lawful = tt
-history_shows opened lines c (e ∷ h) same lawful = ((let s = state_at (e ∷ h) lawful in shown_by_state (e ∷ h) s.0 s.2) ∙ ap channel_state (sym same), tt)
-
-channels_show : (named : List Bool) (m : MachineState) (opened : List Bool) → IsPrintable named m → AreOpenedBy m opened → (c : ℕ) → AllByRecursion (Shows opened (map at_turn m.trace)) (channel_lines m.histories c)
-unfolding channel_lines
-channels_show named m opened is opens c = by_name (names_channel c) refl
-  where
-    by_name : (b : Bool) → names_channel c ≡ b → AllByRecursion (Shows opened (map at_turn m.trace)) (if b then state_lines c (history_on c m.histories) else [])
-    by_name false unnamed = tt
-    by_name true names = history_shows opened (map at_turn m.trace) c (history_of c m) (history_told named m opened is opens c names) (is.headline c names).lawful
-
--- ---- the whole text
-
--- what stands behind the events
-shown_lines : List Bool → MachineState → List TraceLine
-shown_lines named m =
-    each_below 0o100 (processor_lines named) ++ (each_below 0o100 (channel_lines m.histories) ++ Other ∷ [])
-
-all_shown : (named : List Bool) (m : MachineState) (opened : List Bool) → IsPrintable named m → AreOpenedBy m opened → AllByRecursion (Shows opened (map at_turn m.trace)) (shown_lines named m)
-unfolding shown_lines
-all_shown named m opened is opens =
+pub printed_read : (named : List Bool) (m : MachineState) (opened : List Bool) → IsPrintable named m → AreOpenedBy m opened → IsRead opened (map at_turn m.trace) (printed named m)
+unfolding printed
+printed_read named m opened is opens =
     let events = map at_turn m.trace in
-    let processors = each_below 0o100 (processor_lines named) in
-    let channels = each_below 0o100 (channel_lines m.histories) in
-    all_both opened events processors (channels ++ Other ∷ []) (all_below opened events 0o100 (processor_lines named) (processors_show opened events named))
-    (all_both opened events channels (Other ∷ []) (all_below opened events 0o100 (channel_lines m.histories) (channels_show named m opened is opens)) (tt, tt))
-
-text_says : (named : List Bool) (m : MachineState) → IsPrintable named m → parsed_lines (lines_of (printed named m)) ≡ map at_turn m.trace ++ shown_lines named m
-unfolding said_lines shown_lines
-text_says named m is =
-    said_is (lines_of (printed named m)) (said_lines named m ++ Other ∷ []) (whole_text named m is) ∙ simp append_assoc
-
-pub printed_lawful : (named : List Bool) (m : MachineState) (opened : List Bool) → IsPrintable named m → AreOpenedBy m opened → AreLawful opened (lines_of (printed named m))
-printed_lawful named m opened is opens = record {
-  said = all_said (lines_of (printed named m)) (said_lines named m ++ Other ∷ []) (whole_text named m is);
-  lawful = subst (IsLawfulTrace opened) (sym (text_says named m is)) (lawful_shown opened (map at_turn m.trace) (shown_lines named m) (lawful_events named m opened is opens) (all_shown named m opened is opens));
-}
-
-pub events_both : (c : ℕ) (xs ys : List TraceLine) → events_on c (xs ++ ys) ≡ events_on c xs ++ events_on c ys
-unfolding events_on
-events_both c xs ys = filter_map-append (event_on c) xs ys
-
-pub none_shown : (opened : List Bool) (lines more : List TraceLine) (c : ℕ) → AllByRecursion (Shows opened lines) more → events_on c more ≡ []
-unfolding events_on
-none_shown opened lines [] c all = refl
-none_shown opened lines (x ∷ more) c all = grind (arith, shows_none, none_shown opened lines more c all.1)
+    rw (append_assoc (flat_map event_line m.trace) (flat_map (named_processor_line named m) all_processors) (flat_map (used_channel_line m.histories) all_channels))
+    (text_read opened events _ _ (says_map Tells IsShort event_line at_turn m.trace (λ k d lt. (is.fits.trace k d lt, is.few_turns k d lt)) says_event) (lawful_events named m opened is opens)
+    (shown_both opened events _ _
+    (shown_each opened events (λ n. Unit {0}) (named_processor_line named m) all_processors (λ k d lt. tt) (λ n _.
+    let pp = processor_of n m in
+    shown_if opened events (is_named named n) _ (λ at. shown_processor opened events n pp (state_text pp.state) (plain_state pp.state) (and_parts (names_processor n) (slice_index_or named (processor_index n) false) at).0)))
+    (shown_channels opened events m.histories (λ c names. (history_told named m opened is opens c names, (is.headline c names).lawful)) is.fits.channels)))
 
 pub printed_events : (named : List Bool) (m : MachineState) (opened : List Bool) → IsPrintable named m → AreOpenedBy m opened → (c : ℕ) → events_on c (parsed_lines (lines_of (printed named m))) ≡ headline.events_on c m.trace
-printed_events named m opened is opens c =
-    ap (events_on c) (text_says named m is)
-    ∙ events_both c (map at_turn m.trace) (shown_lines named m)
-    ∙ ap (λ (es : List Event). events_on c (map at_turn m.trace) ++ es) (none_shown opened (map at_turn m.trace) (shown_lines named m) c (all_shown named m opened is opens))
-    ∙ append-nil (events_on c (map at_turn m.trace))
-    ∙ told_events c m.trace
+printed_events named m opened is opens c = (printed_read named m opened is opens).told c ∙ told_events c m.trace
+
+-- ---- the ends of threads
+
+plain_end : (finish : End) → list_all is_plain (end_text finish) ≡ true
+plain_end End.Stopped = refl
+plain_end (End.Fault number) = octal_plain 1 number
+plain_end End.Steps = refl
+plain_end End.Patience = refl
+plain_end End.Memory = refl
+plain_end End.Worn = refl
+
+-- ---- the events of a channel
+
+-- events with their numbers
+unfoldable pub numbered : ℕ → List (ℕ × Event) → List TraceLine
+numbered c events = map (λ ((number, event) : ℕ × Event). Numbered number c event) events
+
+-- what is read of one event more before others, if it has an author
+says_numbered : (c number : ℕ) (e : Event) (author : Option ℕ) (text : List ℕ) (more : List PrintedEvent) → IsTrue (names_channel c) → number < 10 ^ 19 → All FitsItsLine (cons_option (printed_by number e author) more)
+    → (All FitsItsLine more → Says Tells text (numbered c (map with_number more))) → Says Tells (line_by c number e author ++ text) (numbered c (map with_number (cons_option (printed_by number e author) more)))
+unfolding numbered
+says_numbered c number e None text more names below fits rest = rest fits
+says_numbered c number e (Some place) text more names below fits rest =
+    let n = processor_number place in
+    let told : PrintedEvent = record { number = number; author = n; event = e } in
+    let here = All-head FitsItsLine told more fits in
+    says_both Tells (line_by c number e (Some place)) text (Numbered number c e ∷ []) (numbered c (map with_number more))
+    (subst (λ l. Says Tells l (Numbered number c e ∷ [])) (sym (numbered_line_is c number place e)) (tells_fields (numbered_fields c number n e) (Numbered number c e) (are_numbered_fields c number n e) (numbered_line_read c number n e names below here.author here.word)))
+    (rest (All-tail FitsItsLine told more fits))
+
+says_from : {Z : Type 0} (workers : List (Worker Z)) (c : ℕ) → IsTrue (names_channel c) → (k : ℕ) (es : List Event)
+    → All FitsItsLine (filter_map (λ ((number, event) : ℕ × Event). printed_by number event (author_place c workers number)) (enumerate_from k es))
+    → k + length es < 10 ^ 19 → Says Tells (flat_map (numbered_event_line c workers) (enumerate_from k es)) (numbered c (map with_number (filter_map (λ ((number, event) : ℕ × Event). printed_by number event (author_place c workers number)) (enumerate_from k es))))
+unfolding numbered numbered_event_line
+says_from workers c names k [] fits few = λ rest more is. is
+says_from {Z} workers c names k (e ∷ es) fits few =
+    says_numbered c k e (author_place c workers k) (flat_map (numbered_event_line c workers) (enumerate_from (k + 1) es)) (filter_map (λ ((number, event) : ℕ × Event). printed_by number event (author_place c workers number)) (enumerate_from (k + 1) es))
+    names (omega (arith, few)) fits (λ rest. says_from workers c names (k + 1) es rest (omega (arith, few)))
+
+-- ---- the lines of a channel among others
+
+elsewhere : (d c number : ℕ) (e : Event) → d ≢ c → event_on d (Numbered number c e) ≡ None
+elsewhere d c number e other = (told_line c e (Numbered number c e) (numbered_here number c e)).elsewhere d other
+
+block_elsewhere : (d c : ℕ) → d ≢ c → (k : ℕ) (es : List Event) → events_on d (numbered c (enumerate_from k es)) ≡ []
+unfolding events_on numbered
+block_elsewhere d c other k [] = refl
+block_elsewhere d c other k (e ∷ es) = grind (arith, elsewhere, block_elsewhere d c other (k + 1) es)
+
+block_here : (c k : ℕ) (es : List Event) → events_on c (numbered c (enumerate_from k es)) ≡ es
+unfolding events_on numbered
+block_here c k [] = refl
+block_here c k (e ∷ es) = grind (arith, numbered_here, block_here c (k + 1) es)
+
+lawful_block : (opened : List Bool) (lines : List TraceLine) (c k : ℕ) (h es : List Event) → IsLawfulTrace opened lines → history opened lines c ≡ h → k ≡ length h → IsLawful (h ++ es) → IsLawfulTrace opened (lines ++ numbered c (enumerate_from k es))
+unfolding numbered
+lawful_block opened lines c k h [] lawful same at more = subst (IsLawfulTrace opened) (sym (append-nil lines)) lawful
+lawful_block opened lines c k h (e ∷ es) lawful same at more =
+    let P : List Event → Type 0 = λ g. IsLawful g in
+    let line = Numbered k c e in
+    let longer : IsLawful ((h ++ e ∷ []) ++ es) = subst P (sym (append_assoc h (e ∷ []) es)) more in
+    let next : history opened (lines ++ line ∷ []) c ≡ h ++ e ∷ [] = history_more opened lines line c e (numbered_here k c e) ∙ ap (λ (g : List Event). g ++ e ∷ []) same in
+    let pushed = lawful_push opened lines line lawful (at ∙ ap length (sym same)) (λ d. elim (cases_eq d c) [
+      | inl here ↦ subst P (sym next ∙ ap (history opened (lines ++ line ∷ [])) (sym here)) (lawful_front (h ++ e ∷ []) es longer)
+      | inr other ↦ subst P (sym (history_same opened lines line d (elsewhere d c k e other))) (lawful.histories d)
+    ]) in
+    subst (IsLawfulTrace opened) (append_assoc lines (line ∷ []) (numbered c (enumerate_from (k + 1) es)))
+    (lawful_block opened (lines ++ line ∷ []) c (k + 1) (h ++ e ∷ []) es pushed next (omega (arith, at, length_push h e)) longer)
+
+-- ---- one channel after another
+
+module _ (opened : List Bool) (histories : List (List Event)) where
+  -- lines that tell the histories of all channels below a number, and nothing else
+  pub record Tell (n : ℕ) (lines : List TraceLine) : Type 0 where
+    pub lawful : IsLawfulTrace opened lines
+    pub told : (c : ℕ) → c < n → IsTrue (names_channel c) → history opened lines c ≡ history_on c histories
+    pub untold : (c : ℕ) → n ≤ c → events_on c lines ≡ []
+
+  no_events : (c : ℕ) → events_on c [] ≡ []
+  unfolding events_on
+  no_events c = refl
+
+  tell_none : Tell 0 []
+  tell_none = grind (arith, lawful_start, no_events)
+
+  events_past : (c n k : ℕ) (lines : List TraceLine) (es : List Event) → c ≢ n → events_on c (lines ++ numbered n (enumerate_from k es)) ≡ events_on c lines
+  events_past c n k lines es other = grind (arith, events_both, block_elsewhere, append-nil)
+
+  tell_unnamed : (n : ℕ) (lines : List TraceLine) → names_channel n ≡ false → Tell n lines → Tell (suc n) lines
+  tell_unnamed n lines unnamed tell = grind (arith, cases_eq)
+
+  tell_named : (n : ℕ) (lines : List TraceLine) (es : List Event) → opening opened n ++ es ≡ history_on n histories → IsLawful (history_on n histories) → Tell n lines → Tell (suc n) (lines ++ numbered n (enumerate_from (length (opening opened n)) es))
+  tell_named n lines es whole lawful tell = grind (arith, append-nil, lawful_block, cases_eq, events_both, block_here, events_past)
+
+-- ---- the parts of the text
+
+shown_worker : {Z : Type 0} (opened : List Bool) (events : List TraceLine) (n : ℕ) (o : Option (Worker Z)) → IsTrue (names_processor n) → IsShown opened events (worker_line n o)
+shown_worker opened events n None names = shown_none opened events
+shown_worker opened events n (Some worker) names = shown_processor opened events n worker.pp (end_text worker.finish) (plain_end worker.finish) names
+
+-- a report over what was open before, with what the lines of its text want
+pub record StandsOver {Z : Type 0} (named : List Bool) (report : Report Z) (opened : List Bool) : Type 0 where
+  pub openings : ℕ → List Event
+  pub opened_alike : (c : ℕ) → IsTrue (names_channel c) → openings c ≡ opening opened c
+  pub merged : Merges openings report.channels (logs_of report.ends.items)
+  pub lawful : (c : ℕ) → IsTrue (names_channel c) → IsLawful (history_on c report.channels)
+  pub fits : FitsItsReport named report
+  pub few_events : (c : ℕ) → IsTrue (names_channel c) → length (history_on c report.channels) < 10 ^ 19
+
+module _ {Z : Type 0} (named : List Bool) (report : Report Z) (opened : List Bool) (is : StandsOver named report opened) where
+  event_lines : ℕ → List TraceLine
+  event_lines c =
+      if names_channel c then numbered c (map with_number (printed_on c report)) else []
+
+  pub all_events : List TraceLine
+  all_events = each_below 0o100 event_lines
+
+  says_numbereds : Says Tells (flat_map (channel_events report.ends.items report.channels) all_channels) all_events
+  unfolding all_events event_lines
+  says_numbereds =
+      let events = numbered_channel_events report.ends.items report.channels in
+      rw (channels_by_number (channel_events report.ends.items report.channels), ← each_is_flat 0o100 events)
+      (says_below Tells 0o100 events event_lines (λ c _. says_if Tells (names_channel c) _ (numbered c (map with_number (printed_on c report))) (λ names.
+      says_from report.ends.items c names 0 (history_on c report.channels) (is.fits.events c names) (omega (arith, is.few_events c names)))))
+
+  -- the lines of the events tell all histories
+  tell_next : (n : ℕ) (lines : List TraceLine) → Tell opened report.channels n lines → (b : Bool) → names_channel n ≡ b → Tell opened report.channels (suc n) (lines ++ (if b then numbered n (map with_number (printed_on n report)) else []))
+  tell_next n lines tell false unnamed = subst (Tell opened report.channels (suc n)) (sym (append-nil lines)) (tell_unnamed opened report.channels n lines unnamed tell)
+  tell_next n lines tell true names =
+      let begins = is.merged.begins n in
+      let alike = is.opened_alike n names in
+      let whole : opening opened n ++ begins.0 ≡ history_on n report.channels = ap (λ (first : List Event). first ++ begins.0) (sym alike) ∙ begins.1 in
+      let as_numbered = ap (numbered n) (told_after is.openings report.channels report.ends.items n is.merged ∙ ap (λ (first : List Event). enumerate_from (length first) begins.0) alike) in
+      subst (λ (block : List TraceLine). Tell opened report.channels (suc n) (lines ++ block)) (sym as_numbered)
+      (tell_named opened report.channels n lines begins.0 whole (is.lawful n names) tell)
+
+  tell_below : (n : ℕ) → Tell opened report.channels n (each_below n event_lines)
+  unfolding each_below event_lines
+  tell_below zero = tell_none opened report.channels
+  tell_below (suc n) = tell_next n (each_below n event_lines) (tell_below n) (names_channel n) refl
+
+  pub report_read : IsRead opened all_events (printed_report named report)
+  unfolding printed_report all_events
+  report_read =
+      let tell = tell_below 0o100 in
+      let workers = report.ends.items in
+      rw (append_assoc (flat_map (channel_events workers report.channels) all_channels) (flat_map (named_worker_line named workers) all_processors) (flat_map (used_channel_line report.channels) all_channels))
+      (text_read opened all_events _ _ says_numbereds tell.lawful
+      (shown_both opened all_events _ _
+      (shown_each opened all_events (λ n. Unit {0}) (named_worker_line named workers) all_processors (λ k d lt. tt) (λ n _.
+      shown_if opened all_events (is_named named n) _ (λ at. shown_worker opened all_events n (slice_get workers (processor_index n)) (and_parts (names_processor n) (slice_index_or named (processor_index n) false) at).0)))
+      (shown_channels opened all_events report.channels (λ c names. (tell.told c (channel_fits c names) names, is.lawful c names)) is.fits.channels)))
+
+  pub report_histories : (c : ℕ) → IsTrue (names_channel c) → history opened (parsed_lines (lines_of (printed_report named report))) c ≡ history_on c report.channels
+  unfolding all_events
+  report_histories c names = ap (λ es. opening opened c ++ es) (report_read.told c) ∙ (tell_below 0o100).told c (channel_fits c names) names
+
+-- ---- a report of a run
+
+pub stands_over : {Z : Type 0} (named : List Bool) (limits : RunLimits) (m : MachineState) (report : Report Z) (opened : List Bool) → IsPrintableReport named limits m report → AreOpenedBy m opened → StandsOver named report opened
+stands_over named limits m report opened is opens = grind (arith, lawful_on)

@@ -1,154 +1,189 @@
--- What the barrel prints is read as a lawful trace.
-use Rattle.std.proofs.Common.{All, ◌≡◌, ◌∙◌, ℕ, zero, suc, ◌^◌, ◌<◌, Bool, true, false, List, [], ◌∷◌, ◌++◌, map, get_or, Option, Some, refl, sym, ap, subst, append_assoc, arith}
-use Rattle.std.specs.Prelude.{IsSome, IsTrue, if◌then◌else◌, slice_index_or}
-use Rattle.std.specs.List.{cons_option, filter_map, flat_map, list_all}
-use Rattle.std.proofs.lemmas.Bool.{and_parts, false_from_ne_true, ne_eqb}
+-- Texts of whole lines, read one after another.
+use Rattle.std.proofs.Common.{All, ◌≡◌, ◌∙◌, ℕ, zero, suc, ◌<◌, Bool, true, false, List, [], ◌∷◌, ◌++◌, map, Some, refl, sym, ap, subst, append_assoc, arith}
+use Rattle.std.specs.Prelude.{IsSome, IsTrue, if◌then◌else◌}
+use Rattle.std.specs.List.{AllByRecursion, filter_map, flat_map, list_all, slice_split}
 use Rattle.std.proofs.lemmas.List.{append-nil}
-use Rattle.std.proofs.lemmas.List.Elements.{All-cons, All-head, All-nil, All-tail}
+use Rattle.std.proofs.lemmas.List.Elements.{All-append, All-cons, All-head, All-nil, All-tail, filter_map-append}
 use Rattle.std.proofs.lemmas.List.Splits.{slice_split_at}
 use Rattle.std.proofs.lemmas.List.Sums.{AllPass-from_list_all}
-use Rattle.pp_numbers.specs.ChannelNo.{all_channels, names_channel}
-use Rattle.pp_channel.specs.History.{active, waiting, history_on}
+use Rattle.pp_numbers.specs.ChannelNo.{all_channels, channel_number, names_channel}
+use Rattle.pp_numbers.specs.GappedNumbers.{is_number, number_of}
+use Rattle.pp_numbers.specs.PpNo.{names_processor}
+use Rattle.pp_numbers.specs.Tables.{tabulate}
+use Rattle.pp_channel.proofs.HistoryLemmas.{Fits as FitsState, active_at, full_at, held_word, is_active, state_at, waiting_at}
+use Rattle.pp_channel.proofs.HistoryWalk.{State}
+use Rattle.pp_channel.specs.Answer.{channel_state}
+use Rattle.pp_channel.specs.History.{IsLawful, active, waiting, history_on}
 use Rattle.pp_channel.specs.declared.event.Event.{Event}
-use Rattle.pp_deck.proofs.FieldTextLemmas.{is_plain, no_fields, plain_least}
+use Rattle.pp_processor.specs.Processor.{Processor}
+use Rattle.pp_deck.proofs.FieldTextLemmas.{IsField, fields_read, is_plain, no_fields, plain_joined}
 use Rattle.pp_deck.specs.DeckText.{fields_of, is_line_feed, lines_of}
-use Rattle.pp_machine.specs.MachineState.{MachineState, processor_of}
-use Rattle.pp_numbers.specs.PpNo.{all_processors, names_processor, processor_index, is_named}
-use Rattle.pp_machine.specs.declared.trace.Trace.{Trace}
-use Rattle.pp_text.specs.PrintedText.{each_below, event_line, channel_line, line_end, named_processor_line, printed, state_text, used_channel_line}
-use Rattle.pp_text.proofs.PrintingLemmas.{channels_by_number, each_is_flat, numbered_channel_line}
-use Rattle.pp_numbers.proofs.PpNoLemmas.{numbers_of_processors}
 use Rattle.pp_listing.proofs.ListedLineLemmas.{no_line_feed}
-use Rattle.pp_text.specs.TextLaw.{HistoryFits, EventFits}
-use Rattle.pp_check.specs.LawfulTrace.{parsed_lines}
-use Rattle.pp_laws.specs.PrintedTrace.{IsPrintable}
+use Rattle.pp_text.specs.PrintedText.{channel_line, each_below, line_end, processor_line, used_channel_line}
+use Rattle.pp_text.specs.TextLaw.{HistoryFits}
+use Rattle.pp_check.specs.LawfulTrace.{AreLawful, Fits, IsLawfulTrace, event_on, events_on, history, parsed_lines}
 use Rattle.pp_check.specs.TraceLine.{parsed_line}
 use Rattle.pp_check.specs.declared.trace_line.TraceLine.{TraceLine}
-use Rattle.pp_check.specs.declared.trace_line.TraceLine.TheVariants.{AtTurn, Standing, Other}
-use Rattle.pp_check.proofs.FaultLemmas.{Says, Text}
-use Rattle.pp_laws.proofs.PrintedLineLemmas.{channel_body, channel_line_is, channel_line_read, event_body, event_line_is, event_line_read, plain_body, plain_channel, plain_processor, plain_state, processor_body, processor_line_is, processor_line_read, shown_state}
+use Rattle.pp_check.specs.declared.trace_line.TraceLine.TheVariants.{Other, Standing}
+use Rattle.pp_check.proofs.KeepsLemmas.{TellsNone, nothing_told, state_told}
+use Rattle.pp_check.proofs.TraceLemmas.{history_same, lawful_push}
+use Rattle.pp_laws.proofs.PrintedLineLemmas.{are_channel_fields, channel_field, channel_line_is, channel_line_read, line_of, plain_processor, processor_body, processor_line_is, processor_line_read, shown_state, state_fields}
 
--- ---- texts of whole lines
+-- ---- what the lines of a text say, before those of what follows it
 
--- a text of whole lines says this, whatever follows it
-abbrev pub Reads : List ℕ → List TraceLine → Type 0
-Reads text lines = (rest : List ℕ) → map parsed_line (lines_of (text ++ rest)) ≡ map (λ l. Some l) lines ++ map parsed_line (lines_of rest)
+module _ {A : Type 0} (Reads : List ℕ → List A → Type 0) where
+  abbrev pub Says : List ℕ → List A → Type 0
+  Says text xs = (rest : List ℕ) (more : List A) → Reads rest more → Reads (text ++ rest) (xs ++ more)
 
-pub map_both : (xs ys : List TraceLine) → map (λ l. Some l) (xs ++ ys) ≡ map (λ l. Some l) xs ++ map (λ l. Some l) ys
-map_both [] ys = refl
-map_both (x ∷ xs) ys = ap (λ (more : List (Option TraceLine)). Some x ∷ more) (map_both xs ys)
+  pub says_both : (a b : List ℕ) (xs ys : List A) → Says a xs → Says b ys → Says (a ++ b) (xs ++ ys)
+  says_both a b xs ys first second rest more is = rw (append_assoc a b rest, append_assoc xs ys more) (first (b ++ rest) (ys ++ more) (second rest more is))
 
-pub reads_both : (a b : List ℕ) (xs ys : List TraceLine) → Reads a xs → Reads b ys → Reads (a ++ b) (xs ++ ys)
-reads_both a b xs ys first second = grind (arith, append_assoc, map_both)
+  pub says_map : {X : Type 0} (P : X → Type 0) (text : X → List ℕ) (f : X → A) (xs : List X) → All P xs → ((x : X) → P x → Says (text x) (f x ∷ [])) → Says (flat_map text xs) (map f xs)
+  says_map P text f [] all each = λ rest more is. is
+  says_map P text f (x ∷ xs) all each = says_both (text x) (flat_map text xs) (f x ∷ []) (map f xs) (each x (All-head P x xs all)) (says_map P text f xs (All-tail P x xs all) each)
 
-pub reads_line : (body : List ℕ) (line : TraceLine) → list_all is_plain body ≡ true → parsed_line (fields_of body) ≡ Some line → Reads (body ++ line_end) (line ∷ [])
-unfolding lines_of
-reads_line body line plain is = grind (arith, append_assoc, slice_split_at, no_line_feed)
+  pub says_none : {X : Type 0} (text : X → List ℕ) (xs : List X) → ((x : X) → Says (text x) []) → Says (flat_map text xs) []
+  says_none text [] each = λ rest more is. is
+  says_none text (x ∷ xs) each = says_both (text x) (flat_map text xs) [] [] (each x) (says_none text xs each)
 
--- ---- the parts of the text
+  pub says_if : (b : Bool) (text : List ℕ) (xs : List A) → (IsTrue b → Says text xs) → Says (if b then text else []) (if b then xs else [])
+  says_if true text xs says = says refl
+  says_if false text xs says = λ rest more is. is
 
-unfoldable pub at_turn : Trace → TraceLine
-at_turn e = AtTurn e.turn e.channel e.event
+  pub says_below : (k : ℕ) (text : ℕ → List ℕ) (f : ℕ → List A) → ((n : ℕ) → n < k → Says (text n) (f n)) → Says (each_below k text) (each_below k f)
+  unfolding each_below
+  says_below zero text f each = λ rest more is. is
+  says_below (suc k) text f each = says_both (each_below k text) (text k) (each_below k f) (f k) (says_below k text f (λ n low. each n (omega (arith, low)))) (each k (omega arith))
 
-abbrev IsShort : Trace → Type 0
-IsShort e = e.turn < 10 ^ 19
+pub split_line : (body rest : List ℕ) → list_all is_plain body ≡ true → slice_split is_line_feed ((body ++ line_end) ++ rest) ≡ body ∷ slice_split is_line_feed rest
+split_line body rest plain = ap (slice_split is_line_feed) (append_assoc body line_end rest) ∙ slice_split_at is_line_feed body 10 rest (no_line_feed body plain) refl
 
-reads_trace : (trace : List Trace) → All EventFits trace → All IsShort trace → Reads (flat_map event_line trace) (map at_turn trace)
-unfolding at_turn
-reads_trace [] told short = λ rest. refl
-reads_trace (e ∷ trace) told short =
-    reads_both (event_line e) (flat_map event_line trace) (at_turn e ∷ []) (map at_turn trace)
-    (subst (λ (text : List ℕ). Reads text (at_turn e ∷ [])) (sym (event_line_is e)) (reads_line (event_body e) (at_turn e) (plain_body e) (event_line_read e (All-head EventFits e trace told) (All-head IsShort e trace short))))
-    (reads_trace trace (All-tail EventFits e trace told) (All-tail IsShort e trace short))
+-- ---- what they say as a trace
 
-reads_below : (k : ℕ) (said : ℕ → List ℕ) (f : ℕ → List TraceLine) → ((n : ℕ) → Reads (said n) (f n)) → Reads (each_below k said) (each_below k f)
-unfolding each_below
-reads_below zero said f each = λ rest. refl
-reads_below (suc k) said f each = reads_both (each_below k said) (said k) (each_below k f) (f k) (reads_below k said f each) (each k)
+pub record Tells (text : List ℕ) (lines : List TraceLine) : Type 0 where
+  pub said : All (λ line. IsSome (parsed_line line)) (lines_of text)
+  pub are : parsed_lines (lines_of text) ≡ lines
 
--- the lines of all processors, and of all channels, by their numbers
-pub reads_processors : (said : ℕ → List ℕ) (f : ℕ → List TraceLine) → ((n : ℕ) → (IsTrue (names_processor n) → ⊥) → said n ≡ []) → ((n : ℕ) → Reads (said n) (f n)) → Reads (flat_map said all_processors) (each_below 0o100 f)
-reads_processors said f none each = rw (numbers_of_processors said none, ← each_is_flat 0o100 said) (reads_below 0o100 said f each)
+tells_line : (body : List ℕ) (line : TraceLine) → list_all is_plain body ≡ true → parsed_line (fields_of body) ≡ Some line → Says Tells (body ++ line_end) (line ∷ [])
+unfolding lines_of parsed_lines
+tells_line body line plain is rest more told =
+    let first = ap (map fields_of) (split_line body rest plain) in
+    record {
+      said = rw first (All-cons (λ l. IsSome (parsed_line l)) (fields_of body) (lines_of rest) (rw is refl) told.said);
+      are = rw (first, is) (ap (λ ls. line ∷ ls) told.are);
+    }
 
-pub reads_channels : (said : ℕ → List ℕ) (f : ℕ → List TraceLine) → ((c : ℕ) → Reads (if names_channel c then said c else []) (f c)) → Reads (flat_map said all_channels) (each_below 0o100 f)
-reads_channels said f each = rw (channels_by_number said, ← each_is_flat 0o100 (λ c. if names_channel c then said c else [])) (reads_below 0o100 (λ c. if names_channel c then said c else []) f each)
-
-unfoldable pub processor_lines : List Bool → ℕ → List TraceLine
-processor_lines named n = if is_named named n then Other ∷ [] else []
-
-pub reads_if : (b : Bool) (text : List ℕ) (lines : List TraceLine) → (IsTrue b → Reads text lines) → Reads (if b then text else []) (if b then lines else [])
-reads_if true text lines reads = reads refl
-reads_if false text lines reads = λ rest. refl
-
-unnamed_line : (named : List Bool) (m : MachineState) (n : ℕ) → (IsTrue (names_processor n) → ⊥) → named_processor_line named m n ≡ []
-unnamed_line named m n none = rw (false_from_ne_true (names_processor n) none) refl
-
-reads_processor : (named : List Bool) (m : MachineState) (n : ℕ) → Reads (named_processor_line named m n) (processor_lines named n)
-unfolding processor_lines
-reads_processor named m n =
-    let pp = processor_of n m in
-    reads_if (is_named named n) _ (Other ∷ []) (λ is.
-    subst (λ (text : List ℕ). Reads text (Other ∷ [])) (sym (processor_line_is n pp (state_text pp.state)))
-    (reads_line (processor_body n pp (state_text pp.state)) Other (plain_processor n pp (state_text pp.state) (plain_state pp.state)) (processor_line_read n pp (state_text pp.state) (plain_state pp.state) (and_parts (names_processor n) (slice_index_or named (processor_index n) false) is).0)))
-
-unfoldable pub state_lines : ℕ → List Event → List TraceLine
-state_lines c [] = []
-state_lines c (e ∷ h) = Standing c (shown_state (active (e ∷ h)) (waiting (e ∷ h))) ∷ []
-
-unfoldable pub channel_lines : List (List Event) → ℕ → List TraceLine
-channel_lines histories c =
-    if names_channel c then state_lines c (history_on c histories) else []
-
-reads_history : (c : ℕ) (h : List Event) → IsTrue (names_channel c) → HistoryFits h → Reads (channel_line c h) (state_lines c h)
-unfolding state_lines
-reads_history c [] names fits = λ rest. refl
-reads_history c (e ∷ h) names fits =
-    subst (λ (text : List ℕ). Reads text (state_lines c (e ∷ h))) (sym (channel_line_is c e h))
-    (reads_line (channel_body c (active (e ∷ h)) (waiting (e ∷ h))) (Standing c (shown_state (active (e ∷ h)) (waiting (e ∷ h)))) (plain_channel c (active (e ∷ h)) (waiting (e ∷ h))) (channel_line_read c (active (e ∷ h)) (waiting (e ∷ h)) names fits))
-
-pub reads_channel : (histories : List (List Event)) → ((c : ℕ) → IsTrue (names_channel c) → HistoryFits (history_on c histories)) → (c : ℕ) → Reads (numbered_channel_line histories c) (channel_lines histories c)
-unfolding channel_lines
-reads_channel histories fits c = reads_if (names_channel c) _ (state_lines c (history_on c histories)) (λ is. reads_history c (history_on c histories) is (fits c is))
-
--- all that a printed text says
-unfoldable pub said_lines : List Bool → MachineState → List TraceLine
-said_lines named m =
-    (map at_turn m.trace ++ each_below 0o100 (processor_lines named)) ++ each_below 0o100 (channel_lines m.histories)
-
-reads_printed : (named : List Bool) (m : MachineState) → IsPrintable named m → Reads (printed named m) (said_lines named m)
-unfolding printed said_lines
-reads_printed named m is =
-    reads_both (flat_map event_line m.trace ++ flat_map (named_processor_line named m) all_processors) (flat_map (used_channel_line m.histories) all_channels) _ _
-    (reads_both (flat_map event_line m.trace) (flat_map (named_processor_line named m) all_processors) _ _ (reads_trace m.trace is.fits.trace is.few_turns) (reads_processors (named_processor_line named m) (processor_lines named) (unnamed_line named m) (reads_processor named m)))
-    (reads_channels (used_channel_line m.histories) (channel_lines m.histories) (reads_channel m.histories is.fits.channels))
+pub tells_fields : (fields : List (List ℕ)) (line : TraceLine) → AllByRecursion IsField fields → parsed_line fields ≡ Some line → Says Tells (line_of fields) (line ∷ [])
+tells_fields fields line all is = tells_line _ line (plain_joined fields all) (ap parsed_line (fields_read fields all) ∙ is)
 
 -- behind the last line feed stands a line without fields
-pub no_text : map parsed_line (lines_of []) ≡ Some Other ∷ []
-unfolding lines_of parsed_line
-no_text = ap (λ (fields : List (List ℕ)). parsed_line fields ∷ []) no_fields
+no_text : Tells [] (Other ∷ [])
+unfolding lines_of parsed_lines parsed_line
+no_text = record {
+  said = subst (λ fields. All (λ l. IsSome (parsed_line l)) (fields ∷ [])) (sym no_fields) (All-cons (λ l. IsSome (parsed_line l)) [] [] refl (All-nil (λ l. IsSome (parsed_line l))));
+  are = ap (λ fields. filter_map parsed_line (fields ∷ [])) no_fields;
+}
 
-pub whole_text : (named : List Bool) (m : MachineState) → IsPrintable named m → map parsed_line (lines_of (printed named m)) ≡ map (λ l. Some l) (said_lines named m ++ Other ∷ [])
-whole_text named m is =
-    ap (λ (text : List ℕ). map parsed_line (lines_of text)) (sym (append-nil (printed named m)))
-    ∙ reads_printed named m is []
-    ∙ ap (λ (more : List (Option TraceLine)). map (λ l. Some l) (said_lines named m) ++ more) no_text
-    ∙ sym (map_both (said_lines named m) (Other ∷ []))
+-- ---- lines that only show how things stand
 
--- each line says something, and together they say this
-pub all_said : (text : Text) (lines : List TraceLine) → map parsed_line text ≡ map (λ l. Some l) lines → All Says text
-all_said [] lines is = All-nil Says
-all_said (x ∷ text) [] is = absurd (cc)
-all_said (x ∷ text) (l ∷ lines) is =
-    let here : parsed_line x ≡ Some l = cc in
-    let more : map parsed_line text ≡ map (λ l. Some l) lines = cc in
-    All-cons Says x text (subst IsSome (sym here) refl) (all_said text lines more)
+-- a line that shows how a channel stands after lines, or nothing
+abbrev pub Shows : List Bool → List TraceLine → TraceLine → Type 0
+Shows opened lines (Standing c state) = state ≡ channel_state (history opened lines c)
+Shows opened lines Other = Unit {0}
+Shows opened lines line = ⊥
 
-pub said_is : (text : Text) (lines : List TraceLine) → map parsed_line text ≡ map (λ l. Some l) lines → parsed_lines text ≡ lines
-unfolding parsed_lines
-said_is [] [] is = refl
-said_is [] (l ∷ lines) is = absurd (cc)
-said_is (x ∷ text) [] is = absurd (cc)
-said_is (x ∷ text) (l ∷ lines) is =
-    let here : parsed_line x ≡ Some l = cc in
-    let more : map parsed_line text ≡ map (λ l. Some l) lines = cc in
-    ap (λ (o : Option TraceLine). cons_option o (filter_map parsed_line text)) here ∙ ap (λ (ls : List TraceLine). l ∷ ls) (said_is text lines more)
+shows_none : (opened : List Bool) (lines : List TraceLine) (line : TraceLine) → Shows opened lines line → TellsNone line
+shows_none opened lines (Standing c state) shows = state_told c state
+shows_none opened lines Other shows = nothing_told
+shows_none opened lines line shows = absurd shows
+
+shows_fit : (opened : List Bool) (lines : List TraceLine) (line : TraceLine) → Shows opened lines line → Fits opened lines line
+shows_fit opened lines line shows = grind arith
+
+shows_still : (opened : List Bool) (lines : List TraceLine) (line x : TraceLine) → TellsNone line → Shows opened lines x → Shows opened (lines ++ line ∷ []) x
+shows_still opened lines line x none shows = grind (arith, history_same)
+
+lawful_shown : (opened : List Bool) (lines more : List TraceLine) → IsLawfulTrace opened lines → All (Shows opened lines) more → IsLawfulTrace opened (lines ++ more)
+lawful_shown opened lines [] lawful all = subst (IsLawfulTrace opened) (sym (append-nil lines)) lawful
+lawful_shown opened lines (x ∷ more) lawful all =
+    let shows = All-head (Shows opened lines) x more all in
+    let none = shows_none opened lines x shows in
+    let next = lawful_push opened lines x lawful (shows_fit opened lines x shows) (λ c. let P : List Event → Type 0 = λ h. IsLawful h in subst P (sym (history_same opened lines x c (none.event c))) (lawful.histories c)) in
+    subst (IsLawfulTrace opened) (append_assoc lines (x ∷ []) more) (lawful_shown opened (lines ++ x ∷ []) more next (λ k d lt. shows_still opened lines x _ none (All-tail (Shows opened lines) x more all k d lt)))
+
+none_shown : (opened : List Bool) (lines more : List TraceLine) (c : ℕ) → All (Shows opened lines) more → events_on c more ≡ []
+unfolding events_on
+none_shown opened lines [] c all = refl
+none_shown opened lines (x ∷ more) c all = grind (arith, All-head, shows_none, none_shown opened lines more c (All-tail (Shows opened lines) x more all))
+
+pub events_both : (c : ℕ) (xs ys : List TraceLine) → events_on c (xs ++ ys) ≡ events_on c xs ++ events_on c ys
+unfolding events_on
+events_both c xs ys = filter_map-append (event_on c) xs ys
+
+shown_by_state : (h : List Event) (s : State) → FitsState h s → shown_state (active h) (waiting h) ≡ channel_state h
+shown_by_state h s fits = grind (arith, active_at, full_at, waiting_at, is_active, held_word)
+
+module _ (opened : List Bool) (events : List TraceLine) where
+  -- a text of such lines, behind those of the events
+  pub record IsShown (text : List ℕ) : Type 0 where
+    pub lines : List TraceLine
+    pub said : Says Tells text lines
+    pub shown : All (Shows opened events) lines
+
+  pub shown_none : IsShown []
+  shown_none = record { lines = []; said = λ rest more is. is; shown = All-nil (Shows opened events) }
+
+  pub shown_both : (a b : List ℕ) → IsShown a → IsShown b → IsShown (a ++ b)
+  shown_both a b first second = record {
+    lines = first.lines ++ second.lines;
+    said = says_both Tells a b first.lines second.lines first.said second.said;
+    shown = All-append (Shows opened events) first.lines second.lines first.shown second.shown;
+  }
+
+  pub shown_each : {X : Type 0} (P : X → Type 0) (text : X → List ℕ) (xs : List X) → All P xs → ((x : X) → P x → IsShown (text x)) → IsShown (flat_map text xs)
+  shown_each P text [] all each = shown_none
+  shown_each P text (x ∷ xs) all each = shown_both (text x) (flat_map text xs) (each x (All-head P x xs all)) (shown_each P text xs (All-tail P x xs all) each)
+
+  pub shown_if : (b : Bool) (text : List ℕ) → (IsTrue b → IsShown text) → IsShown (if b then text else [])
+  shown_if true text shown = shown refl
+  shown_if false text shown = shown_none
+
+  pub shown_processor : (n : ℕ) (pp : Processor) (said : List ℕ) → list_all is_plain said ≡ true → IsTrue (names_processor n) → IsShown (processor_line n pp said)
+  shown_processor n pp said plain names = record {
+    lines = Other ∷ [];
+    said = subst (λ text. Says Tells text (Other ∷ [])) (sym (processor_line_is n pp said)) (tells_line (processor_body n pp said) Other (plain_processor n pp said plain) (processor_line_read n pp said plain names));
+    shown = All-cons (Shows opened events) Other [] tt (All-nil (Shows opened events));
+  }
+
+  shown_channel : (c : ℕ) (h : List Event) → IsTrue (names_channel c) → history opened events c ≡ h → IsLawful h → HistoryFits h → IsShown (channel_line c h)
+  shown_channel c [] names same lawful fits = shown_none
+  shown_channel c (e ∷ h) names same lawful fits =
+      let s = state_at (e ∷ h) lawful in
+      let line = Standing c (shown_state (active (e ∷ h)) (waiting (e ∷ h))) in
+      record {
+        lines = line ∷ [];
+        said = subst (λ text. Says Tells text (line ∷ [])) (sym (channel_line_is c e h)) (tells_fields (channel_field c ∷ state_fields (active (e ∷ h)) (waiting (e ∷ h))) line (are_channel_fields c _ _) (channel_line_read c (active (e ∷ h)) (waiting (e ∷ h)) names fits));
+        shown = All-cons (Shows opened events) line [] (shown_by_state (e ∷ h) s.0 s.2 ∙ ap channel_state (sym same)) (All-nil (Shows opened events));
+      }
+
+  all_named : All (λ c. IsTrue (names_channel c)) all_channels
+  unfolding all_channels tabulate names_channel channel_number is_number number_of
+  all_named = AllPass-from_list_all names_channel all_channels refl
+
+  pub shown_channels : (histories : List (List Event)) → ((c : ℕ) → IsTrue (names_channel c) → (history opened events c ≡ history_on c histories) × IsLawful (history_on c histories)) → ((c : ℕ) → IsTrue (names_channel c) → HistoryFits (history_on c histories)) → IsShown (flat_map (used_channel_line histories) all_channels)
+  shown_channels histories told fits = shown_each (λ c. IsTrue (names_channel c)) (used_channel_line histories) all_channels all_named (λ c names. shown_channel c (history_on c histories) names (told c names).0 (told c names).1 (fits c names))
+
+  -- a text that tells these events, and then only shows how things stand
+  pub record IsRead (text : List ℕ) : Type 0 where
+    pub lawful : AreLawful opened (lines_of text)
+    pub told : (c : ℕ) → events_on c (parsed_lines (lines_of text)) ≡ events_on c events
+
+  pub text_read : (a b : List ℕ) → Says Tells a events → IsLawfulTrace opened events → IsShown b → IsRead (a ++ b)
+  text_read a b says lawful shown =
+      let more = shown.lines ++ Other ∷ [] in
+      let all = All-append (Shows opened events) shown.lines (Other ∷ []) shown.shown (All-cons (Shows opened events) Other [] tt (All-nil (Shows opened events))) in
+      let told = subst (λ text. Tells text (events ++ more)) (append-nil (a ++ b)) (rw (← append_assoc events shown.lines (Other ∷ [])) (says_both Tells a b events shown.lines says shown.said [] (Other ∷ []) no_text)) in
+      record {
+        lawful = record { said = told.said; lawful = rw told.are (lawful_shown opened events more lawful all) };
+        told = λ c. ap (events_on c) told.are ∙ events_both c events more ∙ ap (λ es. events_on c events ++ es) (none_shown opened events more c all) ∙ append-nil (events_on c events);
+      }

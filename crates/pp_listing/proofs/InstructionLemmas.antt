@@ -14,8 +14,7 @@ use Rattle.pp_numbers.proofs.GrowingLists.{last_of}
 use Rattle.pp_text.specs.InstructionText.{is_long}
 use Rattle.pp_listing.specs.ListedLine.{ListedLine, one_word, two_words, says}
 use Rattle.pp_listing.specs.Listing.{instruction_lines, start_line}
-use Rattle.pp_listing.proofs.ListedLineLemmas.{fields_said}
-use Rattle.pp_listing.proofs.PrintedTextLemmas.{words_line_read}
+use Rattle.pp_listing.proofs.ListedLineLemmas.{fields_said, words_line_read}
 use Rattle.pp_deck.proofs.SectionLinesLemmas.{all_unset}
 
 all_if : (P : Line → Type 0) (b : Bool) (xs ys : List ListedLine) → AllByRecursion P (map says xs) → AllByRecursion P (map says ys) → AllByRecursion P (map says (cond b xs ys))

@@ -2,7 +2,6 @@ mod DumpLawLemmas
 mod InstructionLemmas
 mod ListedLemmas
 mod ListingLemmas
-mod PrintedTextLemmas
 mod RunDeckLemmas
 mod StepLemmas
 mod TextLemmas

@@ -35,8 +35,7 @@ use Rattle.pp_listing.specs.ListedLine.{ListedLine, bare, says, text_line}
 use Rattle.pp_listing.specs.Listing.{ReadsBackAs, central_word_line, dead_start_line, listed, listing, named_section, section_lines}
 use Rattle.pp_listing.proofs.InstructionLemmas.{IsReadInSection, instructions_read, start_all}
 use Rattle.pp_listing.proofs.ListedLemmas.{all_of_body, each_of_body, body_of, word_line, central_lines, dead_line, lines_of_parts, asked_held, central_held, central_is, memory_held, memory_is, memory_with, named_held, processor_is, start_held, number_count, processor_counts, sections_by_number}
-use Rattle.pp_listing.proofs.ListedLineLemmas.{fields_said}
-use Rattle.pp_listing.proofs.PrintedTextLemmas.{central_words_read, section_read, dead_start_read, start_read, IsReady, meaning_behind, meaning_printed, read_behind, read_lines}
+use Rattle.pp_listing.proofs.ListedLineLemmas.{fields_said, central_words_read, section_read, dead_start_read, start_read, IsReady, meaning_behind, meaning_printed, read_behind, read_lines}
 
 -- ---- the lines are read as they are
 

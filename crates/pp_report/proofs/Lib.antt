@@ -5,7 +5,6 @@ mod ServeLemmas
 mod ReportLemmas
 mod AuthorLemmas
 mod EventLineLemmas
-mod AuthorLawLemmas
 -- facts of the definitions, which proofs of other crates cite
 pub mod LoadedLemmas
 pub mod ReportLawLemmas

@@ -1,34 +1,70 @@
 -- The text of a report tells its events, its workers' ends and its channels.
-use Rattle.std.proofs.Common.{◌≡◌, ◌∙◌, All, ℕ, zero, suc, ◌+◌, ◌<◌, ◌≤◌, length, Bool, true, false, List, [], ◌∷◌, ◌++◌, Option, None, map, take, refl, sym, ap, subst, arith, length-append, append_assoc, codes}
-use Rattle.std.specs.Prelude.{◌↔◌, ◌==◌, get_or, option_map, slice_get, slice_index_or, IfSome, IsTrue, if◌then◌else◌}
-use Rattle.std.specs.List.{enumerate_from, filter_map, flat_map, range_with_len}
-use Rattle.std.proofs.lemmas.Bool.{false_from_ne_true}
+use Rattle.std.proofs.Common.{◌≡◌, ◌∙◌, ℕ, zero, suc, ◌+◌, ◌<◌, ◌≤◌, ◌⊎◌, cond, List, [], ◌∷◌, length, Option, Some, None, refl, sym, ap, arith, inl, inr, lt-ltb, All, Bool, true, false, ◌++◌, map, take, subst, length-append, append_assoc, codes}
+use Rattle.std.specs.Prelude.{◌↔◌, nat_lt, ◌==◌, get_or, option_map, slice_get, slice_index_or, IfSome, IsTrue, if◌then◌else◌}
+use Rattle.std.specs.List.{position_from, enumerate_from, filter_map, flat_map, range_with_len}
+use Rattle.std.proofs.lemmas.Bool.{cases_lt}
+use Rattle.std.proofs.lemmas.Iterator.Adapters.{position_from-zero}
+use Rattle.pp_line.proofs.MergeLemmas.{times_told-append}
+use Rattle.pp_line.specs.Merge.{Merges, times_logged}
+use Rattle.pp_channel.specs.History.{history_on, IsLawful}
+use Rattle.pp_report.specs.Types.{Event, Worker, Report}
+use Rattle.pp_runner.specs.WorkerReport.{logs_of}
+use Rattle.pp_report.specs.PrintedReport.{author_place, channel_events, end_text, named_worker_line, numbered_event_line, printed_report, worker_line}
 use Rattle.std.proofs.lemmas.List.Elements.{All-append, All-cons, All-head, All-nil, All-tail, filter_map-append}
 use mathlib.Core.List.{map-map}
 use Rattle.pp_numbers.specs.ChannelNo.{all_channels, names_channel}
 use Rattle.pp_numbers.proofs.ChannelNoLemmas.{channel_fits}
-use Rattle.pp_channel.specs.History.{IsLawful, history_on}
-use Rattle.pp_line.specs.Merge.{Merges}
-use Rattle.pp_report.specs.Types.{Event, Report, Worker}
 use Rattle.pp_channel.proofs.EachHistory.{lawful_on}
 use Rattle.pp_machine.specs.Headline.{opening_history}
 use Rattle.pp_machine.specs.MachineState.{MachineState, is_opened}
-use Rattle.pp_numbers.specs.PpNo.{all_processors, names_processor, processor_index}
+use Rattle.pp_numbers.specs.PpNo.{all_processors, processor_index}
 use Rattle.pp_numbers.proofs.PpNoLemmas.{processor_fits}
 use Rattle.pp_runner.specs.End.{HasEndNumber}
-use Rattle.pp_runner.specs.WorkerReport.{logs_of}
 use Rattle.pp_word.specs.Numeral.{decimal, octal}
-use Rattle.pp_report.specs.PrintedReport.{author_place, channel_events, end_text, named_worker_line, numbered_event_line, printed_report, worker_line}
 use Rattle.pp_text.specs.PrintedText.{event_text, line_end, processor_line}
 use Rattle.pp_text.proofs.PrintingLemmas.{channels_by_number}
 use Rattle.pp_report.specs.ReportLaw.{AgreeOnReport, FitsItsEnd, FitsItsLine, FitsItsReport, ShownEnd, PrintedEvent, end_of, shown_end, printed_by, printed_events, printed_on}
 use Rattle.pp_text.specs.TextLaw.{ShowSameChannel}
-use Rattle.pp_report.proofs.AuthorLawLemmas.{only_openings}
 use Rattle.pp_report.proofs.EventLineLemmas.{enumerate_more}
 use Rattle.pp_text.proofs.HistoryLawLemmas.{both_used, one_history}
 use Rattle.pp_text.proofs.Format.{Format, Piece, always, decimal_front, decimals, field, flat_map_each, front_fails, is_digit_at, many, mark, octals, piece_tells, rows, rows_fit, rows_tell, whole, ◌▷◌, ◌▸◌}
 use Rattle.pp_text.proofs.Formats.{IsChannelLine, channel_lines, channel_row, channels_are, channels_fit, channels_same, channels_shown, events, named_rows, named_rows_are, named_rows_fit, named_rows_tell, processors}
 use Rattle.pp_text.proofs.Telling.{Tells}
+
+-- where a search passes over a log, that log does not tell the event
+untold : (n : ℕ) (i : ℕ) (more : Option ℕ) → cond (nat_lt 0 n) (Some i) more ≡ None → (n ≡ 0) × (more ≡ None)
+untold zero i more e = (refl, e)
+untold (suc n) i more e = grind (arith, lt-ltb)
+
+module _ {Z : Type 0} (c number : ℕ) where
+  from_none : (i : ℕ) (ws : List (Worker Z)) → times_logged c number (logs_of ws) ≡ 0 → position_from (λ (w : Worker Z). nat_lt 0 (times_logged c number w.log.items)) i ws ≡ None
+  from_none i [] none = refl
+  from_none i (w ∷ ws) none =
+      let both = times_told-append c number w.log.items (logs_of ws) in
+      let own : times_logged c number w.log.items ≡ 0 = omega (arith, none, both) in
+      let rest : times_logged c number (logs_of ws) ≡ 0 = omega (arith, none, both) in
+      ap (λ (n : ℕ). cond (nat_lt 0 n) (Some i) (position_from (λ (v : Worker Z). nat_lt 0 (times_logged c number v.log.items)) (i + 1) ws)) own ∙ from_none (i + 1) ws rest
+
+  to_none : (i : ℕ) (ws : List (Worker Z)) → position_from (λ (w : Worker Z). nat_lt 0 (times_logged c number w.log.items)) i ws ≡ None → times_logged c number (logs_of ws) ≡ 0
+  to_none i [] none = refl
+  to_none i (w ∷ ws) none =
+      let both = times_told-append c number w.log.items (logs_of ws) in
+      let parts = untold (times_logged c number w.log.items) i _ none in
+      let rest = to_none (i + 1) ws parts.1 in
+      omega (arith, both, parts.0, rest)
+
+pub only_openings : {Z : Type 0} (opening : ℕ → List Event) (histories : List (List Event)) (workers : List (Worker Z)) → Merges opening histories (logs_of workers) → (c number : ℕ) → number < length (history_on c histories) → (author_place c workers number ≡ None) ↔ (number < length (opening c))
+only_openings {Z} opening histories workers merged c number within = (
+  λ none. by_order none (cases_lt number (length (opening c))),
+  λ early. position_from-zero _ workers ∙ from_none c number 0 workers (merged.no_other c number (inl early)),
+)
+  where
+    by_order : author_place c workers number ≡ None → (number < length (opening c)) ⊎ (length (opening c) ≤ number) → number < length (opening c)
+    by_order none (inl early) = early
+    by_order none (inr late) =
+        let told = merged.once c number late within in
+        let untold = to_none c number 0 workers (sym (position_from-zero _ workers) ∙ none) in
+        absurd (omega (arith, told, untold))
 
 -- ---- the lines of events
 
@@ -113,9 +149,6 @@ ends_fit : {Z : Type 0} (named : List Bool) (report : Report Z) → FitsItsRepor
 ends_fit {Z} named report fits numbered = named_rows_fit IsEndLine named (λ n. end_of n report) (λ n low is. each_end n (processor_index n) report.ends.items low (fits.workers n is) numbered)
 
 -- ---- the whole text
-
-pub unnamed_line : {Z : Type 0} (named : List Bool) (workers : List (Worker Z)) (n : ℕ) → (IsTrue (names_processor n) → ⊥) → named_worker_line named workers n ≡ []
-unnamed_line named workers n none = rw (false_from_ne_true (names_processor n) none) refl
 
 abbrev Shown : Type 0
 Shown = List (ℕ × PrintedEvent) × (List (ℕ × ShownEnd) × List (ℕ × (Bool × Option ℕ)))

@@ -1,6 +1,5 @@
 mod ChangeLemmas
 mod WaitLemmas
-mod MemoryLineLemmas
 mod MemoryTextLemmas
 mod MemoryLawLemmas
 mod StateTextLemmas

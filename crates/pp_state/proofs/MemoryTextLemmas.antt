@@ -3,7 +3,7 @@ use Rattle.std.proofs.Common.{◌≡◌, ◌≢◌, ℕ, zero, suc, ◌+◌, ◌
 use Rattle.pp_processor.specs.Processor.{Processor, word_at}
 use Rattle.pp_word.specs.Numeral.{octal}
 use Rattle.pp_text.specs.PrintedText.{each_below, line_end}
-use Rattle.pp_state.proofs.MemoryLineLemmas.{trim_after}
+use Rattle.pp_state.proofs.MemoryLawLemmas.{trim_after}
 use Rattle.pp_state.specs.DisplayCode.{display_character, displayed}
 use Rattle.pp_numbers.specs.Bounds.{meets}
 use Rattle.pp_state.specs.MemoryText.{displayed_words, has_words, memory_line, octal_words, padded_line, shown_line, trimmed}

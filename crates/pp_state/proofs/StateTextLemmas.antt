@@ -1,10 +1,9 @@
 -- The text of how things stand tells what it shows.
-use Rattle.std.proofs.Common.{All, ◌≡◌, ◌∙◌, ◌≢◌, ℕ, ◌+◌, ◌^◌, ◌<◌, ◌≤◌, ◌/◌, ◌%◌, Bool, true, false, List, [], ◌∷◌, ◌++◌, Option, None, Some, length, refl, sym, ap, subst, arith, append_assoc, codes, lit<}
-use Rattle.std.specs.Prelude.{◌==◌, ◌&&◌, ◌||◌, nat_le, IfSome, IsTrue, get_or, nat_lt, not, option_map, unwrap_or, slice_index_or, if◌then◌else◌}
+use Rattle.std.proofs.Common.{All, ◌≡◌, ◌∙◌, ℕ, ◌+◌, ◌^◌, ◌<◌, ◌/◌, ◌%◌, Bool, true, false, List, [], ◌∷◌, ◌++◌, Option, None, Some, length, refl, sym, ap, arith, append_assoc, codes}
+use Rattle.std.specs.Prelude.{◌==◌, ◌&&◌, ◌||◌, IfSome, IsTrue, get_or, nat_lt, not, option_map, unwrap_or, slice_index_or, if◌then◌else◌}
 use Rattle.std.specs.List.{flat_map, list_all}
-use Rattle.std.proofs.lemmas.Bool.{and_from, and_parts, le-leb, lt-ltb, ne_eqb}
+use Rattle.std.proofs.lemmas.Bool.{and_parts, lt-ltb, ne_eqb}
 use Rattle.std.proofs.lemmas.Grind.{flat_map-append}
-use Rattle.pp_numbers.specs.ChannelNo.{all_channels}
 use Rattle.pp_numbers.specs.PpNo.{is_named, processor_index}
 use Rattle.pp_channel.specs.declared.flags.Flags.{Flags}
 use Rattle.pp_word.specs.Numeral.{is_digit, numeral, octal, short_octal}
@@ -12,7 +11,7 @@ use Rattle.pp_word.specs.Opcode.{opcode_at, row_of}
 use Rattle.pp_word.specs.declared.opcode.Opcode.{Opcode}
 use Rattle.pp_word.specs.declared.opcode.Opcode.TheVariants.{PSN}
 use Rattle.pp_word.specs.Address.{next_place, relative_to}
-use Rattle.pp_word.proofs.NumeralLemmas.{Pass, digits_pass, short_pass, short_read}
+use Rattle.pp_word.proofs.NumeralLemmas.{short_pass, short_read}
 use Rattle.pp_machine.specs.MachineState.{MachineState, processor_of}
 use Rattle.pp_machine.specs.MachineStep.{step_outcome}
 use Rattle.pp_processor.specs.NeedAndEffect.{need}
@@ -24,17 +23,17 @@ use Rattle.pp_processor.specs.declared.outcome.Outcome.TheVariants.{Held}
 use Rattle.pp_text.specs.InstructionText.{block_text, instruction_text, operands_of, operands_text, running_text}
 use Rattle.pp_text.specs.declared.operands.Operands.{Operands}
 use Rattle.pp_text.specs.declared.operands.Operands.TheVariants.{IndexedPlace, JumpPlace, Constant, PlaceAndNumber, Number}
-use Rattle.pp_text.specs.PrintedText.{line_end, processor_line, used_channel_line}
+use Rattle.pp_text.specs.PrintedText.{line_end, processor_line}
 use Rattle.pp_text.specs.Standing.{block_place_text, held_text, standing}
-use Rattle.pp_text.proofs.Format.{Format, Piece, always, characters, digit_front, field, front_fails, is_digit_at, many, mark, maybe, octals, piece_tells, run_of, whole, ◌▷◌, ◌▸◌}
+use Rattle.pp_text.proofs.Format.{Format, Piece, always, characters, field, front_fails, is_digit_at, many, mark, maybe, octals, piece_tells, run_of, whole, ◌▷◌, ◌▸◌}
 use Rattle.pp_text.proofs.Formats.{IsChannelLine, IsHold, channel_lines, channel_row, channels_are, channels_fit, channels_same, channels_shown, holds, named_rows, named_rows_are, named_rows_fit, named_rows_tell, processors, states}
 use Rattle.pp_text.proofs.Telling.{decimal_digit}
 use Rattle.pp_run.specs.StepCounts.{no_steps}
 use Rattle.pp_run.specs.declared.step_counts.StepCounts.{StepCounts}
 use Rattle.pp_deck.specs.DeckLine.{Line, nothing, central_size, central_words, section, start, words, dead_start}
-use Rattle.pp_listing.specs.ListedLine.{after_blank, deck_line}
+use Rattle.pp_listing.specs.ListedLine.{deck_line}
 use Rattle.pp_state.specs.Changes.{changed_central, changed_sections}
-use Rattle.pp_state.specs.StateText.{changes_text, standing_line, state_text as whole_state}
+use Rattle.pp_state.specs.StateText.{changes_text, state_text as whole_state}
 use Rattle.pp_state.specs.ShownStanding.{AgreeOnState, FitsItsStanding, FitsItsState, FitsItsWords, ShownProcessor, hold_of, processor_shown, words_changed}
 
 -- ---- the text of an instruction, up to a blank before a letter or to the end of the line

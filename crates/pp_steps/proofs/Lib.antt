@@ -5,7 +5,6 @@ mod PlaceLemmas
 mod RunCountLemmas
 mod CountedRuns
 mod ChosenSteps
-mod TextOfSteps
 mod EventLawLemmas
 mod StepLawLemmas
 mod ShownLemmas

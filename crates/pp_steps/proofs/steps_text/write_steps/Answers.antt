@@ -18,7 +18,7 @@ use Rattle.pp_steps.specs.declared.cursor.LineKind.TheVariants.{NoLine}
 use Rattle.pp_numbers.proofs.TableLemmas.{length-tabulate}
 use Rattle.pp_steps.specs.StepsText.{kind_text, steps_text}
 use Rattle.pp_steps.proofs.ChosenSteps.{chosen_from, chosen_more, chosen_parts, few_chosen, next_chosen, none_left, step_in}
-use Rattle.pp_steps.proofs.TextOfSteps.{IsSoFar, everything, nothing_so_far, turn_told}
+use Rattle.pp_steps.proofs.StepLawLemmas.{IsSoFar, everything, nothing_so_far, turn_told}
 use Rattle.pp_steps.proofs.CountedRuns.{made_few, made_here, made_more, none_made}
 use Rattle.pp_steps.proofs.RunCountLemmas.{times_grow}
 use Rattle.pp_steps.proofs.LineLemmas.{kept_ok}

@@ -5,7 +5,7 @@ use Rattle.pp_run.specs.BareMachine.{StandsFor}
 use Rattle.pp_steps.specs.Choice.{chosen_steps}
 use Rattle.pp_steps.specs.Cursor.{each_cursor}
 use Rattle.pp_steps.proofs.ChosenSteps.{chosen_from}
-use Rattle.pp_steps.proofs.TextOfSteps.{IsSoFar}
+use Rattle.pp_steps.proofs.StepLawLemmas.{IsSoFar}
 use Rattle.pp_steps.proofs.steps_text.write_steps.Given as goal
 
 abbrev pub invariant-loop-n : goal.invariant-loop-n
