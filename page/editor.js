@@ -49,12 +49,14 @@ function placesOf(/** @type {string[]} */ lines) {
 
 /** Shows what there is to say of the lines in sight. */
 function showRows(/** @type {string} */ id) {
-  const box = $(id), rows = $(`${id}-rows`), count = box.value.split('\n').length;
-  const first = Math.floor(box.scrollTop / ROW), most = Math.ceil(box.clientHeight / ROW) + 1;
+  const box = $(id), rows = $(`${id}-rows`), count = id === 'deck' && long ? long.count : linesIn(box.value);
+  const scrollTop = box.scrollTop + box.parentElement.scrollTop; // one of them scrolls
+  const height = Math.min(box.clientHeight, box.parentElement.clientHeight);
+  const first = Math.floor(scrollTop / ROW), most = Math.ceil(height / ROW) + 1;
   const length = Math.min(count - first, most);
   rows.replaceChildren(...Array.from({ length }, (_, n) => rowBeside(id, first + n)));
   rows.parentElement.style.setProperty('--digits', `${count}`.length);
-  rows.style.setProperty('--hidden', `${box.scrollTop % ROW}px`);
+  rows.style.setProperty('--hidden', `${scrollTop % ROW}px`);
 }
 
 /** The number of a line, and its instructions: a click runs to there. */
