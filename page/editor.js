@@ -2,9 +2,10 @@
 
 const ROW = 19, MOST_FOUND = 5000; // the height of a line in pixels; characters of what is found
 const /** @type {Record<string, Notes>} */ found = { deck: new Map(), trace: new Map() };
-/** The instructions that each line of the deck loads, as listed. */
-const /** @type {Map<number, Line[]>} */ instructions = new Map();
-let /** @type {Uint8Array | undefined} */ explained;
+const LISTED = /^(?:PP (\d+)$|(\d{4}) (\d{4})[^*\n]*\* (.*\S))/gm; // lines of a listing
+/** The first word of the instruction at each place of the deck, and what it does; where sections begin. */
+const /** @type {Map<string, { word: string, text: string }>} */ instructions = new Map();
+let /** @type {RegExpMatchArray[]} */ sections = [], /** @type {Uint8Array | undefined} */ explained;
 
 /** Notes findings: each its words, and its line counted from 1. */
 function noteFound(/** @type {string} */ id, /** @type {Iterable<string[]>} */ findings) {
@@ -15,53 +16,52 @@ function noteFound(/** @type {string} */ id, /** @type {Iterable<string[]>} */ f
 
 /** Finds what is wrong in the deck, and what its lines do, but those at fault. */
 async function explain(/** @type {Answer} */ state, /** @type {Answer} */ { status, output }) {
-  const isFaulty = state.status !== 0, findings = [...output.matchAll(/^(\d+):\d+ .*$/gm)];
-  const words = findings.map(([words]) => words).join('\n').slice(0, MOST_FOUND);
-  $('fault').textContent = words || (state.status > 0 ? faultOf(state) : '');
+  const asked = deck, findings = [...output.matchAll(/^(\d+):\d+ .*$/gm)];
+  $('fault').textContent = output.slice(0, MOST_FOUND).trimEnd() || (state.status > 0 ? faultOf(state) : '');
   if (explained === deck || status === STOPPED) return;
   noteFound('deck', findings);
-  const lines = /** @type {string[]} */ ($('deck').value.split('\n'));
-  const sound = lines.map((it, n) => (isFaulty && found.deck.has(n) ? '' : it));
-  const input = isFaulty ? bytesOf(sound.join('\n')) : deck, lineOf = placesOf(sound), asked = deck;
+  const sound = deckText.split('\n').map((it, n) => (found.deck.has(n) ? '' : it));
+  const input = state.status ? bytesOf(sound.join('\n')) : deck;
   const listing = await ask(['list', ...machineWords()], front, input);
   if (listing.status === STOPPED || deck !== asked) return;
   explained = deck;
   instructions.clear();
-  for (const it of linesOf(listing.output)) {
-    const line = lineOf.get(it.place), does = it.text.split('* ')[1]?.trimEnd();
-    if (line === undefined || !does) continue;
-    instructions.set(line, [...instructions.get(line) ?? [], { ...it, text: does }]);
+  let section = '';
+  for (const [, pp, at, word, text] of listing.output.matchAll(LISTED)) {
+    if (pp) section = pp.padStart(2, '0');
+    else instructions.set(`PP${section} P=${at}`, { word, text });
   }
+  sections = [...deckText.matchAll(/^[ \t]*PP[ \t]+(\d+)/gm)];
 }
 
-/** The line that sets each place, as `PP00 P=0105`. Of other lines the place is no number. */
-function placesOf(/** @type {string[]} */ lines) {
-  const /** @type {Map<string, number>} */ lineOf = new Map();
-  let section = '';
-  for (const [n, line] of lines.entries()) {
-    const [first = '', ...words] = line.replace(/(^|\s)\*.*/, '').trim().split(/\s+/);
-    if (first === 'PP') section = words[0]?.padStart(2, '0') ?? '';
-    const placeOf = (k = 0) => (parseInt(first, 8) + k).toString(8).padStart(4, '0');
-    for (const k of words.keys()) lineOf.set(`PP${section} P=${placeOf(k)}`, n);
-  }
-  return lineOf;
+/** The instructions that a line of the deck loads, if no other line sets their places otherwise. */
+function stepsIn(/** @type {string} */ line, /** @type {number} */ at) {
+  const section = sections.findLast(it => it.index <= at)?.[1].padStart(2, '0');
+  const [first, ...words] = line.replace(/(^|\s)\*.*/, '').trim().split(/\s+/);
+  return words.map((word, k) => {
+    const place = `PP${section} P=${(parseInt(first, 8) + k).toString(8).padStart(4, '0')}`;
+    const it = instructions.get(place);
+    return { place, text: it?.word === word.padStart(4, '0') ? it.text : '' };
+  }).filter(it => it.text);
 }
 
 /** Shows what there is to say of the lines in sight. */
 function showRows(/** @type {string} */ id) {
-  const box = $(id), rows = $(`${id}-rows`), count = id === 'deck' && long ? long.count : linesIn(box.value);
-  const scrollTop = box.scrollTop + box.parentElement.scrollTop; // one of them scrolls
-  const height = Math.min(box.clientHeight, box.parentElement.clientHeight);
-  const first = Math.floor(scrollTop / ROW), most = Math.ceil(height / ROW) + 1;
-  const length = Math.min(count - first, most);
-  rows.replaceChildren(...Array.from({ length }, (_, n) => rowBeside(id, first + n)));
+  const isDeck = id === 'deck', box = $(isDeck ? 'sight' : id), rows = $(`${id}-rows`);
+  const lines = /** @type {string[]} */ ($(id).value.split('\n')), before = isDeck ? pane.line : 0;
+  const count = isDeck ? lineCount : lines.length, first = Math.floor(box.scrollTop / ROW);
+  const inSight = lines.slice(first - before, first - before + Math.ceil(box.clientHeight / ROW) + 1);
+  let at = pane.from + lines.slice(0, first - before).join('\n').length;
+  rows.replaceChildren(...inSight.map((line, n) =>
+    rowBeside(id, first + n, isDeck ? stepsIn(line, at += line.length + 1) : [])));
   rows.parentElement.style.setProperty('--digits', `${count}`.length);
-  rows.style.setProperty('--hidden', `${scrollTop % ROW}px`);
+  rows.style.setProperty('--hidden', `${box.scrollTop % ROW}px`);
 }
 
-/** The number of a line, and its instructions: a click runs to there. */
-function rowBeside(/** @type {string} */ id, /** @type {number} */ n) {
-  const all = id === 'deck' ? instructions.get(n) ?? [] : [], words = found[id].get(n);
+/** The number of a line, and its instructions: a click runs to there.
+ * @type {(id: string, n: number, all: { place: string, text: string }[]) => any} */
+function rowBeside(id, n, all) {
+  const words = found[id].get(n);
   const lit = all.filter(({ place }) => runsAt(place)), goal = $('target').value;
   const marks = [words && 'bad', lit[0] && 'lit', all.some(it => it.place === goal) && 'stop'];
   const leadTo = (/** @type {string} */ tag, /** @type {object} */ more, place = '') =>

@@ -43,7 +43,7 @@ async function show() {
 /** The deck, the machine or the length of the run has changed. */
 function renew() {
   clearTimeout(renewing);
-  deck = bytesOf(deckText());
+  deck = bytesOf(deckText);
   forget();
   drawn = null;
   endings = [];
@@ -115,11 +115,11 @@ const DOES = {
       clearTimeout(choosing);
       choosing = setTimeout(load, it.matches(':focus-visible') ? 700 : 0, it.value);
     } },
-  keydown: { deck: typeKey }, beforeinput: { deck: beforeInput }, selectionchange: { deck: reselected },
-  copy: { deck: copyPart }, cut: { deck: copyPart }, paste: { deck: paste },
+  keydown: { deck: typeKey }, keyup: { deck: () => readSelection() && reveal() },
+  beforeinput: { deck: beforeTyped }, copy: { deck: copyPart }, cut: { deck: copyPart },
   input: { deck: typed, turn: showSoon, trace: showSoon, opened: showSoon,
     pp: showSoon, states: showSoon, left: showSoon, right: showSoon },
-  scroll: { deck: () => showRows('deck'), sight: scrolled, trace: () => showRows('trace'),
+  scroll: { sight: scrolled, trace: () => showRows('trace'),
     drawing: () => keepNames() },
   pointerdown: { drawing: drag }, pointermove: { drawing: drag },
   submit: { goal: () => runTo($('target').value.trim()) },
@@ -137,7 +137,7 @@ async function begin() {
   recall();
   Object.assign(window, { onkeydown: press, onhashchange: recall, onpagehide: remember,
     onafterprint: () => keepNames(), onresize: () => showRows('deck'),
-    onbeforeprint: () => { $('paper').textContent = deckText(); keepNames(0); },
+    onbeforeprint: () => { $('paper').textContent = deckText; keepNames(0); },
     onsubmit: (/** @type {Event} */ e) => e.preventDefault(), ondragover: drop, ondrop: drop });
 }
 

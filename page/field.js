@@ -1,0 +1,133 @@
+// ---- the text of the deck, and its field
+// A browser lays out all lines of a field at each key. So of a long deck the field has only those round
+// what is in sight, its pane; the page keeps the text, what is selected, and what undo takes back.
+
+const MOST_WHOLE = 2000, PANE = 400; // lines of a deck that is in the field whole, and of a pane
+let deckText = '', lineCount = 1, selected = [0, 0], done = 0; // changes that are not taken back
+const pane = { line: 0, from: 0, to: 0, shown: [0, 0] }; // its first line, its ends, its selection
+const /** @type {Change[]} */ changes = [];
+
+const linesIn = (text = '') => text.split('\n').length;
+const lineAt = (at = 0) => (at < pane.from ? linesIn(deckText.slice(0, at))
+  : pane.line + linesIn(deckText.slice(pane.from, at))) - 1;
+
+/** Reads what is selected. An end that the pane has not stays until that in the field is moved. */
+function readSelection() {
+  const { selectionStart, selectionEnd, value } = $('deck'), [start, end] = pane.shown;
+  const isOther = start !== selectionStart || end !== selectionEnd, before = selected;
+  const isAll = isOther && selectionStart === 0 && selectionEnd === value.length;
+  pane.shown = [selectionStart, selectionEnd];
+  selected = isAll ? [0, deckText.length] : pane.shown.map(at =>
+    (at === end ? before[1] : at === start ? before[0] : pane.from + at));
+  return isOther;
+}
+
+/** Moves the pane to be round a line, if that is by more than so many lines. */
+function movePane(line = 0, slack = -1) {
+  const field = $('deck'), length = lineCount > MOST_WHOLE ? PANE : MOST_WHOLE;
+  const first = Math.max(0, Math.min(line - length / 2, lineCount - length));
+  if (Math.abs(first - pane.line) <= slack) return;
+  const direction = field.selectionDirection;
+  pane.line = first;
+  pane.from = 0;
+  for (let n = 0; n < first; n++) pane.from = deckText.indexOf('\n', pane.from) + 1;
+  field.value = deckText.slice(pane.from).split('\n', length).join('\n');
+  fitPane();
+  pane.shown = selected.map(it => Math.max(0, Math.min(it, pane.to) - pane.from));
+  field.setSelectionRange(...pane.shown, direction);
+}
+
+/** Gives the field the size of its lines, and their place among all. */
+function fitPane() {
+  const field = $('deck'), lines = /** @type {string[]} */ (field.value.split('\n'));
+  pane.to = pane.from + field.value.length;
+  field.rows = lines.length;
+  field.cols = Math.max(...lines.map(it => it.replaceAll('\t', ' '.repeat(8)).length)) + 2;
+  field.style.margin = `${pane.line * ROW}px 0 ${(lineCount - pane.line - lines.length) * ROW}px`;
+}
+
+/** Brings the caret into the pane, and into sight. */
+function reveal(slack = PANE / 4) {
+  const box = $('sight'), isBackward = $('deck').selectionDirection === 'backward';
+  const line = lineAt(selected[isBackward ? 0 : 1]), y = line * ROW - box.scrollTop;
+  const isSeen = y > -ROW && y < box.clientHeight;
+  if (slack < 0 || !isSeen) movePane(line, slack);
+  if (!isSeen) box.scrollTop += y - box.clientHeight / 2;
+}
+
+/** The pane follows what is in sight. */
+function scrolled() {
+  const { scrollTop, clientHeight } = $('sight');
+  readSelection();
+  movePane(Math.floor((scrollTop + clientHeight / 2) / ROW), PANE / 4);
+  showRows('deck');
+}
+
+/** Replaces a part of the text. */
+function replace(at = 0, old = '', made = '') {
+  deckText = deckText.slice(0, at) + made + deckText.slice(at + old.length);
+  lineCount += linesIn(made) - linesIn(old);
+}
+
+/** Replaces a part of the text by another, and notes it; what is typed on and on is one change. */
+function change(at = 0, end = at, made = '', after = [0, 0], how = '') {
+  const old = deckText.slice(at, end), last = changes[done - 1];
+  const goesOn = how === 'insertText' && last?.how === how && last.at === at
+    && last.made.length === old.length && last.after[1] === selected[1];
+  replace(at, old, made);
+  changes.length = done;
+  if (goesOn) Object.assign(last, { made, after });
+  else done = changes.push({ at, old, made, how, before: selected, after });
+  selected = after;
+}
+
+/** Takes what was typed. Of what was selected also goes what the pane has not. */
+function typed(/** @type {InputEvent} */ { inputType }) {
+  const { value, selectionEnd } = $('deck'), { from, to } = pane, [first, last] = selected;
+  const at = last > from ? Math.min(first, from) : from, end = first < to ? Math.max(last, to) : to;
+  change(at, end, value, [at + selectionEnd, at + selectionEnd], inputType);
+  pane.shown = [selectionEnd, selectionEnd];
+  if (at < from || end > to || linesIn(value) > 2 * PANE && lineCount > MOST_WHOLE) reveal(-1);
+  else fitPane();
+  edited();
+}
+
+/** Takes the last change back, or makes it again. */
+function undo(isRedo = false) {
+  const { at, old, made, before, after } = changes[isRedo ? done : done - 1] ?? {};
+  if (at === undefined) return;
+  done += isRedo ? 1 : -1;
+  replace(at, ...(isRedo ? [old, made] : [made, old]));
+  selected = isRedo ? after : before;
+  reveal(-1);
+  edited(true);
+}
+
+/** Most keys act at the caret, which has to be in the pane. */
+function typeKey(/** @type {KeyboardEvent} */ e) {
+  const key = e.key.toLowerCase(), isCommand = e.ctrlKey || e.metaKey;
+  readSelection();
+  if (isCommand && (key === 'z' || key === 'y')) {
+    e.preventDefault();
+    undo(key === 'y' || e.shiftKey);
+  } else if (isCommand && key === 'home') movePane(0);
+  else if (isCommand && key === 'end') movePane(lineCount);
+  else if (isCommand ? key.length > 1 : /^(.|arrow.*|page.*|home|end|enter|backspace|delete)$/.test(key)) reveal();
+}
+
+/** Before the field changes; undo of its own it has no more. */
+function beforeTyped(/** @type {InputEvent} */ e) {
+  readSelection();
+  if (!e.inputType.startsWith('history')) return;
+  e.preventDefault();
+  undo(e.inputType === 'historyRedo');
+}
+
+/** Copies or cuts what is selected, if the pane has not all of it. */
+function copyPart(/** @type {ClipboardEvent} */ e) {
+  readSelection();
+  if (selected[0] >= pane.from && selected[1] <= pane.to) return;
+  e.preventDefault();
+  e.clipboardData?.setData('text/plain', deckText.slice(...selected));
+  if (e.type === 'cut') document.execCommand('delete');
+}
