@@ -36,7 +36,7 @@ async function explain(/** @type {Answer} */ state, /** @type {Answer} */ { stat
 
 /** The instructions that a line of the deck loads, if no other line sets their places otherwise. */
 function stepsIn(/** @type {string} */ line, /** @type {number} */ at) {
-  const section = sections.findLast(it => it.index <= at)?.[1].padStart(2, '0');
+  const section = sections.filter(it => Number(it.index) <= at).at(-1)?.[1].padStart(2, '0');
   const [first, ...words] = line.replace(/(^|\s)\*.*/, '').trim().split(/\s+/);
   return words.map((word, k) => {
     const place = `PP${section} P=${(parseInt(first, 8) + k).toString(8).padStart(4, '0')}`;
@@ -51,7 +51,7 @@ function showRows(/** @type {string} */ id) {
   const lines = /** @type {string[]} */ ($(id).value.split('\n')), before = isDeck ? pane.line : 0;
   const count = isDeck ? lineCount : lines.length, first = Math.floor(box.scrollTop / ROW);
   const inSight = lines.slice(first - before, first - before + Math.ceil(box.clientHeight / ROW) + 1);
-  let at = pane.from + lines.slice(0, first - before).join('\n').length;
+  let at = pane.from + lines.slice(0, first - before).join('\n').length - (first > before ? 0 : 1);
   rows.replaceChildren(...inSight.map((line, n) =>
     rowBeside(id, first + n, isDeck ? stepsIn(line, at += line.length + 1) : [])));
   rows.parentElement.style.setProperty('--digits', `${count}`.length);

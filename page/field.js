@@ -82,7 +82,7 @@ function change(at = 0, end = at, made = '', after = [0, 0], how = '') {
 }
 
 /** Takes what was typed. Of what was selected also goes what the pane has not. */
-function typed(/** @type {InputEvent} */ { inputType }) {
+function takeInput(/** @type {InputEvent} */ { inputType }) {
   const { value, selectionEnd } = $('deck'), { from, to } = pane, [first, last] = selected;
   const at = last > from ? Math.min(first, from) : from, end = first < to ? Math.max(last, to) : to;
   change(at, end, value, [at + selectionEnd, at + selectionEnd], inputType);

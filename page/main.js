@@ -117,7 +117,7 @@ const DOES = {
     } },
   keydown: { deck: typeKey }, keyup: { deck: () => readSelection() && reveal() },
   beforeinput: { deck: beforeTyped }, copy: { deck: copyPart }, cut: { deck: copyPart },
-  input: { deck: typed, turn: showSoon, trace: showSoon, opened: showSoon,
+  input: { deck: takeInput, turn: showSoon, trace: showSoon, opened: showSoon,
     pp: showSoon, states: showSoon, left: showSoon, right: showSoon },
   scroll: { sight: scrolled, trace: () => showRows('trace'),
     drawing: () => keepNames() },
