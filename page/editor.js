@@ -17,7 +17,8 @@ function noteFound(/** @type {string} */ id, /** @type {Iterable<string[]>} */ f
 /** Finds what is wrong in the deck, and what its lines do, but those at fault. */
 async function explain(/** @type {Answer} */ state, /** @type {Answer} */ { status, output }) {
   const asked = deck, findings = [...output.matchAll(/^(\d+):\d+ .*$/gm)];
-  $('fault').textContent = output.slice(0, MOST_FOUND).trimEnd() || (state.status > 0 ? faultOf(state) : '');
+  const words = findings.map(([words]) => words).join('\n').slice(0, MOST_FOUND);
+  $('fault').textContent = words || (state.status > 0 ? faultOf(state) : '');
   if (explained === deck || status === STOPPED) return;
   noteFound('deck', findings);
   const sound = deckText.split('\n').map((it, n) => (found.deck.has(n) ? '' : it));

@@ -475,7 +475,7 @@ async function edits() {
   await write('deck', long);
   await becomes('what is too long for the address is said to be', `$('kept').textContent.startsWith('Too long')`);
   await reload();
-  await becomes('and is kept', `$('deck').value.length === ${long.length}`);
+  await becomes('and is kept', `deckText === ${JSON.stringify(long)}`);
   await show({ kept: 'nothing' });
   await becomes('what another browser keeps is said to be elsewhere',
     `$('ran').textContent.startsWith('The deck of this address')`);
