@@ -4,7 +4,7 @@
 
 const MOST_WHOLE = 2000, PANE = 400; // lines of a deck that is in the field whole, and of a pane
 let deckText = '', lineCount = 1, selected = [0, 0], done = 0; // changes that are not taken back
-const pane = { line: 0, from: 0, to: 0, shown: [0, 0] }; // its first line, its ends, its selection
+const pane = { line: 0, from: 0, to: 0, shown: [0, 0], shift: false }; // first line, ends, selection, key
 const /** @type {Change[]} */ changes = [];
 
 const linesIn = (text = '') => text.split('\n').length;
@@ -15,7 +15,7 @@ const lineAt = (at = 0) => (at < pane.from ? linesIn(deckText.slice(0, at))
 function readSelection() {
   const { selectionStart, selectionEnd, value } = $('deck'), [start, end] = pane.shown;
   const isOther = start !== selectionStart || end !== selectionEnd, before = selected;
-  const isAll = isOther && selectionStart === 0 && selectionEnd === value.length;
+  const isAll = isOther && !pane.shift && selectionStart === 0 && selectionEnd === value.length;
   pane.shown = [selectionStart, selectionEnd];
   selected = isAll ? [0, deckText.length] : pane.shown.map(at =>
     (at === end ? before[1] : at === start ? before[0] : pane.from + at));
@@ -107,12 +107,18 @@ function undo(isRedo = false) {
 function typeKey(/** @type {KeyboardEvent} */ e) {
   const key = e.key.toLowerCase(), isCommand = e.ctrlKey || e.metaKey;
   readSelection();
+  pane.shift = e.shiftKey;
   if (isCommand && (key === 'z' || key === 'y')) {
     e.preventDefault();
     undo(key === 'y' || e.shiftKey);
   } else if (isCommand && key === 'home') movePane(0);
   else if (isCommand && key === 'end') movePane(lineCount);
   else if (isCommand ? key.length > 1 : /^(.|arrow.*|page.*|home|end|enter|backspace|delete)$/.test(key)) reveal();
+}
+
+function keyUp(/** @type {KeyboardEvent} */ e) {
+  if (readSelection()) reveal();
+  pane.shift = e.shiftKey;
 }
 
 /** Before the field changes; undo of its own it has no more. */

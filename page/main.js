@@ -115,7 +115,7 @@ const DOES = {
       clearTimeout(choosing);
       choosing = setTimeout(load, it.matches(':focus-visible') ? 700 : 0, it.value);
     } },
-  keydown: { deck: typeKey }, keyup: { deck: () => readSelection() && reveal() },
+  keydown: { deck: typeKey }, keyup: { deck: keyUp },
   beforeinput: { deck: beforeTyped }, copy: { deck: copyPart }, cut: { deck: copyPart },
   input: { deck: takeInput, turn: showSoon, trace: showSoon, opened: showSoon,
     pp: showSoon, states: showSoon, left: showSoon, right: showSoon },
