@@ -58,7 +58,7 @@ function load(/** @type {string} */ choice, /** @type {Run} */ run = decks()[cho
     $('sight').scrollTop = 0;
     reveal(-1);
   }
-  if (!before) changes.length = done = 0;
+  if (!before) states.splice(now = 0, states.length - 1);
   takeRun(choice, run);
 }
 
@@ -79,8 +79,10 @@ function takeRun(choice, { processors, order = '', turns, turn = turns, view }) 
 function edited(isUndo = false) {
   const all = decks(), same = isUndo && Object.keys(all).find(it => all[it].deck === deckText);
   if (same && same !== chosen) return takeRun(same, all[same]);
-  if (!mine()) chosen = adopt(runShown(), `my ${chosen}`);
-  listDecks();
+  if (!mine()) {
+    chosen = adopt(runShown(), `my ${chosen}`);
+    listDecks();
+  }
   if (lineCount <= MOST_WHOLE) return renew();
   showRows('deck');
   clearTimeout(renewing);

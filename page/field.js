@@ -3,9 +3,10 @@
 // what is in sight, its pane; the page keeps the text, what is selected, and what undo takes back.
 
 const MOST_WHOLE = 2000, PANE = 400; // lines of a deck that is in the field whole, and of a pane
-let deckText = '', lineCount = 1, selected = [0, 0], done = 0; // changes that are not taken back
+const MOST_NOTED = 1e8; // characters of texts that undo leads back to
+let deckText = '', lineCount = 1, selected = [0, 0], now = 0;
 const pane = { line: 0, from: 0, to: 0, shown: [0, 0], shift: false }; // first line, ends, selection, key
-const /** @type {Change[]} */ changes = [];
+const states = [{ text: '', before: selected, after: selected, how: '' }]; // for undo: `now` is shown
 
 const linesIn = (text = '') => text.split('\n').length;
 const lineAt = (at = 0) => (at < pane.from ? linesIn(deckText.slice(0, at))
@@ -63,42 +64,37 @@ function scrolled() {
   showRows('deck');
 }
 
-/** Replaces a part of the text. */
-function replace(at = 0, old = '', made = '') {
-  deckText = deckText.slice(0, at) + made + deckText.slice(at + old.length);
-  lineCount += linesIn(made) - linesIn(old);
-}
-
-/** Replaces a part of the text by another, and notes it; what is typed on and on is one change. */
-function change(at = 0, end = at, made = '', after = [0, 0], how = '') {
-  const old = deckText.slice(at, end), last = changes[done - 1];
-  const goesOn = how === 'insertText' && last?.how === how && last.at === at
-    && last.made.length === old.length && last.after[1] === selected[1];
-  replace(at, old, made);
-  changes.length = done;
-  if (goesOn) Object.assign(last, { made, after });
-  else done = changes.push({ at, old, made, how, before: selected, after });
-  selected = after;
+/** Puts a text into the deck, and notes how it stands then; what is typed on and on is one change. */
+function change(at = 0, end = at, made = '', caret = 0, how = '') {
+  const last = states[now], goesOn = how === 'insertText' && last.how === how && last.after[1] === selected[1];
+  const { before } = goesOn ? last : { before: selected };
+  lineCount += linesIn(made) - linesIn(deckText.slice(at, end));
+  deckText = deckText.slice(0, at) + made + deckText.slice(end);
+  selected = [caret, caret];
+  if (!goesOn) now++;
+  states.splice(now, Infinity, { text: deckText, before, after: selected, how });
+  for (; now && now * deckText.length > MOST_NOTED; now--) states.shift();
 }
 
 /** Takes what was typed. Of what was selected also goes what the pane has not. */
 function takeInput(/** @type {InputEvent} */ { inputType }) {
   const { value, selectionEnd } = $('deck'), { from, to } = pane, [first, last] = selected;
   const at = last > from ? Math.min(first, from) : from, end = first < to ? Math.max(last, to) : to;
-  change(at, end, value, [at + selectionEnd, at + selectionEnd], inputType);
+  change(at, end, value, at + selectionEnd, inputType);
   pane.shown = [selectionEnd, selectionEnd];
-  if (at < from || end > to || linesIn(value) > 2 * PANE && lineCount > MOST_WHOLE) reveal(-1);
+  if (at < from || end > to || linesIn(value) > MOST_WHOLE) reveal(-1);
   else fitPane();
   edited();
 }
 
 /** Takes the last change back, or makes it again. */
-function undo(isRedo = false) {
-  const { at, old, made, before, after } = changes[isRedo ? done : done - 1] ?? {};
-  if (at === undefined) return;
-  done += isRedo ? 1 : -1;
-  replace(at, ...(isRedo ? [old, made] : [made, old]));
-  selected = isRedo ? after : before;
+function undo(by = -1) {
+  const { before } = states[now], { text, after } = states[now + by] ?? {};
+  if (text === undefined) return;
+  now += by;
+  deckText = text;
+  selected = by < 0 ? before : after;
+  lineCount = linesIn(deckText);
   reveal(-1);
   edited(true);
 }
@@ -110,7 +106,7 @@ function typeKey(/** @type {KeyboardEvent} */ e) {
   pane.shift = e.shiftKey;
   if (isCommand && (key === 'z' || key === 'y')) {
     e.preventDefault();
-    undo(key === 'y' || e.shiftKey);
+    undo(key === 'y' || e.shiftKey ? 1 : -1);
   } else if (isCommand && key === 'home') movePane(0);
   else if (isCommand && key === 'end') movePane(lineCount);
   else if (isCommand ? key.length > 1 : /^(.|arrow.*|page.*|home|end|enter|backspace|delete)$/.test(key)) reveal();
@@ -126,7 +122,7 @@ function beforeTyped(/** @type {InputEvent} */ e) {
   readSelection();
   if (!e.inputType.startsWith('history')) return;
   e.preventDefault();
-  undo(e.inputType === 'historyRedo');
+  undo(e.inputType === 'historyRedo' ? 1 : -1);
 }
 
 /** Copies or cuts what is selected, if the pane has not all of it. */

@@ -23,7 +23,5 @@ type Drawn = { answer: Answer, from: number, to: number, width: number, names: E
   legend: Element };
 /** What is found in the lines of an editor, by their numbers from 0. */
 type Notes = Map<number, string>;
-/** What stood at a place of the deck, and what is put there; what was selected before and after. */
-type Change = { at: number, old: string, made: string, how: string, before: number[], after: number[] };
 /** A line of a text that leads to after a turn, or to a place: `PP00 P=0105`. */
 type Line = { text: string, at: number, place: string };
