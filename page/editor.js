@@ -21,7 +21,8 @@ async function explain(/** @type {Answer} */ state, /** @type {Answer} */ { stat
   $('fault').textContent = words || (state.status > 0 ? faultOf(state) : '');
   if (explained === deck || status === STOPPED) return;
   noteFound('deck', findings);
-  const sound = deckText.split('\n').map((it, n) => (found.deck.has(n) ? '' : it));
+  const sound = state.status ? deckText.split('\n') : [];
+  for (const n of state.status ? found.deck.keys() : []) sound[n] = '';
   const input = state.status ? bytesOf(sound.join('\n')) : deck;
   const listing = await ask(['list', ...machineWords()], front, input);
   if (listing.status === STOPPED || deck !== asked) return;
