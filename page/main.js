@@ -16,12 +16,12 @@ function showSoon() {
 async function show() {
   const it = ++shows, isOld = () => it !== shows, { before, by, input, also, paint } = VIEWS[view()];
   clearTimeout(saving);
-  const stands = ask(overRun('state', turn())), lint = ask(['lint', ...machineWords()]);
-  const drawing = drawingWords(), picture = ask(drawing), state = await stands;
+  const stands = ask(overRun('state', turn())), drawing = drawingWords(), picture = ask(drawing);
+  const state = await stands;
   if (isOld()) return;
   showHand(state);
   picture.then(it => { if (!isOld()) draw(drawing, it); });
-  await explain(state, await lint);
+  await explain(state);
   await before?.();
   if (isOld()) return;
   showRows('deck');
@@ -33,7 +33,7 @@ async function show() {
   const isWritten = status === 0 || output !== '';
   if (isOld()) return;
   const fault = faultOf(answer);
-  if (input) noteFound('trace', [...fault.matchAll(/^line (\d+).*/g)]);
+  if (input) explainTrace(.../^line (\d+).*/.exec(fault) ?? []);
   $('text').classList.toggle('bad', !isWritten);
   if (!isWritten) paintParts(`fault ${fault}`, () => [fault]);
   else if (paint) paint(answer, isOld);
