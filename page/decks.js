@@ -84,7 +84,6 @@ function edited(isUndo = false) {
     listDecks();
   }
   if (lineCount <= MOST_WHOLE) return renew();
-  showRows('deck');
   clearTimeout(renewing);
   renewing = setTimeout(renew, REST);
 }

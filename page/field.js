@@ -79,11 +79,13 @@ function change(at = 0, end = at, made = '', caret = 0, how = '') {
 /** Takes what was typed. Of what was selected also goes what the pane has not. */
 function takeInput(/** @type {InputEvent} */ { inputType }) {
   const { value, selectionEnd } = $('deck'), { from, to } = pane, [first, last] = selected;
+  const count = lineCount;
   const at = last > from ? Math.min(first, from) : from, end = first < to ? Math.max(last, to) : to;
   change(at, end, value, at + selectionEnd, inputType);
   pane.shown = [selectionEnd, selectionEnd];
   if (at < from || end > to || linesIn(value) > MOST_WHOLE) reveal(-1);
   else fitPane();
+  if (count !== lineCount) showRows('deck');
   edited();
 }
 
@@ -96,6 +98,7 @@ function undo(by = -1) {
   selected = by < 0 ? before : after;
   lineCount = linesIn(deckText);
   reveal(-1);
+  showRows('deck');
   edited(true);
 }
 
