@@ -1,6 +1,6 @@
 // ---- showing, and what a reader does
 
-let shows = 0, choosing = 0, /** @type {Promise<void> | null} */ next = null;
+let shows = 0, /** @type {Promise<void> | null} */ next = null;
 
 /** Shows all of it, once the worker is free; what has been at work for long is not waited for. */
 function showSoon() {
@@ -111,10 +111,7 @@ const DOES = {
   },
   change: { file: () => openFile($('file').files[0]), last: takeLast, order: typeOrder,
     processors: renew, more: showSoon, tabs: () => choose(),
-    example: (/** @type {any} */ { target: it }) => { // by keys once its name is typed
-      clearTimeout(choosing);
-      choosing = setTimeout(load, it.matches(':focus-visible') ? 700 : 0, it.value);
-    } },
+    example: () => load($('example').value) },
   keydown: { deck: typeKey }, keyup: { deck: keyUp },
   beforeinput: { deck: beforeTyped }, copy: { deck: copyPart }, cut: { deck: copyPart },
   input: { deck: takeInput, turn: showSoon, trace: showSoon, opened: showSoon,

@@ -536,7 +536,7 @@ async function long() {
     const times = (await value(`keyTimes`)).sort((a, b) => a - b);
     console.log(`a key at the ${name} of a megabyte: median ${times[10].toFixed(1)} ms, at most ${times.at(-1).toFixed(1)} ms`);
     expect(`keys at the ${name} are shown within 50 ms, by the median`, times[10] < 50);
-    await pause(600);
+    await pause(1000);
     await becomes(`a fault at the ${name} is marked at its line`, `$('deck-rows').querySelector('.bad')?.textContent
       === '${text.slice(0, at).split('\n').length}'`);
     await key('z');
