@@ -55,8 +55,8 @@ function load(/** @type {string} */ choice, /** @type {Run} */ run = decks()[cho
   keepMine();
   if (text !== before) {
     change(0, before.length, text);
-    $('sight').scrollTop = 0;
     reveal(-1);
+    scroller().scrollTop = 0;
   }
   if (!before) states.splice(now = 0, states.length - 1);
   takeRun(choice, run);

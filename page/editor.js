@@ -23,8 +23,8 @@ function explainTrace(words = '', line = '0') {
 
 /** Shows what there is to say of the lines in sight. */
 function showRows(/** @type {string} */ id) {
-  const isDeck = id === 'deck', box = $(isDeck ? 'sight' : id), rows = $(`${id}-rows`);
-  const count = isDeck ? lineCount : linesIn(box.value), first = Math.floor(box.scrollTop / ROW);
+  const isDeck = id === 'deck', box = isDeck ? scroller() : $(id), rows = $(`${id}-rows`);
+  const count = isDeck ? lineCount : linesIn($(id).value), first = Math.floor(box.scrollTop / ROW);
   const length = Math.min(count - first, Math.ceil(box.clientHeight / ROW) + 1);
   rows.replaceChildren(...Array.from({ length }, (_, n) => rowBeside(isDeck, first + n)));
   rows.parentElement.style.setProperty('--digits', `${count}`.length);

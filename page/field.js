@@ -8,6 +8,8 @@ let deckText = '', lineCount = 1, selected = [0, 0], now = 0;
 const pane = { line: 0, from: 0, to: 0, shown: [0, 0], shift: false }; // first line, ends, selection, key
 const states = [{ text: '', before: selected, after: selected, how: '' }]; // for undo: `now` is shown
 
+/** What scrolls the deck: if it is whole, its field as any other. */
+const scroller = () => $(lineCount > MOST_WHOLE ? 'sight' : 'deck');
 const linesIn = (text = '') => text.split('\n').length;
 const lineAt = (at = 0) => (at < pane.from ? linesIn(deckText.slice(0, at))
   : pane.line + linesIn(deckText.slice(pane.from, at))) - 1;
@@ -42,26 +44,44 @@ function movePane(line = 0, slack = -1) {
 function fitPane() {
   const field = $('deck'), lines = /** @type {string[]} */ (field.value.split('\n'));
   pane.to = pane.from + field.value.length;
+  field.classList.toggle('pane', lineCount > MOST_WHOLE);
   field.rows = lines.length;
   field.cols = Math.max(...lines.map(it => it.replaceAll('\t', ' '.repeat(8)).length)) + 2;
   field.style.margin = `${pane.line * ROW}px 0 ${(lineCount - pane.line - lines.length) * ROW}px`;
 }
 
+/** Where the caret is, and the other end of what is selected. */
+const caretAndAnchor = () => ($('deck').selectionDirection === 'backward' ? selected : [selected[1], selected[0]]);
+
 /** Brings the caret into the pane, and into sight. */
 function reveal(slack = PANE / 4) {
-  const box = $('sight'), isBackward = $('deck').selectionDirection === 'backward';
-  const line = lineAt(selected[isBackward ? 0 : 1]), y = line * ROW - box.scrollTop;
-  const isSeen = y > -ROW && y < box.clientHeight;
-  if (slack < 0 || !isSeen) movePane(line, slack);
-  if (!isSeen) box.scrollTop += y - box.clientHeight / 2;
+  const box = scroller(), line = lineAt(caretAndAnchor()[0]), y = line * ROW;
+  const isSeen = () => y > box.scrollTop - ROW && y < box.scrollTop + box.clientHeight;
+  if (slack < 0 || !isSeen()) movePane(line, slack);
+  if (!isSeen()) box.scrollTop = y - box.clientHeight / 2;
 }
 
 /** The pane follows what is in sight. */
 function scrolled() {
-  const { scrollTop, clientHeight } = $('sight');
+  const { scrollTop, clientHeight } = scroller();
   readSelection();
   movePane(Math.floor((scrollTop + clientHeight / 2) / ROW), PANE / 4);
   showRows('deck');
+}
+
+/** Moves the caret by a page, which for a browser would be all of the pane. */
+function turnPage(by = 1, isExtended = false) {
+  const box = $('sight'), [caret, anchor] = caretAndAnchor(), rows = Math.floor(box.clientHeight / ROW) - 2;
+  const line = Math.max(0, Math.min(lineAt(caret) + by * rows, lineCount - 1));
+  const column = deckText.slice(pane.from, caret).split('\n').at(-1)?.length ?? 0;
+  movePane(line);
+  const lines = $('deck').value.split('\n'), before = lines.slice(0, line - pane.line).concat('').join('\n');
+  const at = pane.from + before.length + Math.min(column, lines[line - pane.line].length);
+  const ends = [at, isExtended ? anchor : at].sort((a, b) => a - b), isBackward = isExtended && at < anchor;
+  selected = ends;
+  pane.shown = ends.map(it => Math.max(0, Math.min(it, pane.to) - pane.from));
+  $('deck').setSelectionRange(...pane.shown, isBackward ? 'backward' : 'forward');
+  box.scrollTop += by * rows * ROW;
 }
 
 /** Puts a text into the deck, and notes how it stands then; what is typed on and on is one change. */
@@ -79,12 +99,13 @@ function change(at = 0, end = at, made = '', caret = 0, how = '') {
 /** Takes what was typed. Of what was selected also goes what the pane has not. */
 function takeInput(/** @type {InputEvent} */ { inputType }) {
   const { value, selectionEnd } = $('deck'), { from, to } = pane, [first, last] = selected;
-  const count = lineCount;
+  const count = lineCount, lines = linesIn(value);
   const at = last > from ? Math.min(first, from) : from, end = first < to ? Math.max(last, to) : to;
   change(at, end, value, at + selectionEnd, inputType);
   pane.shown = [selectionEnd, selectionEnd];
-  if (at < from || end > to || linesIn(value) > MOST_WHOLE) reveal(-1);
-  else fitPane();
+  const isFit = lineCount > MOST_WHOLE ? Math.abs(lines - PANE) < PANE / 8 : lines === lineCount;
+  if (isFit && at === from && end === to) fitPane();
+  else reveal(-1);
   if (count !== lineCount) showRows('deck');
   edited();
 }
@@ -112,7 +133,11 @@ function typeKey(/** @type {KeyboardEvent} */ e) {
     undo(key === 'y' || e.shiftKey ? 1 : -1);
   } else if (isCommand && key === 'home') movePane(0);
   else if (isCommand && key === 'end') movePane(lineCount);
-  else if (isCommand ? key.length > 1 : /^(.|arrow.*|page.*|home|end|enter|backspace|delete)$/.test(key)) reveal();
+  else if (lineCount > MOST_WHOLE && key.startsWith('page') && !isCommand) {
+    e.preventDefault();
+    reveal();
+    turnPage(key === 'pageup' ? -1 : 1, e.shiftKey);
+  } else if (isCommand ? /^(v|.{4,})$/.test(key) : /^(.|process|arrow.*|page.*|home|end|enter|backspace|delete)$/.test(key)) reveal();
 }
 
 function keyUp(/** @type {KeyboardEvent} */ e) {
@@ -131,8 +156,11 @@ function beforeTyped(/** @type {InputEvent} */ e) {
 /** Copies or cuts what is selected, if the pane has not all of it. */
 function copyPart(/** @type {ClipboardEvent} */ e) {
   readSelection();
-  if (selected[0] >= pane.from && selected[1] <= pane.to) return;
+  const [start, end] = selected;
+  if (start === end || start >= pane.from && end <= pane.to) return;
   e.preventDefault();
-  e.clipboardData?.setData('text/plain', deckText.slice(...selected));
-  if (e.type === 'cut') document.execCommand('delete');
+  e.clipboardData?.setData('text/plain', deckText.slice(start, end));
+  if (e.type !== 'cut') return;
+  reveal();
+  document.execCommand('delete');
 }

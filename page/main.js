@@ -1,6 +1,6 @@
 // ---- showing, and what a reader does
 
-let shows = 0, /** @type {Promise<void> | null} */ next = null;
+let shows = 0, choosing = 0, /** @type {Promise<void> | null} */ next = null;
 
 /** Shows all of it, once the worker is free; what has been at work for long is not waited for. */
 function showSoon() {
@@ -111,12 +111,15 @@ const DOES = {
   },
   change: { file: () => openFile($('file').files[0]), last: takeLast, order: typeOrder,
     processors: renew, more: showSoon, tabs: () => choose(),
-    example: () => load($('example').value) },
+    example: (/** @type {any} */ { target: it }) => { // by keys once its name is typed
+      clearTimeout(choosing);
+      choosing = setTimeout(load, it.matches(':focus-visible') ? 700 : 0, it.value);
+    } },
   keydown: { deck: typeKey }, keyup: { deck: keyUp },
   beforeinput: { deck: beforeTyped }, copy: { deck: copyPart }, cut: { deck: copyPart },
   input: { deck: takeInput, turn: showSoon, trace: showSoon, opened: showSoon,
     pp: showSoon, states: showSoon, left: showSoon, right: showSoon },
-  scroll: { sight: scrolled, trace: () => showRows('trace'),
+  scroll: { deck: scrolled, sight: scrolled, trace: () => showRows('trace'),
     drawing: () => keepNames() },
   pointerdown: { drawing: drag }, pointermove: { drawing: drag },
   submit: { goal: () => runTo($('target').value.trim()) },
@@ -133,7 +136,7 @@ async function begin() {
   readStored();
   recall();
   Object.assign(window, { onkeydown: press, onhashchange: recall, onpagehide: remember,
-    onafterprint: () => keepNames(), onresize: () => showRows('deck'),
+    onafterprint: () => keepNames(), onresize: scrolled,
     onbeforeprint: () => { $('paper').textContent = deckText; keepNames(0); },
     onsubmit: (/** @type {Event} */ e) => e.preventDefault(), ondragover: drop, ondrop: drop });
 }

@@ -567,6 +567,28 @@ async function long() {
   await becomes('what is selected to the end goes', isText('CENTRAL 400000\n'));
   await key('z');
   await becomes('and comes back', isText(text));
+  await key('a');
+  const cut = await value(`{
+    const clipboardData = new DataTransfer(), event = new Event('cut', { cancelable: true });
+    $('deck').dispatchEvent(Object.assign(event, { clipboardData }));
+    clipboardData.getData('text/plain');
+  }`);
+  expect('all of it is cut', cut === text && await value(`deckText === ''`));
+  await key('z');
+  await becomes('and comes back too', isText(text));
+  await key('Home');
+  const gone = text.split('\n').slice(150).join('\n');
+  await value(`$('deck').setSelectionRange(0, ${text.length - gone.length})`);
+  await press('Delete');
+  await becomes('without many lines the field has those that follow', `${isText(gone)}
+    && linesIn($('deck').value) === 400`);
+  await key('z');
+  await key('Home');
+  await press('PageDown', {});
+  await press('PageDown', { shift: true });
+  await becomes('a page is what is in sight', `lineAt(selected[0]) > 5
+    && lineAt(selected[1]) === 2 * lineAt(selected[0])
+    && lineAt(selected[1]) * 19 < $('sight').scrollTop + $('sight').clientHeight`);
   await key('End');
   const unlike = await value(`(async () => {
     const lines = deckText.split('\\n'), unlike = [];
