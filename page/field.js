@@ -128,6 +128,7 @@ function typeKey(/** @type {KeyboardEvent} */ e) {
   const key = e.key.toLowerCase(), isCommand = e.ctrlKey || e.metaKey;
   readSelection();
   pane.shift = e.shiftKey;
+  if (isCommand && key === 'a') pane.shown = [-1, -1]; // all, even if the pane was selected whole
   if (isCommand && (key === 'z' || key === 'y')) {
     e.preventDefault();
     undo(key === 'y' || e.shiftKey ? 1 : -1);
