@@ -16,8 +16,8 @@ use Rattle.pp_word.specs.Opcode.{row_of}
 use Rattle.pp_word.specs.declared.opcode.Opcode.{Opcode}
 use Rattle.pp_word.specs.declared.opcode.Opcode.TheVariants.{PSN}
 use Rattle.pp_word.specs.Address.{relative_to}
-use Rattle.pp_text.specs.declared.operands.Operands.{Operands}
-use Rattle.pp_text.specs.declared.operands.Operands.TheVariants.{IndexedPlace, JumpPlace, Constant, PlaceAndNumber, Number}
+use Rattle.pp_word.specs.declared.operands.Operands.{Operands}
+use Rattle.pp_word.specs.declared.operands.Operands.TheVariants.{IndexedPlace, JumpPlace, Constant, PlaceAndNumber, Number}
 
 -- plain text
 abbrev pub IsPlain : List ℕ → Type 0
