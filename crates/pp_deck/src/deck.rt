@@ -20,7 +20,7 @@ use std::alloc::Allocator;
 const LONGEST_TEXT: usize = 1_048_576;
 
 /// The size if a deck sets none: 10000 words (octal).
-const DEFAULT_SIZE: u32 = 0o10000;
+pub const DEFAULT_SIZE: u32 = 0o10000;
 
 /// A loaded machine, and the processors that its deck names, in the barrel's order; none is named
 /// that the machine lacks.

@@ -13,7 +13,7 @@ use crate::Fields;
 use crate::flaw::Flaw;
 use crate::octal_number::{number, word12};
 use pp_machine::{Machine, Pp};
-use pp_word::{Word12, Word18, Word60};
+use pp_word::{MOST_CENTRAL_WORDS, Word12, Word18, Word60};
 use std::alloc::Allocator;
 
 /// Sets words from a place on to the rest of the line.
@@ -95,7 +95,7 @@ pub(crate) fn central_size_in(fields: &mut Fields) -> Result<u32, Flaw>
     ensures range { IfOk result IsCentralSize }
 {
     let size = next_number(fields, 6)? as u32;
-    if !(1..=0o400_000).contains(&size) {
+    if !(1..=MOST_CENTRAL_WORDS).contains(&size) {
         return Err(Flaw::CentralRange);
     }
     end_line(fields).and(Ok(size))

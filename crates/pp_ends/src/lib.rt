@@ -12,7 +12,6 @@ mod run;
 mod spots;
 mod stand;
 
-pub use alike::{central_difference, processor_difference};
 pub use ending::Ending;
 pub use ends_text::write_ends;
 pub use laws::{ends_law, ends_text_law};

@@ -6,8 +6,8 @@ use Rattle.pp_word.specs.Numeral.{numeral, octal}
 use Rattle.pp_word.specs.Opcode.{opcode_at, row_of}
 use Rattle.pp_deck.specs.DeckText.{Field}
 use Rattle.pp_text.specs.InstructionText.{instruction_text, is_long, operands_of}
-use Rattle.pp_text.specs.declared.operands.Operands.{Operands}
-use Rattle.pp_text.specs.declared.operands.Operands.TheVariants.{IndexedPlace, JumpPlace, Constant, PlaceAndNumber, Number}
+use Rattle.pp_word.specs.declared.operands.Operands.{Operands}
+use Rattle.pp_word.specs.declared.operands.Operands.TheVariants.{IndexedPlace, JumpPlace, Constant, PlaceAndNumber, Number}
 use Rattle.pp_instructions.specs.declared.instruction.Instruction.{Instruction}
 
 -- the instructions of words from a place on: the second word is there if the instruction has one,

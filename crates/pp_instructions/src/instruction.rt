@@ -9,7 +9,7 @@ ghost use Rattle.pp_instructions.specs.WordsInFields.{word_in, words_in_fields};
 
 use pp_deck::Fields;
 use pp_text::{TextWriter, octal4, print_running};
-use pp_word::{Opcode, Word6, Word12, decode, next, numeral, relative};
+use pp_word::{Operands, Word6, Word12, decode, next, numeral, relative};
 use std::io::Write;
 use std::marker::Model;
 
@@ -174,9 +174,10 @@ fn is_operand_of(place: Word12, word: Word12, m: Word12, operand: &[u8]) -> bool
     ensures { result ≡ is_operand_of place word m operand.now }
 {
     let (operation, d) = decode(word);
+    let operands = operation.operands();
     match comma_in(operand) {
-        Some(comma) => is_pair_of(operation, d, m, &operand[..comma], &operand[comma + 1..]),
-        None => is_number_of(operation, place, d, m, operand),
+        Some(comma) => is_pair_of(operands, d, m, &operand[..comma], &operand[comma + 1..]),
+        None => is_number_of(operands, place, d, m, operand),
     }
 }
 
@@ -189,26 +190,25 @@ fn comma_in(operand: &[u8]) -> Option<usize>
 }
 
 /// Whether a number alone is the operand.
-fn is_number_of(operation: Opcode, place: Word12, d: Word6, m: Word12, field: &[u8]) -> bool
-    ensures { result ≡ is_number_of (operands_of (code_of operation)) place d m field.now }
+fn is_number_of(operands: Operands, place: Word12, d: Word6, m: Word12, field: &[u8]) -> bool
+    ensures { result ≡ is_number_of operands place d m field.now }
 {
-    match operation.code() {
-        0o01..=0o02 | 0o50..=0o57 => says12(m, field) && d.get() == 0,
-        0o03..=0o07 => says12(relative(place, d), field) || says6(d, field),
-        0o20..=0o23 => says(6, u64::from(d.get()) * 0o10000 + u64::from(m.get()), field),
-        0o61 | 0o63..=0o67 | 0o71 | 0o73 | 0o77 => says12(m, field) || says6(d, field),
-        _ => says12(Word12::from(d), field),
+    match operands {
+        Operands::IndexedPlace => says12(m, field) && d.get() == 0,
+        Operands::JumpPlace => says12(relative(place, d), field) || says6(d, field),
+        Operands::Constant => says(6, u64::from(d.get()) * 0o10000 + u64::from(m.get()), field),
+        Operands::PlaceAndNumber => says12(m, field) || says6(d, field),
+        Operands::Number => says12(Word12::from(d), field),
     }
 }
 
 /// Whether two numbers, with a comma between, are the operand.
-fn is_pair_of(operation: Opcode, d: Word6, m: Word12, first: &[u8], second: &[u8]) -> bool
-    ensures { result ≡ is_pair_of (operands_of (code_of operation)) d m first.now second.now }
+fn is_pair_of(operands: Operands, d: Word6, m: Word12, first: &[u8], second: &[u8]) -> bool
+    ensures { result ≡ is_pair_of operands d m first.now second.now }
 {
-    match operation.code() {
-        0o20..=0o23 => false,
-        _ if operation.is_long() => says12(m, first) && says6(d, second),
-        _ => false,
+    match operands {
+        Operands::IndexedPlace | Operands::PlaceAndNumber => says12(m, first) && says6(d, second),
+        Operands::JumpPlace | Operands::Constant | Operands::Number => false,
     }
 }
 

@@ -1,21 +1,21 @@
 //! What an instruction does wherever it is run.
 
-ghost use Rattle.std.specs.Prelude.{◌≡◌, ◌/◌, ◌%◌, ◌^◌, ◌<◌, IfSome};
-ghost use Rattle.pp_instructions.specs.InstructionEffect.{channel_named, fault_of_code, goes_on, jump_of_code, leads_to, place_behind, sends_function, sure_fault};
-ghost use Rattle.pp_word.specs.Opcode.{code_of};
+ghost use Rattle.std.specs.Prelude.{◌≡◌};
+ghost use Rattle.pp_instructions.specs.InstructionEffect.{channel_named, goes_on, leads_to, place_behind, sends_function, sure_fault};
 
 use crate::instruction::Instruction;
 use pp_numbers::Profile;
-use pp_word::{Opcode, Word6, Word12, decode, next, relative};
+use pp_processor::{channel_named, jump_from, may_go_on, sends_function, sure_fault};
+use pp_word::{Word6, Word12, decode, next};
 
 impl Instruction {
     /// Its fault wherever it is run, if it is one.
     #[tactic(auto, unfolding(crate::specs::InstructionEffect::sure_fault))]
-    pub fn sure_fault(&self, profile: Profile) -> Option<u64>
+    pub fn sure_fault(&self, profile: Profile) -> Option<u8>
         ensures { result ≡ sure_fault profile self.now.word }
     {
         let (operation, d) = decode(self.word);
-        fault_of(profile, operation, d)
+        sure_fault(profile, operation, d)
     }
 
     /// Whether the instruction behind it may be the next.
@@ -23,7 +23,8 @@ impl Instruction {
     pub fn goes_on(&self, profile: Profile) -> bool
         ensures { result ≡ goes_on profile self.now.word }
     {
-        !matches!(decode(self.word).0.code(), 0o01..=0o03) && self.sure_fault(profile).is_none()
+        let (operation, d) = decode(self.word);
+        may_go_on(profile, operation, d)
     }
 
     /// The place behind it.
@@ -44,7 +45,7 @@ impl Instruction {
         ensures { result ≡ leads_to profile self.now }
     {
         let (operation, d) = decode(self.word);
-        let target = jump_of(profile, operation, self.place, d, self.second)?;
+        let target = jump_from(profile, operation, self.place, d, self.second)?;
         if target.get() == self.place.get() || target.get() == 0 {
             return None;
         }
@@ -57,10 +58,7 @@ impl Instruction {
         ensures { result ≡ channel_named profile self.now.word }
     {
         let (operation, d) = decode(self.word);
-        if operation.code() >= 0o64 && profile.channel(d.get()).is_some() {
-            return Some(d);
-        }
-        None
+        channel_named(profile, operation, d)
     }
 
     /// Whether it sends a function code to equipment.
@@ -68,43 +66,6 @@ impl Instruction {
     pub fn sends_function(&self) -> bool
         ensures { result ≡ sends_function self.now.word }
     {
-        decode(self.word).0.code() >= 0o76
-    }
-}
-
-/// The fault of an operation, if it is one wherever it is run.
-fn fault_of(profile: Profile, operation: Opcode, d: Word6) -> Option<u64>
-    ensures { result ≡ fault_of_code profile (code_of operation) d }
-{
-    match operation.code() {
-        0o26 => Some(1),
-        0o27 => Some(2),
-        0o64..=0o77 => {
-            if profile.channel(d.get()).is_none() {
-                Some(3)
-            } else {
-                None
-            }
-        }
-        _ => None,
-    }
-}
-
-/// The place that an operation leads to.
-fn jump_of(
-    profile: Profile,
-    operation: Opcode,
-    place: Word12,
-    d: Word6,
-    m: Option<Word12>,
-) -> Option<Word12>
-    ensures { result ≡ jump_of_code profile (code_of operation) place d m }
-{
-    match operation.code() {
-        0o01 if d.get() == 0 => m,
-        0o02 if d.get() == 0 => Some(next(m?)),
-        0o03..=0o07 => Some(relative(place, d)),
-        0o64..=0o67 if profile.channel(d.get()).is_some() => m,
-        _ => None,
+        sends_function(decode(self.word).0)
     }
 }

@@ -30,8 +30,8 @@ use Rattle.pp_text.specs.InstructionText.{instruction_text, index_text, operands
 use Rattle.pp_word.specs.Opcode.{row_of}
 use Rattle.pp_word.specs.declared.opcode.Opcode.{Opcode}
 use Rattle.pp_word.specs.declared.opcode.Opcode.TheVariants.{PSN}
-use Rattle.pp_text.specs.declared.operands.Operands.{Operands}
-use Rattle.pp_text.specs.declared.operands.Operands.TheVariants.{IndexedPlace}
+use Rattle.pp_word.specs.declared.operands.Operands.{Operands}
+use Rattle.pp_word.specs.declared.operands.Operands.TheVariants.{IndexedPlace}
 
 -- plain text
 abbrev pub IsPlain : List ℕ → Type 0

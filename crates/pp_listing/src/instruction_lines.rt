@@ -8,11 +8,8 @@ ghost use Rattle.pp_listing.specs.Listing.{instruction_lines};
 
 use pp_machine::Pp;
 use pp_text::{TextWriter, octal4, print_running};
-use pp_word::{Word12, decode, next};
+use pp_word::{PLACES, Word12, decode, next};
 use std::io::Write;
-
-/// The number of places in a processor's memory.
-const PLACES: u32 = 0o10000;
 
 /// Prints the lines of all words that are not 0.
 pub(crate) fn print_instructions<W: Write>(text: &mut TextWriter<W>, pp: &Pp)

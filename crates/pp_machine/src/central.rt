@@ -1,13 +1,10 @@
-ghost use Rattle.std.specs.Prelude.{◌≡◌, ◌<◌, ◌↔◌, length, replicate, slice_set, IsTrue, IsErrOf, IfOk, OnOk, slice_get};
+ghost use Rattle.std.specs.Prelude.{◌≡◌, ◌≢◌, ◌<◌, ◌↔◌, IsNone, IsSome, length, replicate, slice_set, IsTrue, IsErrOf, IfOk, OnOk, slice_get};
 ghost use Rattle.std.specs.Bool.{OnFalse};
 
-use pp_word::{Word18, Word60};
+use pp_word::{MOST_CENTRAL_WORDS, Word18, Word60};
 use std::alloc::{AllocError, AllocFailed, Allocator};
 use std::marker::Model;
 use thiserror::Error;
-
-/// Central memory has at most 400000 words (octal).
-const LARGEST_SIZE: u32 = 0o400_000;
 
 /// Why no central memory was made.
 #[derive(Clone, Copy, Debug, PartialEq, Eq, Error)]
@@ -69,7 +66,7 @@ impl<A: Allocator> Central<A> {
         ensures sound { IfOk result IsCentral }
         ensures bad_size { IsErrOf result CentralFault.BadSize ↔ ¬ IsCentralSize size }
     {
-        if size == 0 || size > LARGEST_SIZE {
+        if size == 0 || size > MOST_CENTRAL_WORDS {
             return Err(CentralFault::BadSize);
         }
         let words = vec![in alloc; Word60::ZERO; size as usize]?;
@@ -97,6 +94,24 @@ impl<A: Allocator> Central<A> {
         };
         *word = w;
         true
+    }
+
+    /// The first address at which two central memories differ; address 0 if they aren't as large.
+    pub fn first_difference(&self, other: &Central<A>) -> Option<Word18>
+        ensures same { IsNone result → self.now ≡ other.now }
+        ensures differ { IsSome result → self.now ≢ other.now }
+    {
+        let size = self.size();
+        if other.size() != size {
+            return Some(Word18::ZERO);
+        }
+        for number in 0..size {
+            let address = Word18::truncated(number);
+            if self.read(address) != other.read(address) {
+                return Some(address);
+            }
+        }
+        None
     }
 
     /// Its words, by address.

@@ -1,19 +1,18 @@
 -- What is true of each step, whatever the instruction.
-use Rattle.std.proofs.Common.{◌≡◌, ◌≢◌, IsTrue, ℕ, ◌-◌, ◌==◌, not, Bool, true, false, Option, None, Some, if◌then◌else◌, refl, ◌↔◌, arith}
-use Rattle.pp_word.specs.Address.{relative_to}
+use Rattle.std.proofs.Common.{◌≡◌, ◌≢◌, IsTrue, ℕ, ◌-◌, ◌==◌, Bool, true, false, Option, None, Some, if◌then◌else◌, refl, ◌↔◌, arith}
 use Rattle.pp_word.specs.OnesComplement.{difference}
 use Rattle.pp_word.specs.declared.opcode.Opcode.{Opcode}
-use Rattle.pp_word.specs.declared.opcode.Opcode.TheVariants.{UJN, ZJN, NJN, PJN, MJN, EXN, RPN, CRM, CWM, AJM, IJM, FJM, EJM, IAN, IAM, OAM, CRD}
 use Rattle.pp_channel.specs.declared.flags.Flags.{Flags}
 use Rattle.pp_channel.specs.declared.reply.Reply.TheVariants as replies
-use Rattle.pp_processor.specs.Block.{held, cut_short, block_word, starts, counts_down, counts_up, receives, stores_at}
-use Rattle.pp_processor.specs.Effect.{faults, stops, goes_to, jumps_where, branches_where, leads_to_itself, is_negative}
+use Rattle.pp_processor.specs.Block.{held, cut_short, block_word}
+use Rattle.pp_processor.specs.Effect.{faults}
 use Rattle.pp_processor.specs.InstructionTable.{row}
 use Rattle.pp_processor.specs.NextStep.{IsAtInstruction}
 use Rattle.pp_processor.specs.Replay.{fits}
-use Rattle.pp_processor.specs.NeedAndEffect.{answered, step_of, next_step, is_held, need, processor_after, outcome, IsHeldAnswer, if_running}
+use Rattle.pp_processor.specs.NeedAndEffect.{answered, next_step, is_held, need, processor_after, outcome, IsHeldAnswer, if_running}
 use Rattle.pp_processor.specs.Processor.{Processor, IsAtRest, IsAtFault, KeepsMemoryAndRegisters}
 use Rattle.pp_processor.specs.Step.{Step, need_of, local, probes, takes, does, reads, writes}
+use Rattle.pp_processor.proofs.EachStep.{Leaves, Steps, either, leaves}
 use Rattle.pp_processor.specs.declared.{answer.Answer.Answer, block.Block.Block, block.BlockKind.BlockKind, need.Need.Need, pp_state.PpState.PpState}
 use Rattle.pp_processor.specs.declared.answer.Answer.TheVariants as answers
 use Rattle.pp_processor.specs.declared.block.BlockKind.TheVariants.{CentralIn, CentralOut, Input, Output}
@@ -35,117 +34,43 @@ stopped old new e = λ number f. cc
 faulted : (old : Processor) (number : ℕ) → Keeps old (faults old number)
 faulted old number = λ n e. record { memory = refl; a = refl; p = refl; block = refl }
 
-either : (test : Bool) (old new other : Processor) → Keeps old new → Keeps old other →
-    Keeps old (if test then new else other)
-either true old new other k l = k
-either false old new other k l = l
-
--- a step all of whose answers leave a fault so
-abbrev StepKeeps : Processor → Step → Type 0
-StepKeeps pp (local after) = Keeps pp after
-StepKeeps pp (probes channel after) = (flags : Flags) → Keeps pp (after flags)
-StepKeeps pp (takes channel after) = (word : ℕ) → Keeps pp (after word)
-StepKeeps pp (does channel op after) = Keeps pp after
-StepKeeps pp (reads address after) = (word : ℕ) → Keeps pp (after word)
-StepKeeps pp (writes address word after) = Keeps pp after
-
-either_step : (test : Bool) (pp : Processor) (step other : Step) → StepKeeps pp step → StepKeeps pp other →
-    StepKeeps pp (if test then step else other)
-either_step true pp step other k l = k
-either_step false pp step other k l = l
-
--- the words of the table that make a choice
-jumps_keep : (test : Bool) (pp : Processor) (d : ℕ) → pp.state ≡ Running → Keeps pp (jumps_where test pp d 1)
-jumps_keep true pp d h = either (leads_to_itself d) pp pp (goes_to pp (relative_to pp.p d)) (runs_on pp pp h refl) (runs_on pp _ h refl)
-jumps_keep false pp d h = runs_on pp _ h refl
-
-branches_keep : (test : Bool) (pp : Processor) → pp.state ≡ Running → Keeps pp (branches_where test pp 2)
-branches_keep true pp h = runs_on pp _ h refl
-branches_keep false pp h = runs_on pp _ h refl
-
-chosen_state : (test : Bool) (new other : Processor) (state : PpState) → new.state ≡ state → other.state ≡ state →
-    (if test then new else other).state ≡ state
-chosen_state true new other state e f = e
-chosen_state false new other state e f = f
-
-starts_keep : (pp : Processor) (count : ℕ) (kind : BlockKind) → pp.state ≡ Running → Keeps pp (starts pp count kind)
-starts_keep pp count kind h = runs_on pp _ h (chosen_state (count == 0) _ _ pp.state refl refl)
-
-counts_down_keep : (old pp : Processor) (kind : BlockKind) (place : ℕ) → old.state ≡ Running →
-    pp.state ≡ old.state → Keeps old (counts_down pp kind place)
-counts_down_keep old pp kind place h e = runs_on old _ h (chosen_state (difference pp.a 1 == 0) _ _ old.state e e)
-
-counts_up_keep : (old pp : Processor) (left : ℕ) (kind : BlockKind) (place : ℕ) → old.state ≡ Running →
-    pp.state ≡ old.state → Keeps old (counts_up pp left kind place)
-counts_up_keep old pp left kind place h e = runs_on old _ h (chosen_state (left == 0) _ _ old.state e e)
-
-row_keeps : (op : Opcode) (pp : Processor) (d : ℕ) → pp.state ≡ Running → StepKeeps pp (row op pp d)
-row_keeps UJN pp d h = either (leads_to_itself d) pp (stops pp) (goes_to pp (relative_to pp.p d)) (stopped pp _ refl) (runs_on pp _ h refl)
-row_keeps ZJN pp d h = jumps_keep (pp.a == 0) pp d h
-row_keeps NJN pp d h = jumps_keep (not (pp.a == 0)) pp d h
-row_keeps PJN pp d h = jumps_keep (not (is_negative pp)) pp d h
-row_keeps MJN pp d h = jumps_keep (is_negative pp) pp d h
-row_keeps EXN pp d h = faulted pp 1
-row_keeps RPN pp d h = faulted pp 2
-row_keeps CRD pp d h = λ word. runs_on pp _ h refl
-row_keeps CRM pp d h = starts_keep pp _ _ h
-row_keeps CWM pp d h = starts_keep pp _ _ h
-row_keeps AJM pp d h = λ flags. branches_keep flags.active pp h
-row_keeps IJM pp d h = λ flags. branches_keep (not flags.active) pp h
-row_keeps FJM pp d h = λ flags. branches_keep flags.full pp h
-row_keeps EJM pp d h = λ flags. branches_keep (not flags.full) pp h
-row_keeps IAN pp d h = λ word. runs_on pp _ h refl
-row_keeps IAM pp d h = starts_keep pp _ _ h
-row_keeps OAM pp d h = starts_keep pp _ _ h
-row_keeps op pp d h = runs_on pp _ h refl
+-- a block that ends, or goes on, leaves the state
+goes_keep : (old ended goes : Processor) (test : Bool) → old.state ≡ Running → ended.state ≡ old.state → goes.state ≡ old.state →
+    Keeps old (if test then ended else goes)
+goes_keep old ended goes test h e f = either (Keeps old) test (runs_on old ended h e) (runs_on old goes h f)
 
 block_keeps : (kind : BlockKind) (place : ℕ) (pp : Processor) → pp.state ≡ Running →
-    StepKeeps pp (block_word kind place pp)
-block_keeps (CentralIn left) place pp h = λ word. counts_up_keep pp (receives pp place word) (left - 1) (CentralIn (left - 1)) place h refl
-block_keeps (CentralOut left) place pp h = counts_up_keep pp pp (left - 1) (CentralOut (left - 1)) place h refl
-block_keeps (Input channel) place pp h = λ word. counts_down_keep pp (stores_at pp place word) (Input channel) place h refl
-block_keeps (Output channel) place pp h = counts_down_keep pp pp (Output channel) place h refl
-
-step_keeps : (block : Option Block) (pp : Processor) → pp.state ≡ Running → StepKeeps pp (step_of block pp)
-step_keeps None pp h = grind (arith, either_step, faulted, row_keeps)
-step_keeps (Some block) pp h = block_keeps block.kind block.place pp h
+    Leaves (Keeps pp) (block_word kind place pp)
+block_keeps (CentralIn left) place pp h = λ word. goes_keep pp _ _ (left - 1 == 0) h refl refl
+block_keeps (CentralOut left) place pp h = goes_keep pp _ _ (left - 1 == 0) h refl refl
+block_keeps (Input channel) place pp h = λ word. goes_keep pp _ _ (difference pp.a 1 == 0) h refl refl
+block_keeps (Output channel) place pp h = goes_keep pp _ _ (difference pp.a 1 == 0) h refl refl
 
 cut_keeps : (kind : BlockKind) (place : ℕ) (pp : Processor) → pp.state ≡ Running → Keeps pp (cut_short kind place pp)
-cut_keeps (CentralIn left) place pp h = runs_on pp _ h refl
-cut_keeps (CentralOut left) place pp h = runs_on pp _ h refl
 cut_keeps (Input channel) place pp h = runs_on pp _ h refl
 cut_keeps (Output channel) place pp h = runs_on pp _ h refl
+cut_keeps other place pp h = runs_on pp _ h refl
 
-held_keeps : (block : Option Block) (pp : Processor) (flags : Flags) → pp.state ≡ Running →
-    Keeps pp (held block pp flags)
-held_keeps None pp flags h = runs_on pp _ h refl
-held_keeps (Some block) pp flags h = either flags.active pp pp (cut_short block.kind block.place pp) (runs_on pp _ h refl) (cut_keeps block.kind block.place pp h)
-
-answered_keeps : (step : Step) (pp : Processor) (answer : Answer) → pp.state ≡ Running → StepKeeps pp step →
-    Keeps pp (answered step pp answer)
-answered_keeps (takes channel after) pp (answers.Channel (replies.Held flags)) h k = held_keeps pp.block pp flags h
-answered_keeps (does channel op after) pp (answers.Channel (replies.Held flags)) h k = held_keeps pp.block pp flags h
-answered_keeps (local after) pp answers.Local h k = k
-answered_keeps (probes channel after) pp (answers.Channel (replies.Flags flags)) h k = k flags
-answered_keeps (takes channel after) pp (answers.Channel (replies.Word word)) h k = k word
-answered_keeps (does channel op after) pp (answers.Channel replies.Done) h k = k
-answered_keeps (reads address after) pp (answers.Read (Some word)) h k = k word
-answered_keeps (reads address after) pp (answers.Read None) h k = faulted pp 4
-answered_keeps (writes address word after) pp (answers.Wrote true) h k = k
-answered_keeps (writes address word after) pp (answers.Wrote false) h k = faulted pp 4
-answered_keeps step pp answer h k = runs_on pp _ h refl
-
-if_running_keeps : (state : PpState) (pp : Processor) (answer : Answer) → pp.state ≡ Running → state ≡ Running →
-    Keeps pp (if_running state (answered (next_step pp) pp answer) pp)
-if_running_keeps Running pp answer h e = answered_keeps (next_step pp) pp answer h (step_keeps pp.block pp h)
-if_running_keeps Stopped pp answer h e = cc
-if_running_keeps (Fault number) pp answer h e = cc
+steps_keep : (pp : Processor) → pp.state ≡ Running → Steps pp (λ place. Unit {0}) (Keeps pp)
+steps_keep pp h = record {
+  faults = λ number. faulted pp number;
+  instruction = λ free. record {
+    stops = stopped pp _ refl;
+    goes_to = λ target. runs_on pp _ h refl;
+    loads = λ a n some few. runs_on pp _ h refl;
+    stores = λ place word a n may some few. runs_on pp _ h refl;
+    calls = λ target word may. runs_on pp _ h refl;
+    receives = λ place central may. runs_on pp _ h refl;
+    starts = λ count kind may. goes_keep pp _ _ (count == 0) h refl refl;
+  };
+  word = λ block is may. block_keeps block.kind block.place pp h;
+  cut = λ block is may. cut_keeps block.kind block.place pp h;
+}
 
 -- a step that ends in a fault leaves memory, A and P, and no block
 pub fault_keeps : (pp : Processor) (answer : Answer) → pp.state ≡ Running → IsAtFault (processor_after pp answer) →
     KeepsMemoryAndRegisters pp (processor_after pp answer)
-unfolding processor_after
-fault_keeps pp answer h fault = if_running_keeps pp.state pp answer h h fault.0 fault.1
+fault_keeps pp answer h fault = leaves pp (λ place. Unit {0}) (Keeps pp) (runs_on pp pp h refl) answer (steps_keep pp) tt fault.0 fault.1
 
 -- where a block is held and stays as it is, so does each step
 held_stays : (step : Step) (pp : Processor) (flags : Flags) → held pp.block pp flags ≡ pp →

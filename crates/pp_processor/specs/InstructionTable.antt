@@ -22,16 +22,19 @@ use Rattle.pp_processor.specs.declared.block.BlockKind.TheVariants.{CentralIn, C
 abbrev pub operand_places : Processor → ℕ → List ℕ
 operand_places pp d = d ∷ word_at pp d ∷ index pp d ∷ []
 
+abbrev pub operand_place : Opcode → Processor → ℕ → ℕ
+operand_place op pp d = slice_index_or (operand_places pp d) (code_of op / 8 - 3) d
+
 -- and the last octal digit, from 0 to 7, what is done with it
 abbrev pub memory_operations : List (Processor → ℕ → ℕ → Processor)
 memory_operations =
     loads_word ∷ adds_word ∷ subtracts_word ∷ differs_from_word ∷
     stores_word ∷ replaces_by_sum ∷ replaces_by_one_more ∷ replaces_by_one_less ∷ []
 
--- the effect of the memory instruction with this code
-abbrev pub memory_instruction : ℕ → Processor → ℕ → ℕ → Processor
-memory_instruction code pp d n = slice_index_or memory_operations (code % 8) loads_word pp
-    (slice_index_or (operand_places pp d) (code / 8 - 3) d) n
+-- the effect of such an instruction
+abbrev pub memory_instruction : Opcode → Processor → ℕ → ℕ → Processor
+memory_instruction op pp d n =
+    slice_index_or memory_operations (code_of op % 8) loads_word pp (operand_place op pp d) n
 
 -- what an operation with lower six bits d means for a processor, if its instruction has n words
 abbrev pub table : Opcode → Processor → ℕ → ℕ → Step
@@ -75,7 +78,7 @@ table ACN pp d n = does d Activate (goes_on pp n)
 table DCN pp d n = does d Disconnect (goes_on pp n)
 table FAN pp d n = does d (Function (low_of pp.a)) (goes_on pp n)
 table FNC pp d n = does d (Function (second_word pp)) (goes_on pp n)
-table op pp d n = local (memory_instruction (code_of op) pp d n)
+table op pp d n = local (memory_instruction op pp d n)
 
 -- a row of the table: the length of an instruction stands in that of the operation codes
 abbrev pub row : Opcode → Processor → ℕ → Step

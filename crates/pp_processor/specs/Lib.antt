@@ -7,5 +7,8 @@ pub mod Block
 pub mod InstructionTable
 pub mod NeedAndEffect
 pub mod NextStep
+pub mod Stores
+pub mod Foreseen
+pub mod Positions
 pub mod Replay
 pub mod BlockResults

@@ -1,4 +1,5 @@
 mod block;
+mod difference;
 mod effect;
 mod load;
 mod local;
@@ -6,6 +7,7 @@ mod next_step;
 mod operand;
 mod reply;
 mod step;
+mod stores;
 
 ghost use Rattle.std.specs.Prelude.{◌≡◌, ◌↔◌, IsTrue, IsSome, IfSome};
 ghost use Rattle.pp_processor.specs.Processor.{IsProcessor, HasFaultNumber, IsBlockIn, new_processor, word_at};

@@ -1,16 +1,13 @@
-ghost use Rattle.std.specs.Prelude.{◌≡◌, slice_index, slice_set};
+ghost use Rattle.std.specs.Prelude.{◌≡◌, ◌≢◌, IsNone, IsSome, slice_index, slice_set};
 ghost use Rattle.pp_processor.specs.PpMemory.{IsMemory, empty_memory};
 
-use pp_word::Word12;
+use pp_word::{PLACES, Word12};
 use std::marker::Model;
-
-/// The number of its words.
-const WORDS: usize = 0o10000;
 
 /// The 4096 (decimal) words of a processor's memory. Contracts see a list of numbers, from 0000 on.
 #[derive(Drop)]
 pub struct PpMemory {
-    words: [Word12; WORDS],
+    words: [Word12; PLACES as usize],
 }
 
 impl Model for PpMemory {
@@ -31,7 +28,7 @@ impl PpMemory {
         ensures { result ≡ empty_memory }
     {
         PpMemory {
-            words: [Word12::ZERO; WORDS],
+            words: [Word12::ZERO; PLACES as usize],
         }
     }
 
@@ -56,6 +53,22 @@ impl PpMemory {
         ensures { result ≡ self.now }
     {
         PpMemory { words: self.words }
+    }
+
+    /// The first place at which two memories differ.
+    pub fn first_difference(&self, other: &PpMemory) -> Option<Word12>
+        ensures same { IsNone result → self.now ≡ other.now }
+        ensures differ { IsSome result → self.now ≢ other.now }
+    {
+        self.has_widths();
+        other.has_widths();
+        for number in 0..PLACES {
+            let place = Word12::truncated(number);
+            if self.get(place).get() != other.get(place).get() {
+                return Some(place);
+            }
+        }
+        None
     }
 
     /// What is true of each memory.

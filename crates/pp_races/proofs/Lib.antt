@@ -12,7 +12,7 @@ mod SoundLemmas
 mod RunLemmas
 mod FinalLemmas
 mod GoingOnLemmas
-mod PositionLemmas
+mod FoundLemmas
 mod SettledLemmas
 mod EndLemmas
 mod UseLemmas

@@ -20,13 +20,15 @@ use Rattle.pp_machine.specs.declared.{trace.Trace.Trace}
 use Rattle.pp_processor.specs.declared.need.Need.TheVariants.{Channel}
 use Rattle.pp_run.specs.Determinacy.{Stays}
 use Rattle.pp_run.proofs.StepFacts.{central_by, event_by_need, histories_none, history_elsewhere, history_here, history_unless, own_step}
-use Rattle.pp_races.specs.OtherFlags.{found_at, is_alike, is_race, is_same, makes_none, position_at, position_of, shown_to, waits_at}
+use Rattle.pp_processor.specs.Positions.{is_same, position_at, position_of, shown_to}
+use Rattle.pp_races.specs.OtherFlags.{found_at, is_alike, is_race, makes_none, waits_at}
 use Rattle.pp_races.specs.OnePass.{DoesAsAt, IsChecked, WaitsAt, flags_at}
 use Rattle.pp_races.specs.OnePass.IsChecked.{step_waits, step_elsewhere, step_looks, step_makes}
 use Rattle.pp_races.specs.Soundness.{AreLastOf, AsksLawfulChannel, least_of, open_of}
 use Rattle.pp_races.specs.Watch.{Missed, Watch, asked, asking_step, each_below, each_number, entry_of, first_race, from_alike, looked, made, missed_event, race_after, race_before, watched_need}
 use Rattle.pp_races.specs.declared.asking_step.AskingStep.{AskingStep}
-use Rattle.pp_races.proofs.PositionLemmas.{alike_is, alike_parts, none_made_makes_none, race_none, race_waits, same_itself, agrees}
+use Rattle.pp_processor.proofs.PositionLemmas.{same_itself, agrees}
+use Rattle.pp_races.proofs.FoundLemmas.{alike_is, alike_parts, none_made_makes_none, race_none, race_waits}
 use Rattle.pp_races.proofs.EntryLemmas.{here_or_not, put_here, put_other}
 use Rattle.pp_races.proofs.EventLemmas.{looks_elsewhere, looks_there, missed_elsewhere, missed_others, missed_own}
 use Rattle.pp_races.proofs.MissedLemmas.{AreLeft, left_by, left_missed, none_missed, none_races, one_missed}

@@ -18,7 +18,8 @@ use Rattle.pp_processor.specs.declared.need.Need.TheVariants.{Channel}
 use Rattle.pp_run.specs.Determinacy.{Waits, IsRaceFree, IsRaceFreeOn, IsNoRaceAt, Stays, DoesTheSame, AdvancesAlone, WaitsForGood, MayFind, at_moment, processor_at, history_at, need_at}
 use Rattle.pp_races.specs.OnePass.IsChecked.{step_waits, step_elsewhere, step_looks, step_makes}
 use Rattle.pp_run.specs.Determinacy.MayFind.{start, channel_advances, processor_advances, both_advance}
-use Rattle.pp_races.specs.OtherFlags.{makes_none, shown_to}
+use Rattle.pp_processor.specs.Positions.{shown_to}
+use Rattle.pp_races.specs.OtherFlags.{makes_none}
 use Rattle.pp_races.specs.OnePass.{WaitsAt, DoesAsAt, NoneBetween, IsOpen, Passed, Watched, IsLook, IsEvent, IsChecked}
 use Rattle.pp_races.proofs.EntryLemmas.{here_or_not}
 use Rattle.pp_run.proofs.StepFacts.{event_by_need, history_here, history_elsewhere, history_unless}

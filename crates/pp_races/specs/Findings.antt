@@ -1,28 +1,24 @@
 -- THE FINDINGS of a run: the steps that race with others, the processors that are not settled at
 -- its end, and the central words that one processor wrote and another used.
 use Rattle.std.specs.Prelude.{ℕ, zero, suc, Bool, true, false, not, ◌&&◌, ◌==◌, nat_lt, List, [], ◌∷◌, ◌++◌, Option, Some, None, count_by, length, if◌then◌else◌}
+use Rattle.std.specs.Str.{bytes_eq}
 use Rattle.pp_channel.specs.Answer.{flags_of}
 use Rattle.pp_machine.specs.MachineState.{MachineState, processor_of, history_of}
 use Rattle.pp_processor.specs.NeedAndEffect.{need, processor_after}
 use Rattle.pp_numbers.specs.PpNo.{each_processor}
-use Rattle.pp_processor.specs.Processor.{Processor, is_running, word_at}
+use Rattle.pp_processor.specs.Positions.{is_same, position_of}
+use Rattle.pp_processor.specs.Processor.{Processor, is_running}
 use Rattle.pp_machine.specs.Run.{run}
 use Rattle.pp_processor.specs.declared.{answer.Answer.Answer, need.Need.Need}
 use Rattle.pp_machine.specs.declared.{trace.Trace.Trace}
 use Rattle.pp_processor.specs.declared.need.Need.TheVariants.{Nothing, Local, Channel}
 use Rattle.pp_numbers.specs.declared.profile.Profile.{Profile}
-use Rattle.pp_races.specs.OtherFlags.{is_same, position_of, waits_at}
+use Rattle.pp_races.specs.OtherFlags.{waits_at}
 use Rattle.pp_races.specs.Watch.{Watch, asking_step, each_below, each_number, first_race, unwatched, watched}
 use Rattle.pp_races.specs.declared.{asking_step.AskingStep.AskingStep, finding.Finding.Finding}
 use Rattle.pp_races.specs.declared.finding.Finding.TheVariants.{GoingOn, HeldBefore, Shared}
 
 -- ---- processors at the end
-
--- whether two memories have the same words in the first places
-unfoldable pub same_words : ℕ → Processor → Processor → Bool
-same_words zero one other = true
-same_words (suc place) one other =
-    same_words place one other && word_at one place == word_at other place
 
 abbrev pub same_profile : Profile → Profile → Bool
 same_profile Profile.Ten Profile.Ten = true
@@ -30,11 +26,11 @@ same_profile Profile.Twenty Profile.Twenty = true
 same_profile one other = false
 
 -- whether a running processor is the same after a step that needs nothing from outside: it runs on,
--- and P, A, the block and the 4096 words of memory stay
+-- and P, A, the block and memory stay
 abbrev pub stays_running : Processor → Processor → Bool
 stays_running pp after =
     same_profile after.profile pp.profile && (is_running after.state && (after.a == pp.a
-    && (is_same (position_of after) (position_of pp) && same_words 4096 after pp)))
+    && (is_same (position_of after) (position_of pp) && bytes_eq after.memory pp.memory)))
 
 -- whether it turns in place by such a step
 abbrev pub turns_in_place : Processor → Bool

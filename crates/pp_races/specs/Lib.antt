@@ -4,7 +4,6 @@ pub mod Findings
 pub mod RacesText
 pub mod RaceFree
 -- cited by private contracts alone: nobody has to read these to believe what the crate promises
-pub mod Positions
 pub mod ByFlags
 pub mod Cursor
 pub mod Tables

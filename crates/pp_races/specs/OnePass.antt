@@ -9,7 +9,8 @@ use Rattle.pp_processor.specs.NeedAndEffect.{need}
 use Rattle.pp_processor.specs.Processor.{Processor}
 use Rattle.pp_processor.specs.declared.need.Need.{Need}
 use Rattle.pp_run.specs.Determinacy.{Waits, Stays, DoesTheSame, MayFind, at_moment, processor_at, history_at, need_at}
-use Rattle.pp_races.specs.OtherFlags.{makes_none, shown_to}
+use Rattle.pp_processor.specs.Positions.{shown_to}
+use Rattle.pp_races.specs.OtherFlags.{makes_none}
 
 -- if the channel has these flags, the processor waits
 pub record WaitsAt (op : ChanOp) (pp : Processor) (flags : Flags) : Type 0 where

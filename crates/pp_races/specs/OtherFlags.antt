@@ -1,35 +1,16 @@
 -- What an operation would have done on a channel that stood otherwise.
 -- (Manual 60100000, data channels: a channel is inactive, or active and empty, or active and full.)
-use Rattle.std.specs.Prelude.{Bool, true, false, not, ◌||◌, ◌&&◌, ◌==◌, None, is_some, if◌then◌else◌}
-use Rattle.pp_channel.specs.Answer.{only_looks, ready_at, reply_shown}
+use Rattle.std.specs.Prelude.{Bool, true, false, not, ◌||◌, ◌&&◌, if◌then◌else◌}
+use Rattle.pp_channel.specs.Answer.{only_looks, ready_at}
 use Rattle.pp_channel.specs.declared.{chan_op.ChanOp.ChanOp, flags.Flags.Flags}
-use Rattle.pp_processor.specs.NeedAndEffect.{processor_after}
+use Rattle.pp_processor.specs.Positions.{is_same, position_at, position_of}
 use Rattle.pp_processor.specs.Processor.{Processor}
-use Rattle.pp_processor.specs.declared.answer.Answer.{Answer}
-use Rattle.pp_races.specs.declared.{position.Position.Position, found.Found.Found}
+use Rattle.pp_races.specs.declared.found.Found.{Found}
 use Rattle.pp_races.specs.declared.found.Found.TheVariants.{Alike, Waits, Races}
 
 -- whether an operation makes no event on a channel with these flags
 abbrev pub makes_none : ChanOp → Flags → Bool
 makes_none op flags = only_looks op || not (ready_at op flags)
-
--- a processor after its operation on a channel with these flags, if it makes no event
-abbrev pub shown_to : ChanOp → Processor → Flags → Processor
-shown_to op pp flags =
-    processor_after pp (Answer.Channel (reply_shown op (record { flags = flags; register = None })))
-
--- A processor's position: P, and whether it is in a block. Two outcomes of one operation that makes
--- no event differ in it, if they differ at all.
-abbrev pub position_of : Processor → Position
-position_of pp = record { p = pp.p; in_block = is_some pp.block }
-
-abbrev pub is_same : Position → Position → Bool
-is_same one other =
-    one.p == other.p && (if one.in_block then other.in_block else not other.in_block)
-
--- the position of a processor after its operation on a channel with these flags
-abbrev pub position_at : ChanOp → Processor → Flags → Position
-position_at op pp flags = position_of (shown_to op pp flags)
 
 -- if the channel has these flags, the processor waits: it makes no event, and stays as it is
 abbrev pub waits_at : ChanOp → Processor → Flags → Bool

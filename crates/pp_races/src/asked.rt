@@ -9,8 +9,7 @@ ghost use Rattle.pp_processor.specs.declared.need.Need.{Need};
 
 use crate::AskingStep;
 use crate::by_flags::ByFlags;
-use crate::found::{Found, found_at};
-use crate::position::waits_at;
+use crate::found::{Found, found_at, waits_at};
 use pp_channel::{ChanOp, ChannelNo, Event, Flags};
 use pp_machine::{Machine, PpNo, Trace};
 use std::alloc::Allocator;

@@ -1,12 +1,12 @@
 //! What an operation would have done, had it found its channel otherwise.
 
 ghost use Rattle.std.specs.Prelude.{◌≡◌};
-ghost use Rattle.pp_races.specs.OtherFlags.{found_at, is_alike, is_race};
-ghost use Rattle.pp_races.specs.Positions.{AsksChannel};
+ghost use Rattle.pp_processor.specs.Positions.{AsksChannel};
+ghost use Rattle.pp_races.specs.OtherFlags.{found_at, is_alike, is_race, makes_none, waits_at};
 
-use crate::position::{Position, makes_none};
-use pp_channel::{ChanOp, Flags};
-use pp_machine::Pp;
+use pp_channel::{ChanOp, Flags, event_by};
+use pp_processor::{Position, Pp};
+use pp_word::Word12;
 
 /// What an operation that made no event would have done at other flags.
 #[derive(Clone, Copy)]
@@ -49,4 +49,19 @@ pub(crate) fn found_at(pp: &Pp, op: &ChanOp, now: Flags, flags: Flags) -> Found
     } else {
         Found::Races
     }
+}
+
+/// Whether an operation makes no event on a channel with these flags, whatever its register.
+fn makes_none(op: &ChanOp, flags: Flags) -> bool
+    ensures { result ≡ makes_none op.now flags }
+{
+    event_by(op, flags, Some(Word12::ZERO)).is_none()
+}
+
+/// Whether a processor waits if its channel has these flags.
+pub(crate) fn waits_at(pp: &Pp, op: &ChanOp, flags: Flags) -> bool
+    requires { AsksChannel pp.now op.now }
+    ensures { result ≡ waits_at op.now pp.now flags }
+{
+    makes_none(op, flags) && Position::at(pp, op, flags).is_same(&Position::of(pp))
 }

@@ -12,7 +12,6 @@ mod finding;
 mod found;
 mod lines;
 mod missed;
-mod position;
 mod printing;
 mod races_text;
 mod settled;

@@ -4,7 +4,7 @@ ghost use Rattle.std.specs.Prelude.{◌≡◌, ℕ, IsTrue, OnOk};
 ghost use Rattle.pp_processor.specs.NeedAndEffect.{need, processor_after};
 ghost use Rattle.pp_processor.specs.declared.{answer.Answer.Answer, need.Need.Need};
 ghost use Rattle.pp_numbers.specs.PpNo.{names_processor};
-ghost use Rattle.pp_races.specs.Findings.{end_by_need, end_of, same_profile, same_words, stays_running, turns_in_place};
+ghost use Rattle.pp_races.specs.Findings.{end_by_need, end_of, turns_in_place};
 ghost use Rattle.pp_races.specs.Soundness.{TurnTestIsExact};
 ghost use Rattle.pp_races.specs.WatchTables.{AreTables, finds};
 ghost use Rattle.pp_races.specs.Watch.{Watch, each_number};
@@ -12,51 +12,12 @@ ghost use Rattle.pp_races.specs.Watch.{Watch, each_number};
 use crate::Finding;
 use crate::asked::Asked;
 use crate::finding::keep;
-use crate::position::Position;
 use crate::watch_tables::WatchTables;
 use pp_channel::Memory;
-use pp_machine::{Answer, Machine, Need, PROCESSORS, Pp, PpNo, Profile};
-use pp_word::Word12;
+use pp_machine::{Answer, Machine, Need, PROCESSORS, Pp, PpNo};
 use std::alloc::Allocator;
 
-/// How many words a processor's memory has (decimal).
-const WORDS: u32 = 4096;
-
-/// Whether two processors have the same words in memory.
-fn same_words(one: &Pp, other: &Pp) -> bool
-    ensures { result ≡ same_words 4096 one.now other.now }
-{
-    for number in 0..WORDS {
-        let place = Word12::truncated(number);
-        if one.get(place).get() != other.get(place).get() {
-            return false;
-        }
-    }
-    true
-}
-
-fn same_profile(one: Profile, other: Profile) -> bool
-    ensures { result ≡ same_profile one other }
-{
-    match (one, other) {
-        (Profile::Ten, Profile::Ten) | (Profile::Twenty, Profile::Twenty) => true,
-        (Profile::Ten, Profile::Twenty) | (Profile::Twenty, Profile::Ten) => false,
-    }
-}
-
-/// Whether a running processor is the same after a step.
-fn stays_running(pp: &Pp, after: &Pp) -> bool
-    ensures { result ≡ stays_running pp.now after.now }
-{
-    same_profile(after.profile(), pp.profile())
-        && after.state().is_running()
-        && after.a().get() == pp.a().get()
-        && Position::of(after).is_same(&Position::of(pp))
-        && same_words(after, pp)
-}
-
 /// Whether a processor turns in place, by a step that needs nothing from outside.
-#[tactic(auto, using(crate::proofs::SettledLemmas::turned))]
 fn turns_in_place(pp: &Pp) -> bool
     requires { need pp.now ≡ Need.Local }
     ensures turns { result ≡ turns_in_place pp.now }
@@ -64,10 +25,7 @@ fn turns_in_place(pp: &Pp) -> bool
 {
     let mut after = pp.copy();
     let _ = after.give(Answer::Local);
-    // The calls say to the proof how many words there are.
-    let _before = pp.get(Word12::ZERO);
-    let _after = after.get(Word12::ZERO);
-    stays_running(pp, &after)
+    after.first_difference(pp).is_none()
 }
 
 impl<A: Allocator> WatchTables<A> {

@@ -8,12 +8,9 @@ ghost use Rattle.pp_sessions.specs.TimedEvents.{timed_on};
 
 use pp_channel::{ChannelNo, Event};
 use pp_machine::Trace;
-use pp_text::{TextWriter, octal4};
+use pp_text::{TextWriter, WORDS_ON_A_LINE, octal4};
 use pp_word::Word12;
 use std::io::Write;
-
-/// How many words a line has.
-const WORDS_ON_A_LINE: u32 = 8;
 
 /// Prints the words that are put or sent on a channel by these entries of the trace, in order,
 /// eight a line.

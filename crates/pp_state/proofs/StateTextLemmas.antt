@@ -21,8 +21,8 @@ use Rattle.pp_processor.specs.declared.block.BlockKind.TheVariants.{CentralIn, C
 use Rattle.pp_processor.specs.declared.need.Need.TheVariants.{Channel}
 use Rattle.pp_processor.specs.declared.outcome.Outcome.TheVariants.{Held}
 use Rattle.pp_text.specs.InstructionText.{block_text, instruction_text, operands_of, operands_text, running_text}
-use Rattle.pp_text.specs.declared.operands.Operands.{Operands}
-use Rattle.pp_text.specs.declared.operands.Operands.TheVariants.{IndexedPlace, JumpPlace, Constant, PlaceAndNumber, Number}
+use Rattle.pp_word.specs.declared.operands.Operands.{Operands}
+use Rattle.pp_word.specs.declared.operands.Operands.TheVariants.{IndexedPlace, JumpPlace, Constant, PlaceAndNumber, Number}
 use Rattle.pp_text.specs.PrintedText.{line_end, processor_line}
 use Rattle.pp_text.specs.Standing.{block_place_text, held_text, standing}
 use Rattle.pp_text.proofs.Format.{Format, Piece, always, characters, field, front_fails, is_digit_at, many, mark, maybe, octals, piece_tells, run_of, whole, ◌▷◌, ◌▸◌}

@@ -11,16 +11,10 @@ ghost use Rattle.pp_state.specs.Changes.{central_line, changed_central, changed_
 
 use pp_listing::{print_central_line, print_section_line};
 use pp_machine::{Central, Pp, PpNo};
-use pp_text::{Lines, TextWriter, central_word, octal4, print_each_below};
-use pp_word::{Word12, Word18};
+use pp_text::{Lines, TextWriter, WORDS_ON_A_LINE, central_word, octal4, print_each_below};
+use pp_word::{PLACES, Word12, Word18};
 use std::alloc::Allocator;
 use std::io::Write;
-
-/// How many places a processor's memory has.
-const PLACES: u32 = 0o10000;
-
-/// How many words a line has at most (decimal).
-const WORDS_ON_A_LINE: u32 = 8;
 
 /// Whether the word at some place differs.
 #[tactic(auto, unfolding(pp_text::specs::Differences::places))]

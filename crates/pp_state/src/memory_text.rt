@@ -11,15 +11,12 @@ ghost use Rattle.pp_state.specs.MemoryText.{displayed_words, has_words, memory_t
 use crate::display_code::displayed2;
 use pp_machine::Pp;
 use pp_numbers::Bounds;
-use pp_text::{Lines, TextWriter, WriteFault, print_each_below, print_octal};
+use pp_text::{Lines, TextWriter, WORDS_ON_A_LINE, WriteFault, print_each_below, print_octal};
 use pp_word::Word12;
 use std::io::Write;
 
 /// How many lines of eight words the places of a processor make.
 const LINES: u32 = 0o1000;
-
-/// How many words a line has (decimal).
-const WORDS_ON_A_LINE: u32 = 8;
 
 /// Writes the words of a processor's memory, eight a line, in octal and in display code, as
 /// `0020  0004 0000 0017 0000 0000 0000 0000 0000   D   O`; and flushes the writer. The lines are

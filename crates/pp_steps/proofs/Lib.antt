@@ -1,5 +1,4 @@
 mod WhereLemmas
-mod StoreLemmas
 mod LineLemmas
 mod PlaceLemmas
 mod RunCountLemmas

@@ -16,7 +16,7 @@ use Rattle.pp_processor.specs.declared.need.Need.TheVariants.{Write}
 use Rattle.pp_word.specs.Numeral.{octal}
 use Rattle.pp_text.specs.Differences.{places}
 use Rattle.pp_steps.specs.StepLine.{central_text, centrals_text, place_text, places_text}
-use Rattle.pp_steps.specs.Stores.{IsApart}
+use Rattle.pp_processor.specs.Stores.{IsApart}
 
 -- a stretch of numbers of which nothing is said
 nothing : (f : ℕ → List ℕ) (a n : ℕ) → ((k : ℕ) → k < n → f (a + k) ≡ []) → flat_map f (range_with_len a n) ≡ []

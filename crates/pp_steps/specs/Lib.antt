@@ -6,5 +6,4 @@ pub mod StepsLaw
 pub mod ShownStep
 pub mod StepsWhere
 -- cited by private contracts alone: nobody has to read these to believe what the crate promises
-pub mod Stores
 pub mod Cursor

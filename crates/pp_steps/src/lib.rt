@@ -10,7 +10,6 @@ mod run_counts;
 mod step_line;
 mod steps_text;
 mod steps_where;
-mod stores;
 
 pub use choice::Choice;
 pub use laws::{steps_law, steps_text_law, steps_where_law};

@@ -12,9 +12,8 @@ ghost use Rattle.pp_text.specs.PrintedText.{event_text, padded};
 ghost use Rattle.pp_text.specs.TextWriter.{Prints};
 ghost use Rattle.pp_run.specs.BareMachine.{StandsFor};
 ghost use Rattle.pp_steps.specs.StepLine.{centrals_text, channel_text, heading, held_line, place_text, places_text, step_line, words_text};
-ghost use Rattle.pp_steps.specs.Stores.{KeepsOthers};
+ghost use Rattle.pp_processor.specs.Stores.{KeepsOthers};
 
-use crate::stores::first_stored;
 use pp_channel::Event;
 use pp_machine::{Block, Central, Need, Pp, PpNo};
 use pp_run::BareMachine;
@@ -22,12 +21,9 @@ use pp_text::{
     TextWriter, central_word, channel_name, decimal6, octal2, octal4, octal6, print_flags_text,
     print_held_text, print_octal, print_state_text, print_upper_digits, running_field,
 };
-use pp_word::{Word12, Word18, decode, next};
+use pp_word::{PLACES, Word12, Word18, decode, next};
 use std::alloc::Allocator;
 use std::io::Write;
-
-/// How many places a processor's memory has.
-const PLACES: u32 = 0o10000;
 
 /// Prints the line of a step of a processor from one machine to another:
 /// `000020 PP00 0102 7205       OAN 05        A=000001 CH05 PUT 0001` and a line feed.
@@ -44,7 +40,7 @@ pub(crate) fn print_step_line<A: Allocator, W: Write>(
     let new = after.pp(n);
     let need = old.wants();
     print_heading(text, before.turns(), n, old, new.a());
-    print_places(text, old, new, first_stored(old));
+    print_places(text, old, new, old.first_stored());
     print_central(text, &need, before.central(), after.central());
     print_channel(text, &need, before);
     if !new.state().is_running() {

@@ -20,8 +20,8 @@ use Rattle.pp_numbers.specs.Tables.{tabulate}
 use Rattle.pp_numbers.proofs.TableLemmas.{tabulate_is}
 use Rattle.pp_text.specs.InstructionText.{block_text, instruction_text, operands_of, operands_text, running_text}
 use Rattle.pp_text.specs.PrintedText.{padded}
-use Rattle.pp_text.specs.declared.operands.Operands.{Operands}
-use Rattle.pp_text.specs.declared.operands.Operands.TheVariants.{IndexedPlace, JumpPlace, Constant, PlaceAndNumber, Number}
+use Rattle.pp_word.specs.declared.operands.Operands.{Operands}
+use Rattle.pp_word.specs.declared.operands.Operands.TheVariants.{IndexedPlace, JumpPlace, Constant, PlaceAndNumber, Number}
 
 -- nine characters, one by one
 nine : (xs : List ℕ) → length xs ≡ 9

@@ -1,18 +1,17 @@
 -- The words of an instruction are read off its text.
 use Rattle.std.proofs.Common.{◌≡◌, ◌∙◌, ℕ, ◌+◌, ◌-◌, ◌*◌, ◌/◌, ◌%◌, ◌^◌, ◌<◌, Bool, true, false, List, [], ◌∷◌, ◌++◌, get_or, refl, sym, ap, arith, codes, inl, inr}
 use Rattle.std.specs.Prelude.{◌==◌, IsTrue}
-use Rattle.std.specs.Bool.{beq}
 use Rattle.std.specs.List.{list_all, range_with_len}
 use Rattle.std.proofs.lemmas.Bool.{cases_lt, cases_eq, eq-eqb, eqb-true, le-ltb, lt-ltb, ne_eqb}
 use Rattle.std.proofs.lemmas.List.FromFn.{get_or-range_with_len}
 use Rattle.std.proofs.lemmas.List.Sums.{AllPass-from_list_all}
 use Rattle.pp_word.specs.Address.{place_count, relative_to}
-use Rattle.pp_word.specs.Opcode.{opcode_at, row_of}
+use Rattle.pp_word.specs.Opcode.{have_second_word, opcode_at, row_of}
 use Rattle.pp_word.proofs.NumeralLemmas.{octal_numeral}
 use Rattle.pp_text.specs.InstructionRead.{code_read, jump_between, operand_read, second_of_text, second_read, usual_code, usual_operand, usual_word, word_of_text}
 use Rattle.pp_text.specs.InstructionText.{instruction_text, is_long, operands_of, operands_text}
-use Rattle.pp_text.specs.declared.operands.Operands.{Operands}
-use Rattle.pp_text.specs.declared.operands.Operands.TheVariants.{IndexedPlace, JumpPlace, Constant, PlaceAndNumber, Number}
+use Rattle.pp_word.specs.declared.operands.Operands.{Operands}
+use Rattle.pp_word.specs.declared.operands.Operands.TheVariants.{IndexedPlace, JumpPlace, Constant, PlaceAndNumber, Number}
 use Rattle.pp_text.proofs.InstructionLemmas.{three, three_letters}
 
 -- ---- the table, row by row
@@ -38,22 +37,6 @@ kind_is code = elim (cases_eq code 0o24) [
     | inr other ↦ rw (ne_eqb code 0o24 apart, ne_eqb code 0o25 other) refl
   ]
 ]
-
--- whether the operands of a kind have the second word
-has_second : Operands → Bool
-has_second JumpPlace = false
-has_second Number = false
-has_second kind = true
-
-same_bool : (a b : Bool) → beq a b ≡ true → a ≡ b
-same_bool true true is = refl
-same_bool false false is = refl
-same_bool true false is = absurd cc
-same_bool false true is = absurd cc
-
-second_is : (code : ℕ) → code < 0o100 → (row_of (opcode_at code)).long ≡ has_second (operands_of code)
-unfolding has_second
-second_is code low = same_bool _ _ (each_code (λ code. beq (row_of (opcode_at code)).long (has_second (operands_of code))) refl code low)
 
 -- ---- columns
 
@@ -89,8 +72,7 @@ operand_is IndexedPlace a b c place d m within low small = elim (cases_eq d 0) [
   | inr some ↦ rw (ne_eqb d 0 some) (octal_numeral 2 d low).value
 ]
 
-second_word_is : (kind : Operands) (a b c place d m : ℕ) → m < 2 ^ 12 → IsTrue (has_second kind) → second_read kind (a ∷ b ∷ c ∷ 32 ∷ operands_text kind place d m) ≡ m
-unfolding has_second
+second_word_is : (kind : Operands) (a b c place d m : ℕ) → m < 2 ^ 12 → IsTrue (have_second_word kind) → second_read kind (a ∷ b ∷ c ∷ 32 ∷ operands_text kind place d m) ≡ m
 second_word_is Constant a b c place d m small has = (octal_numeral 4 m small).value
 second_word_is PlaceAndNumber a b c place d m small has = (octal_numeral 4 m small).value
 second_word_is IndexedPlace a b c place d m small has = (octal_numeral 4 m small).value
@@ -132,4 +114,4 @@ module _ (place word m : ℕ) (low : word < 2 ^ 12) (small : m < 2 ^ 12) where
   second_in_text long =
       rw kind_in_text
       (ap (second_read (operands_of code)) text_is
-      ∙ second_word_is (operands_of code) (get_or name 0 0) (get_or name 1 0) (get_or name 2 0) place (word % 2 ^ 6) m small (sym (second_is code (omega (arith, low))) ∙ long))
+      ∙ second_word_is (operands_of code) (get_or name 0 0) (get_or name 1 0) (get_or name 2 0) place (word % 2 ^ 6) m small long)

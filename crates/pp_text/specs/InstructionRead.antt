@@ -8,8 +8,8 @@ use Rattle.pp_word.specs.Address.{place_count}
 use Rattle.pp_word.specs.Numeral.{value_of}
 use Rattle.pp_word.specs.Opcode.{operations, row_of}
 use Rattle.pp_text.specs.InstructionText.{operands_of}
-use Rattle.pp_text.specs.declared.operands.Operands.{Operands}
-use Rattle.pp_text.specs.declared.operands.Operands.TheVariants.{IndexedPlace, JumpPlace, Constant, PlaceAndNumber, Number}
+use Rattle.pp_word.specs.declared.operands.Operands.{Operands}
+use Rattle.pp_word.specs.declared.operands.Operands.TheVariants.{IndexedPlace, JumpPlace, Constant, PlaceAndNumber, Number}
 
 -- the octal number in some columns of a line, counted from 0
 abbrev pub number_in : ℕ → ℕ → List ℕ → ℕ

@@ -1,28 +1,18 @@
 -- The text of an instruction: its mnemonic, a blank, its operands. d is the lower six bits of the
 -- word, m the next word; after the word at place 7777 that is the one at 0000.
-use Rattle.std.specs.Prelude.{ℕ, ◌/◌, ◌%◌, ◌^◌, ◌==◌, ◌&&◌, ◌||◌, nat_le, Bool, List, [], ◌++◌, Option, None, Some, codes, if◌then◌else◌}
+use Rattle.std.specs.Prelude.{ℕ, ◌/◌, ◌%◌, ◌^◌, ◌==◌, Bool, List, [], ◌++◌, Option, None, Some, codes, if◌then◌else◌}
 use Rattle.pp_word.specs.Address.{next_place, relative_to}
-use Rattle.pp_word.specs.Opcode.{opcode_at, row_of}
+use Rattle.pp_word.specs.Opcode.{have_second_word, opcode_at, row_of}
 use Rattle.pp_processor.specs.Processor.{Processor, word_at}
 use Rattle.pp_processor.specs.declared.{block.Block.Block, block.BlockKind.BlockKind}
 use Rattle.pp_processor.specs.declared.block.BlockKind.TheVariants.{CentralIn, CentralOut, Input, Output}
 use Rattle.pp_word.specs.Numeral.{octal}
-use Rattle.pp_text.specs.declared.operands.Operands.{Operands}
-use Rattle.pp_text.specs.declared.operands.Operands.TheVariants.{IndexedPlace, JumpPlace, Constant, PlaceAndNumber, Number}
+use Rattle.pp_word.specs.declared.operands.Operands.{Operands}
+use Rattle.pp_word.specs.declared.operands.Operands.TheVariants.{IndexedPlace, JumpPlace, Constant, PlaceAndNumber, Number}
 
--- whether a code is one of these, the first and the last included
-abbrev pub is_within : ℕ → ℕ → ℕ → Bool
-is_within first last code = nat_le first code && nat_le code last
-
--- the kinds of operands, by code (octal)
+-- the kind of the operands of the instructions with a code
 abbrev pub operands_of : ℕ → Operands
-operands_of code =
-    if is_within 0o01 0o02 code || is_within 0o50 0o57 code then IndexedPlace
-    else if is_within 0o03 0o07 code then JumpPlace
-    else if is_within 0o20 0o23 code then Constant
-    else if code == 0o61 || code == 0o63 || is_within 0o64 0o67 code then PlaceAndNumber
-    else if code == 0o71 || code == 0o73 || code == 0o77 then PlaceAndNumber
-    else Number
+operands_of code = (row_of (opcode_at code)).operands
 
 -- the place of an index, which is none if d is 0
 abbrev pub index_text : ℕ → List ℕ
@@ -60,4 +50,4 @@ running_instruction pp = running_text pp.block pp.p (word_at pp pp.p) (word_at p
 
 -- whether a second word belongs to the instruction in a word
 abbrev pub is_long : ℕ → Bool
-is_long word = (row_of (opcode_at (word / 2 ^ 6))).long
+is_long word = have_second_word (operands_of (word / 2 ^ 6))

@@ -5,10 +5,9 @@ ghost use Rattle.pp_text.specs.InstructionText.{block_text, instruction_text, op
 ghost use Rattle.pp_text.specs.PrintedText.{padded};
 ghost use Rattle.pp_text.specs.TextWriter.{Prints};
 
-use crate::operands::Operands;
 use crate::{TextWriter, octal2, octal4};
 use pp_machine::{Block, BlockKind};
-use pp_word::{Word6, Word12, decode, relative};
+use pp_word::{Operands, Word6, Word12, decode, relative};
 use std::io::Write;
 
 /// Prints the text of the instruction that runs: of the block in progress, `IAM 05`, else of the
@@ -65,7 +64,7 @@ fn instruction_field(place: Word12, word: Word12, m: Word12) -> [u8; 13]
 {
     let (operation, d) = decode(word);
     let name = operation.mnemonic().as_bytes();
-    let [o0, o1, o2, o3, o4, o5, o6, o7, o8] = operands_field(Operands::of(operation), place, d, m);
+    let [o0, o1, o2, o3, o4, o5, o6, o7, o8] = operands_field(operation.operands(), place, d, m);
     [
         name[0], name[1], name[2], b' ', o0, o1, o2, o3, o4, o5, o6, o7, o8,
     ]

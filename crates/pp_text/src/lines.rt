@@ -12,6 +12,9 @@ use pp_channel::{CHANNELS, ChannelNo};
 use pp_machine::{PROCESSORS, PpNo};
 use std::io::Write;
 
+/// How many words of memory stand on a line.
+pub const WORDS_ON_A_LINE: u32 = 8;
+
 /// What is printed of each of some things.
 pub trait Lines<T, W: Write> {
     // the text of a thing

@@ -6,7 +6,7 @@ ghost use Rattle.pp_word.specs.Address.{indexed, next_place, place_count, relati
 use crate::{Word6, Word12};
 
 /// The number of places in a processor's memory.
-const PLACES: u32 = 0o10000;
+pub const PLACES: u32 = 0o10000;
 
 /// The address m with the index x: m + x, less 7777 from 10000 on (octal).
 pub fn index_address(m: Word12, x: Word12) -> Word12

@@ -1,7 +1,7 @@
 ghost use Rattle.std.specs.Prelude.{◌≡◌, ◌/◌, ◌%◌, ◌^◌, ◌<◌};
-ghost use Rattle.pp_word.specs.Opcode.{code_of, row_of, opcode_at};
+ghost use Rattle.pp_word.specs.Opcode.{code_of, is_long, opcode_at, row_of};
 
-use crate::{Word6, Word12};
+use crate::{Operands, Word6, Word12};
 
 /// An operation code, named by the manual's mnemonic. Codes 24 and 25 do nothing, as PSN.
 #[derive(Clone, Copy)]
@@ -101,14 +101,24 @@ impl Opcode {
         self as u8
     }
 
+    /// The operands of its instructions.
+    pub fn operands(self) -> Operands
+        ensures { result ≡ (row_of self).operands }
+    {
+        match self.code() {
+            0o01..=0o02 | 0o50..=0o57 => Operands::IndexedPlace,
+            0o03..=0o07 => Operands::JumpPlace,
+            0o20..=0o23 => Operands::Constant,
+            0o61 | 0o63..=0o67 | 0o71 | 0o73 | 0o77 => Operands::PlaceAndNumber,
+            _ => Operands::Number,
+        }
+    }
+
     /// Whether the instruction has a second word.
     pub fn is_long(self) -> bool
-        ensures { result ≡ (row_of self).long }
+        ensures { result ≡ is_long self }
     {
-        matches!(
-            self.code(),
-            0o01 | 0o02 | 0o20..=0o23 | 0o50..=0o57 | 0o61 | 0o63..=0o67 | 0o71 | 0o73 | 0o77
-        )
+        !matches!(self.operands(), Operands::JumpPlace | Operands::Number)
     }
 
     /// The manual's mnemonic, three letters.

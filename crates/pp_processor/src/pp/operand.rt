@@ -3,10 +3,11 @@
 ghost use Rattle.std.specs.Prelude.{◌≡◌};
 ghost use Rattle.pp_word.specs.Address.{place_after};
 ghost use Rattle.pp_processor.specs.Operand.{second_word, index, constant};
+ghost use Rattle.pp_processor.specs.InstructionTable.{operand_place};
 ghost use Rattle.pp_processor.specs.Processor.{word_at};
 
 use crate::Pp;
-use pp_word::{Word6, Word12, Word18, index_address};
+use pp_word::{Opcode, Word6, Word12, Word18, index_address};
 
 impl Pp {
     /// The place `words` places after P.
@@ -40,6 +41,17 @@ impl Pp {
         ensures { result ≡ word_at self.now d }
     {
         self.get(Word12::from(d))
+    }
+
+    /// The place of the word that a memory instruction works on.
+    pub(super) fn operand_place(&self, op: Opcode, d: Word6) -> Word12
+        ensures { result ≡ operand_place op self.now d }
+    {
+        match op.code() / 8 {
+            4 => self.indirect(d),
+            5 => self.index(d),
+            _ => Word12::from(d),
+        }
     }
 
     /// The constant of d and the second word.

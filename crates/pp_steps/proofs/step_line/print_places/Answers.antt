@@ -3,7 +3,7 @@ use Rattle.pp_word.specs.Address.{place_count}
 use Rattle.pp_processor.specs.Processor.{Processor}
 use Rattle.pp_text.proofs.PrintingLemmas.{prints_on}
 use Rattle.pp_text.specs.TextWriter.{Prints}
-use Rattle.pp_steps.specs.Stores.{IsApart}
+use Rattle.pp_processor.specs.Stores.{IsApart}
 use Rattle.pp_steps.proofs.PlaceLemmas.{places_here, places_round}
 use Rattle.pp_steps.proofs.step_line.print_places.Goals as goal
 

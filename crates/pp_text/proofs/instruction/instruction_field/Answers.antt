@@ -3,7 +3,7 @@ use Rattle.pp_word.specs.Opcode.{opcode_at, row_of}
 use Rattle.pp_word.specs.declared.opcode.Opcode.{Opcode}
 use Rattle.pp_text.specs.InstructionText.{instruction_text, operands_of, operands_text}
 use Rattle.pp_text.specs.PrintedText.{padded}
-use Rattle.pp_text.specs.declared.operands.Operands.{Operands}
+use Rattle.pp_word.specs.declared.operands.Operands.{Operands}
 use Rattle.pp_text.proofs.InstructionLemmas.{instruction_in_pieces, three_letters}
 use Rattle.pp_text.proofs.instruction.instruction_field.Goals as goal
 use Rattle.pp_text.proofs.instruction.instruction_field.Goals.{After-as_bytes-name}
@@ -25,8 +25,8 @@ unfolding instruction_text
 returns c =
     let op = c.decode-operation.result.0 in
     let long : length c.operands_field.result ≡ 9 = search rules in
-    let text = operands_text c.of.result c.args.place c.decode-operation.result.1 c.args.m in
+    let text = operands_text c.operands.result c.args.place c.decode-operation.result.1 c.args.m in
     instruction_in_pieces c.as_bytes-name.result.now c.operands_field.result text op (c.as_bytes-name.ensures.value ∙ c.mnemonic.ensures) long c.operands_field.ensures
-    ∙ ap (λ (x : Operands). padded 13 ((row_of op).mnemonic ++ codes " " ++ operands_text x c.args.place c.decode-operation.result.1 c.args.m)) (c.of.ensures ∙ ap operands_of c.decode-operation.ensures.code)
+    ∙ ap (λ (x : Operands). padded 13 ((row_of op).mnemonic ++ codes " " ++ operands_text x c.args.place c.decode-operation.result.1 c.args.m)) (c.operands.ensures ∙ ap (λ (x : Opcode). (row_of x).operands) c.decode-operation.ensures.operation)
     ∙ ap (λ (x : Opcode). padded 13 ((row_of x).mnemonic ++ codes " " ++ operands_text (operands_of (c.args.word / 2 ^ 6)) c.args.place c.decode-operation.result.1 c.args.m)) c.decode-operation.ensures.operation
     ∙ ap (λ (d : ℕ). padded 13 ((row_of (opcode_at (c.args.word / 2 ^ 6))).mnemonic ++ codes " " ++ operands_text (operands_of (c.args.word / 2 ^ 6)) c.args.place d c.args.m)) c.decode-operation.ensures.lower_half

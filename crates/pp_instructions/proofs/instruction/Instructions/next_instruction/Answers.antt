@@ -1,5 +1,5 @@
 use Rattle.std.proofs.Common.{◌≡◌, true, false, ap, refl, sym, ◌∙◌}
-use Rattle.pp_word.specs.Opcode.{row_of}
+use Rattle.pp_word.specs.Opcode.{is_long as is_long_of}
 use Rattle.pp_text.specs.InstructionText.{is_long}
 use Rattle.pp_instructions.specs.Instruction.{instructions}
 use Rattle.pp_instructions.specs.WordsInFields.{words_in_fields}
@@ -14,13 +14,13 @@ returns-in_default-clause-none c = (
 
 pub returns-then-not-is_long-clause-taken : goal.returns-then-not-is_long-clause-taken
 returns-then-not-is_long-clause-taken c =
-    let short : is_long c.in-Some.word ≡ false = ap (λ op. (row_of op).long) (sym c.decode.ensures.operation) ∙ sym c.is_long.ensures ∙ c.if-not-is_long.true in
+    let short : is_long c.in-Some.word ≡ false = ap is_long_of (sym c.decode.ensures.operation) ∙ sym c.is_long.ensures ∙ c.if-not-is_long.true in
     left_is _ _ _ c.self.view_is c.if-self.false
     ∙ short_step c.self.inside.place c.next-self-inside.result c.in-Some.word c.self.inside.is_ended c.self.inside.words c.next_word.new.words short c.next-self-inside.ensures c.if-self.false c.in-Some.ensures.taken
 
 pub returns-clause-taken : goal.returns-clause-taken
 returns-clause-taken c =
-    let long : is_long c.in-Some.word ≡ true = ap (λ op. (row_of op).long) (sym c.decode.ensures.operation) ∙ sym c.is_long.ensures ∙ c.if-not-is_long.false in
+    let long : is_long c.in-Some.word ≡ true = ap is_long_of (sym c.decode.ensures.operation) ∙ sym c.is_long.ensures ∙ c.if-not-is_long.false in
     left_is _ _ _ c.self.view_is c.if-self.false
     ∙ long_step c.self.inside.place c.next-self-inside.result c.next-self-inside-2.result c.in-Some.word c.is_none-self-inside.result c.self.inside.words c.next_word.new.words c.next_word-second.new.words c.next_word-second.result
     long c.next-self-inside.ensures c.next-self-inside-2.ensures c.is_none-self-inside.ensures c.in-Some.ensures.taken c.next_word-second.ensures.taken c.next_word-second.ensures.none

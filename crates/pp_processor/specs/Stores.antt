@@ -3,30 +3,22 @@
 use Rattle.std.specs.Prelude.{◌≡◌, ◌≢◌, ℕ, ◌+◌, ◌<◌, ◌%◌, Option, None, Some, slice_index}
 use Rattle.pp_word.specs.Address.{place_count}
 use Rattle.pp_word.specs.declared.opcode.Opcode.{Opcode}
-use Rattle.pp_word.specs.declared.opcode.Opcode.TheVariants.{RJM, STD, RAD, AOD, SOD, STI, RAI, AOI, SOI, STM, RAM, AOM, SOM, CRD}
+use Rattle.pp_word.specs.declared.opcode.Opcode.TheVariants.{RJM, CRM, CWM, IAM, OAM}
+use Rattle.pp_processor.specs.InstructionTable.{operand_place}
 use Rattle.pp_processor.specs.NeedAndEffect.{processor_after}
 use Rattle.pp_processor.specs.Operand.{index, lower_six, operation}
-use Rattle.pp_processor.specs.Processor.{Processor, word_at}
+use Rattle.pp_processor.specs.Processor.{Processor}
 use Rattle.pp_processor.specs.declared.{answer.Answer.Answer, block.Block.Block}
 
--- the first place that an instruction stores to: of a return address, an operand, or the parts of a
--- central word; else 0000, where the start of a block stores a word, and the others store nothing
+-- the first place that an instruction may store to: of a return address, of the place kept at the
+-- start of a block, or of its operand
 abbrev pub first_of : Opcode → Processor → ℕ → ℕ
 first_of RJM pp d = index pp d
-first_of STD pp d = d
-first_of RAD pp d = d
-first_of AOD pp d = d
-first_of SOD pp d = d
-first_of STI pp d = word_at pp d
-first_of RAI pp d = word_at pp d
-first_of AOI pp d = word_at pp d
-first_of SOI pp d = word_at pp d
-first_of STM pp d = index pp d
-first_of RAM pp d = index pp d
-first_of AOM pp d = index pp d
-first_of SOM pp d = index pp d
-first_of CRD pp d = d
-first_of operation pp d = 0
+first_of CRM pp d = 0
+first_of CWM pp d = 0
+first_of IAM pp d = 0
+first_of OAM pp d = 0
+first_of op pp d = operand_place op pp d
 
 -- the first place of the next step: in a block that of its next word
 abbrev pub first_stored : Option Block → Processor → ℕ

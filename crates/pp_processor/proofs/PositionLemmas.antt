@@ -2,13 +2,13 @@
 -- alone, and it changes no more than its position tells.
 use Rattle.std.proofs.Common.{◌≡◌, ℕ, Bool, true, false, List, length, get_or, inl, inr, Option, Some, None, refl, sym, ap, ◌∙◌, subst}
 use Rattle.std.proofs.Math.Path.{fun_ext}
-use Rattle.std.specs.Prelude.{◌&&◌, ◌==◌, ◌⊎◌, not, is_some, slice_index, slice_set, if◌then◌else◌, option_map}
+use Rattle.std.specs.Prelude.{◌&&◌, ◌==◌, ◌⊎◌, not, is_some, slice_index, slice_set, if◌then◌else◌}
 use Rattle.std.proofs.lemmas.Bool.{cases_eq, cases_lt, ne_eqb, and_parts, and_from, eq-eqb, eqb-true}
 use Rattle.std.proofs.lemmas.List.{get_or-set_other, get_or-set_same, get_or_past, set_past}
-use Rattle.pp_channel.specs.Answer.{only_looks, reply_shown, event_of, flags_of, ready_at}
-use Rattle.pp_channel.specs.declared.{chan_op.ChanOp.ChanOp, flags.Flags.Flags, event.Event.Event}
+use Rattle.pp_channel.specs.Answer.{only_looks, reply_shown}
+use Rattle.pp_channel.specs.declared.{chan_op.ChanOp.ChanOp, flags.Flags.Flags}
 use Rattle.pp_word.specs.Address.{next_place, place_after}
-use Rattle.pp_word.specs.Opcode.{code_of, length_of}
+use Rattle.pp_word.specs.Opcode.{length_of}
 use Rattle.pp_word.specs.declared.opcode.Opcode.{Opcode}
 use Rattle.pp_word.specs.declared.opcode.Opcode.TheVariants.{AJM, IJM, FJM, EJM, OAN, ACN, DCN, FAN, FNC}
 use Rattle.pp_processor.specs.Block.{block_word, cut_short, held}
@@ -18,17 +18,14 @@ use Rattle.pp_processor.specs.NeedAndEffect.{answered, if_running, need, next_st
 use Rattle.pp_processor.specs.Operand.{lower_six, operation, second_word}
 use Rattle.pp_processor.specs.Processor.{Processor, word_at}
 use Rattle.pp_numbers.specs.Profile.{has_channel}
+use Rattle.pp_processor.specs.Foreseen.{jumps_at}
+use Rattle.pp_processor.specs.Positions.{cut_position, held_position, is_same, position_at, position_of, position_shown, shown_to}
+use Rattle.pp_processor.specs.declared.position.Position.{Position}
 use Rattle.pp_processor.specs.Step.{Step, need_of, local, probes, takes, does}
 use Rattle.pp_processor.specs.declared.{answer.Answer.Answer, block.Block.Block, block.BlockKind.BlockKind, need.Need.Need, pp_state.PpState.PpState}
 use Rattle.pp_processor.specs.declared.block.BlockKind.TheVariants.{CentralIn, CentralOut, Input, Output}
 use Rattle.pp_processor.specs.declared.need.Need.TheVariants.{Channel}
 use Rattle.pp_processor.specs.declared.pp_state.PpState.TheVariants.{Running}
-use Rattle.pp_races.specs.OtherFlags.{position_at, position_of, is_same, shown_to, found_at, is_alike, is_race, makes_none}
-use Rattle.pp_races.specs.Positions.{cut_position, held_position, position_shown, tests_flags}
-use Rattle.pp_races.specs.declared.position.Position.{Position}
-use Rattle.pp_channel.specs.History.{IsLawful, HasTwelveBitWords, waiting}
-use Rattle.pp_channel.proofs.AnswerLemmas.{full_register}
-use Rattle.pp_races.specs.declared.found.Found.TheVariants.{Alike, Waits, Races}
 
 -- ---- a position that is the same
 
@@ -48,61 +45,6 @@ position_same one other is =
 
 pub same_itself : (one : Position) → is_same one one ≡ true
 same_itself one = and_from (one.p == one.p) (if one.in_block then one.in_block else not one.in_block) (eq-eqb one.p one.p refl) (same_bool one.in_block)
-
--- ---- found at other flags
-
-found_where : (b same waits : Bool) → b ≡ true → is_race (if not b then Races else if same then Alike else if waits then Waits else Races) ≡ false → (same ≡ true → ⊥) → waits ≡ true
-found_where true true waits b_is is apart = absurd (apart refl)
-found_where true false true b_is is apart = refl
-found_where b same waits b_is is apart = absurd cc
-
-none_where : (b same waits : Bool) → is_race (if not b then Races else if same then Alike else if waits then Waits else Races) ≡ false → b ≡ true
-none_where true same waits is = refl
-none_where false same waits is = absurd cc
-
-alike_where : (b same waits : Bool) → is_alike (if not b then Races else if same then Alike else if waits then Waits else Races) ≡ true → (b ≡ true) × (same ≡ true)
-alike_where true true waits is = (refl, refl)
-alike_where true false true is = absurd cc
-alike_where b same waits is = absurd cc
-
-alike_from : (b same waits : Bool) → b ≡ true → same ≡ true → is_alike (if not b then Races else if same then Alike else if waits then Waits else Races) ≡ true
-alike_from true true waits b_is is = refl
-alike_from true false waits b_is is = absurd cc
-alike_from false same waits b_is is = absurd cc
-
-module _ (op : ChanOp) (pp : Processor) (now f : Flags) where
-  pub race_none : is_race (found_at op pp now f) ≡ false → makes_none op f ≡ true
-  race_none is = none_where (makes_none op f) (is_same (position_at op pp f) (position_at op pp now)) (is_same (position_at op pp f) (position_of pp)) is
-
-  pub race_waits : is_race (found_at op pp now f) ≡ false → (is_same (position_at op pp f) (position_at op pp now) ≡ true → ⊥) → is_same (position_at op pp f) (position_of pp) ≡ true
-  race_waits is apart = found_where (makes_none op f) (is_same (position_at op pp f) (position_at op pp now)) (is_same (position_at op pp f) (position_of pp)) (race_none is) is apart
-
-  pub alike_parts : is_alike (found_at op pp now f) ≡ true → (makes_none op f ≡ true) × (is_same (position_at op pp f) (position_at op pp now) ≡ true)
-  alike_parts is = alike_where (makes_none op f) (is_same (position_at op pp f) (position_at op pp now)) (is_same (position_at op pp f) (position_of pp)) is
-
-  pub alike_is : makes_none op f ≡ true → is_same (position_at op pp f) (position_at op pp now) ≡ true → is_alike (found_at op pp now f) ≡ true
-  alike_is none same = alike_from (makes_none op f) (is_same (position_at op pp f) (position_at op pp now)) (is_same (position_at op pp f) (position_of pp)) none same
-
--- ---- an operation that makes no event, by its channel
-
-not_ready : {X : Type 0} (b : Bool) (x : X) → (if b then Some x else None) ≡ None → not b ≡ true
-not_ready true x is = absurd cc
-not_ready false x is = refl
-
-not_full : (b : Bool) (word : Option ℕ) → (b ≡ true → is_some word ≡ true) → (if b then option_map (λ w. Event.Take w) word else None) ≡ None → not b ≡ true
-not_full false word some is = refl
-not_full true None some is = (let bad : false ≡ true = some refl in absurd cc)
-not_full true (Some w) some is = absurd cc
-
-pub none_made_makes_none : (op : ChanOp) (h : List Event) → IsLawful h → HasTwelveBitWords h → event_of op h ≡ None → makes_none op (flags_of h) ≡ true
-none_made_makes_none ChanOp.Probe h lawful twelve is = refl
-none_made_makes_none ChanOp.Activate h lawful twelve is = not_ready (ready_at ChanOp.Activate (flags_of h)) Event.Activate is
-none_made_makes_none ChanOp.Disconnect h lawful twelve is = not_ready (ready_at ChanOp.Disconnect (flags_of h)) Event.Disconnect is
-none_made_makes_none (ChanOp.Put w) h lawful twelve is = not_ready (ready_at (ChanOp.Put w) (flags_of h)) (Event.Put w) is
-none_made_makes_none (ChanOp.Function w) h lawful twelve is = not_ready (ready_at (ChanOp.Function w) (flags_of h)) (Event.Function w) is
-none_made_makes_none ChanOp.Take h lawful twelve is =
-    not_full (ready_at ChanOp.Take (flags_of h)) (waiting h)
-    (λ ready. full_register (flags_of h) (waiting h) h (lawful, twelve, refl, refl) ∙ (and_parts (flags_of h).active (flags_of h).full ready).1) is
 
 -- ---- what flags leave
 
@@ -159,13 +101,13 @@ held_agrees pp (Some block) in_block = record {
 
 -- ---- each step
 
--- a step that tests flags branches by its code, and no other operation only looks
-abbrev Tests : ℕ → Processor → Step → Type 0
-Tests code pp (probes channel after) = (f : Flags) → after f ≡ branches_where (tests_flags code f) pp 2
-Tests code pp (does channel oper after) = only_looks oper ≡ false
-Tests code pp step = Unit {0}
+-- a step that tests flags branches by its operation, and no other operation only looks
+abbrev Tests : Opcode → Processor → Step → Type 0
+Tests op pp (probes channel after) = (f : Flags) → after f ≡ branches_where (jumps_at op f) pp 2
+Tests op pp (does channel oper after) = only_looks oper ≡ false
+Tests op pp step = Unit {0}
 
-row_tests : (op : Opcode) (pp : Processor) (d : ℕ) → Tests (code_of op) pp (table op pp d (length_of op))
+row_tests : (op : Opcode) (pp : Processor) (d : ℕ) → Tests op pp (table op pp d (length_of op))
 row_tests OAN pp d = refl
 row_tests ACN pp d = refl
 row_tests DCN pp d = refl
@@ -177,21 +119,21 @@ row_tests FJM pp d = λ f. refl
 row_tests EJM pp d = λ f. refl
 row_tests op pp d = tt
 
-unless_faults : (b : Bool) (code : ℕ) (pp fault : Processor) (step : Step) → Tests code pp step → Tests code pp (if b then local fault else step)
-unless_faults true code pp fault step is = tt
-unless_faults false code pp fault step is = is
+unless_faults : (b : Bool) (op : Opcode) (pp fault : Processor) (step : Step) → Tests op pp step → Tests op pp (if b then local fault else step)
+unless_faults true op pp fault step is = tt
+unless_faults false op pp fault step is = is
 
-block_tests : (kind : BlockKind) (place code : ℕ) (pp : Processor) → Tests code pp (block_word kind place pp)
-block_tests (Output channel) place code pp = refl
-block_tests other place code pp = tt
+block_tests : (kind : BlockKind) (place : ℕ) (op : Opcode) (pp : Processor) → Tests op pp (block_word kind place pp)
+block_tests (Output channel) place op pp = refl
+block_tests other place op pp = tt
 
-step_tests : (b : Option Block) (pp : Processor) → Tests (code_of (operation pp)) pp (step_of b pp)
-step_tests None pp = unless_faults (works_on_channel (operation pp) && not (has_channel pp.profile (lower_six pp))) (code_of (operation pp)) pp _ (table (operation pp) pp (lower_six pp) (length_of (operation pp))) (row_tests (operation pp) pp (lower_six pp))
-step_tests (Some block) pp = block_tests block.kind block.place (code_of (operation pp)) pp
+step_tests : (b : Option Block) (pp : Processor) → Tests (operation pp) pp (step_of b pp)
+step_tests None pp = unless_faults (works_on_channel (operation pp) && not (has_channel pp.profile (lower_six pp))) (operation pp) pp _ (table (operation pp) pp (lower_six pp) (length_of (operation pp))) (row_tests (operation pp) pp (lower_six pp))
+step_tests (Some block) pp = block_tests block.kind block.place (operation pp) pp
 
 -- What an operation that makes no event leaves of a processor: a probe branches, each other leaves
 -- it held, or ends its block.
-module _ (P : ChanOp → (Flags → Processor) → Type 0) (pp : Processor) (branches : P ChanOp.Probe (λ f. branches_where (tests_flags (code_of (operation pp)) f) pp 2))
+module _ (P : ChanOp → (Flags → Processor) → Type 0) (pp : Processor) (branches : P ChanOp.Probe (λ f. branches_where (jumps_at (operation pp) f) pp 2))
     (stays : (op : ChanOp) → only_looks op ≡ false → P op (λ f. held pp.block pp f)) where
   abbrev answered_at : Step → ChanOp → Flags → Processor
   answered_at step op f = answered step pp (Answer.Channel (reply_shown op (record { flags = f; register = None })))
@@ -200,7 +142,7 @@ module _ (P : ChanOp → (Flags → Processor) → Type 0) (pp : Processor) (bra
   does_held channel ChanOp.Probe after is = absurd cc
   does_held channel op after is = stays op is
 
-  left_by : (step : Step) (c : ℕ) (op : ChanOp) → need_of step ≡ Channel c op → Tests (code_of (operation pp)) pp step → P op (λ f. answered_at step op f)
+  left_by : (step : Step) (c : ℕ) (op : ChanOp) → need_of step ≡ Channel c op → Tests (operation pp) pp step → P op (λ f. answered_at step op f)
   left_by (probes channel after) c op e is =
       let probe : ChanOp.Probe ≡ op = cc in
       subst (λ (o : ChanOp). P o (λ f. answered_at (probes channel after) o f)) probe (subst (λ (of : Flags → Processor). P ChanOp.Probe of) (sym (fun_ext is)) branches)
@@ -222,7 +164,7 @@ module _ (P : ChanOp → (Flags → Processor) → Type 0) (pp : Processor) (bra
   shown c op e = by_state pp.state c op refl e
 
 pub agrees : (c : ℕ) (op : ChanOp) (pp : Processor) → need pp ≡ Channel c op → Agrees pp (λ f. shown_to op pp f)
-agrees c op pp e = shown (λ o of. Agrees pp of) pp (branch_agrees pp 2 (λ f. tests_flags (code_of (operation pp)) f)) (λ o is. held_agrees pp pp.block refl) c op e
+agrees c op pp e = shown (λ o of. Agrees pp of) pp (branch_agrees pp 2 (λ f. jumps_at (operation pp) f)) (λ o is. held_agrees pp pp.block refl) c op e
 
 -- ---- positions
 
@@ -260,4 +202,4 @@ held_shown op pp is f = held_position_is pp.block pp f
 
 pub shown_position : (c : ℕ) (op : ChanOp) (pp : Processor) (f : Flags) → need pp ≡ Channel c op → position_shown op pp f ≡ position_at op pp f
 shown_position c op pp f e =
-    shown (λ o of. (g : Flags) → position_shown o pp g ≡ position_of (of g)) pp (λ g. branch_by (tests_flags (code_of (operation pp)) g) pp) (λ o is. held_shown o pp is) c op e f
+    shown (λ o of. (g : Flags) → position_shown o pp g ≡ position_of (of g)) pp (λ g. branch_by (jumps_at (operation pp) g) pp) (λ o is. held_shown o pp is) c op e f

@@ -1,25 +1,23 @@
-//! What an operation that makes no event may change of a processor.
+//! Where a processor is, and where an operation on a channel that makes no event leaves it.
 
 ghost use Rattle.std.specs.Prelude.{◌≡◌};
 ghost use Rattle.pp_channel.specs.declared.chan_op.ChanOp.{ChanOp};
-ghost use Rattle.pp_word.specs.Opcode.{code_of};
-ghost use Rattle.pp_races.specs.Positions.{AsksChannel, branch_position, cut_position, held_position, position_shown, tests_flags};
-ghost use Rattle.pp_races.specs.OtherFlags.{is_same, makes_none, position_at, position_of, waits_at};
+ghost use Rattle.pp_processor.specs.Positions.{AsksChannel, branch_position, cut_position, held_position, is_same, position_at, position_of, position_shown};
 
+use crate::{Block, BlockKind, Pp, jumps_at};
 use pp_channel::{ChanOp, Flags};
-use pp_machine::{Block, BlockKind, Pp};
-use pp_word::{Opcode, Word12, decode, next};
+use pp_word::{Word12, decode, next};
 
 /// Where a processor is: its P, and whether it is in a block.
 #[derive(Clone, Copy)]
-pub(crate) struct Position {
-    pub(crate) p: Word12,
-    pub(crate) in_block: bool,
+pub struct Position {
+    pub p: Word12,
+    pub in_block: bool,
 }
 
 impl Position {
     /// That of a processor now.
-    pub(crate) fn of(pp: &Pp) -> Position
+    pub fn of(pp: &Pp) -> Position
         ensures { result ≡ position_of pp.now }
     {
         Position {
@@ -31,7 +29,7 @@ impl Position {
     /// That of a processor after its operation on a channel with these flags, if it makes no event.
     /// The processor itself is not copied.
     #[tactic(auto, using(crate::proofs::PositionLemmas::shown_position))]
-    pub(crate) fn at(pp: &Pp, op: &ChanOp, flags: Flags) -> Position
+    pub fn at(pp: &Pp, op: &ChanOp, flags: Flags) -> Position
         requires { AsksChannel pp.now op.now }
         ensures { result ≡ position_at op.now pp.now flags }
     {
@@ -39,7 +37,7 @@ impl Position {
     }
 
     /// Whether it is the same as another.
-    pub(crate) fn is_same(&self, other: &Position) -> bool
+    pub fn is_same(&self, other: &Position) -> bool
         ensures { result ≡ is_same self.now other.now }
     {
         self.p.get() == other.p.get() && self.in_block == other.in_block
@@ -67,24 +65,12 @@ fn branch(pp: &Pp, flags: Flags) -> Position
     let (operation, _) = decode(pp.get(pp.p()));
     let after = next(pp.p());
     Position {
-        p: if tests_flags(operation, flags) {
+        p: if jumps_at(operation, flags) {
             pp.get(after)
         } else {
             next(after)
         },
         in_block: pp.block().is_some(),
-    }
-}
-
-/// Whether an instruction that tests flags jumps at these.
-fn tests_flags(operation: Opcode, flags: Flags) -> bool
-    ensures { result ≡ tests_flags (code_of operation) flags }
-{
-    match operation.code() {
-        0o64 => flags.active,
-        0o65 => !flags.active,
-        0o66 => flags.full,
-        _ => !flags.full,
     }
 }
 
@@ -119,25 +105,4 @@ fn cut(pp: &Pp, block: Block) -> Position
         BlockKind::CentralIn { .. } => Position::of(pp),
         BlockKind::CentralOut { .. } => Position::of(pp),
     }
-}
-
-/// Whether an operation makes no event on a channel with these flags.
-pub(crate) fn makes_none(op: &ChanOp, flags: Flags) -> bool
-    ensures { result ≡ makes_none op.now flags }
-{
-    match op {
-        ChanOp::Probe => true,
-        ChanOp::Activate | ChanOp::Function(_) => flags.active,
-        ChanOp::Disconnect => !flags.active,
-        ChanOp::Put(_) => !(flags.active && !flags.full),
-        ChanOp::Take => !(flags.active && flags.full),
-    }
-}
-
-/// Whether a processor waits if its channel has these flags.
-pub(crate) fn waits_at(pp: &Pp, op: &ChanOp, flags: Flags) -> bool
-    requires { AsksChannel pp.now op.now }
-    ensures { result ≡ waits_at op.now pp.now flags }
-{
-    makes_none(op, flags) && Position::at(pp, op, flags).is_same(&Position::of(pp))
 }
