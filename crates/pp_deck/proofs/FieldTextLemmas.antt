@@ -152,9 +152,6 @@ pub octal_field : (width n : ℕ) → 0 < width → n < 8 ^ width → number wid
 unfolding number
 octal_field width n some lt = ap (λ (read : Option ℕ). ok_or read Flaw.BadDigits) (octal_read width width n some (omega arith) lt)
 
-pub short_plain : (most n : ℕ) → list_all is_plain (short_octal most n) ≡ true
-short_plain most n = short_pass is_plain plain_digit most n
-
 pub short_is_field : (most n : ℕ) → 0 < most → IsField (short_octal most n)
 short_is_field most n some = record { some = omega (arith, short_some most n some); ink = short_pass is_ink ink_octal most n }
 
