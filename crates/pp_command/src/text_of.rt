@@ -10,7 +10,6 @@ use crate::option_values::{
 };
 use pp_condition::Condition;
 use pp_numbers::{Bounds, CHANNELS, PROCESSORS, PpNo, Profile, Window};
-use pp_word::{MOST_CENTRAL_WORDS, PLACES};
 
 /// Which steps of a run are chosen: those that all fields choose.
 #[derive(Clone, Copy)]
@@ -148,6 +147,12 @@ impl TextOf {
         }
     }
 }
+
+/// How many places a processor's memory has.
+const PLACES: u32 = 0o10000;
+
+/// How many words central memory has at most.
+const MOST_CENTRAL_WORDS: u32 = 0o400000;
 
 /// The text of a deck that a command asks for, if its numbers are in range.
 pub(crate) fn text_of<V: Values>(name: &str, values: &V, profile: Profile) -> Option<TextOf>

@@ -12,7 +12,7 @@ use crate::words::instructions_of;
 use pp_channel::Memory;
 use pp_instructions::{Instruction, Instructions};
 use pp_numbers::{PpNo, Profile};
-use pp_word::{PLACES, Word12, Word6};
+use pp_word::{Word6, Word12};
 use std::alloc::Allocator;
 use std::marker::Model;
 
@@ -40,6 +40,9 @@ const CHANNELS: usize = 294_954;
 
 /// How many keys there are.
 const KEYS: usize = 296_234;
+
+/// How many places a processor's memory has.
+const PLACES: usize = 0o10000;
 
 /// How many numbers the d of an instruction can be.
 const NUMBERS: usize = 0o100;
@@ -194,10 +197,10 @@ fn key_of(kind: &Kind, place: usize) -> usize
         Kind::Fault => place,
         Kind::Name(n) => NAMES + n.index() + place,
         Kind::Start(n) => STARTS + n.index() + place,
-        Kind::Word(n) => WORDS + PLACES as usize * n.index() + place,
+        Kind::Word(n) => WORDS + PLACES * n.index() + place,
         Kind::Central => CENTRAL + place,
         Kind::Dead => DEAD + place,
-        Kind::Target(n) => TARGETS + PLACES as usize * n.index() + place,
+        Kind::Target(n) => TARGETS + PLACES * n.index() + place,
         Kind::Channel(n) => CHANNELS + NUMBERS * n.index() + place,
     }
 }

@@ -160,18 +160,18 @@ fn print_fault_finding<W: Write>(
     };
     let column = columns.column_of(field_of(words.first, i));
     print_place(text, words.number, column);
-    print_fault_text(text, fault, i);
+    print_fault_text(text, u64::from(fault), i);
     text.print(b"\n");
     true
 }
 
 /// Prints `2600 is EXN 00: FAULT 1 wherever it is run`.
-fn print_fault_text<W: Write>(text: &mut TextWriter<W>, fault: u8, i: &Instruction)
+fn print_fault_text<W: Write>(text: &mut TextWriter<W>, fault: u64, i: &Instruction)
     ensures { Prints W.contents text.old text.new (fault_text fault i.now) }
 {
     i.print(text);
     text.print(b": FAULT ");
-    print_short_decimal(text, u64::from(fault));
+    print_short_decimal(text, fault);
     text.print(b" wherever it is run");
 }
 

@@ -21,9 +21,12 @@ use pp_deck::Fields;
 use pp_instructions::Columns;
 use pp_numbers::PpNo;
 use pp_text::{TextWriter, octal4, print_short_decimal, print_short_octal};
-use pp_word::{PLACES, Word12};
+use pp_word::Word12;
 use std::alloc::Allocator;
 use std::io::Write;
+
+/// How many places a processor's memory has.
+const PLACES: usize = 0o10000;
 
 /// Prints what is found in a line without a fault by what other lines give, and returns whether
 /// something is.
@@ -262,7 +265,7 @@ fn names_without_start<A: Allocator>(firsts: &FirstLines<A>, n: PpNo, number: u6
 fn has_words<A: Allocator>(firsts: &FirstLines<A>, n: PpNo) -> bool
     ensures { (notes : List Note) → Shows firsts.now notes → result ≡ has_words notes n }
 {
-    for place in 0..PLACES as usize {
+    for place in 0..PLACES {
         if firsts.line_of(&Kind::Word(n), place) != 0 {
             return true;
         }

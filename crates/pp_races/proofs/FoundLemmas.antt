@@ -1,27 +1,10 @@
 -- What an operation that made no event would have done at other flags, and when it makes none.
-use Rattle.std.proofs.Common.{◌≡◌, ℕ, Bool, true, false, List, length, get_or, inl, inr, Option, Some, None, refl, sym, ap, ◌∙◌, subst}
-use Rattle.std.proofs.Math.Path.{fun_ext}
-use Rattle.std.specs.Prelude.{◌&&◌, ◌==◌, ◌⊎◌, not, is_some, slice_index, slice_set, if◌then◌else◌, option_map}
-use Rattle.std.proofs.lemmas.Bool.{cases_eq, cases_lt, ne_eqb, and_parts, and_from, eq-eqb, eqb-true}
-use Rattle.std.proofs.lemmas.List.{get_or-set_other, get_or-set_same, get_or_past, set_past}
-use Rattle.pp_channel.specs.Answer.{only_looks, reply_shown, event_of, flags_of, ready_at}
+use Rattle.std.proofs.Common.{◌≡◌, ℕ, Bool, true, false, List, Option, Some, None, refl, ◌∙◌}
+use Rattle.std.specs.Prelude.{not, is_some, if◌then◌else◌, option_map}
+use Rattle.std.proofs.lemmas.Bool.{and_parts}
+use Rattle.pp_channel.specs.Answer.{event_of, flags_of, ready_at}
 use Rattle.pp_channel.specs.declared.{chan_op.ChanOp.ChanOp, flags.Flags.Flags, event.Event.Event}
-use Rattle.pp_word.specs.Address.{next_place, place_after}
-use Rattle.pp_word.specs.Opcode.{code_of, length_of}
-use Rattle.pp_word.specs.declared.opcode.Opcode.{Opcode}
-use Rattle.pp_word.specs.declared.opcode.Opcode.TheVariants.{AJM, IJM, FJM, EJM, OAN, ACN, DCN, FAN, FNC}
-use Rattle.pp_processor.specs.Block.{block_word, cut_short, held}
-use Rattle.pp_processor.specs.Effect.{branches_where}
-use Rattle.pp_processor.specs.InstructionTable.{table, works_on_channel}
-use Rattle.pp_processor.specs.NeedAndEffect.{answered, if_running, need, next_step, processor_after, step_of}
-use Rattle.pp_processor.specs.Operand.{lower_six, operation, second_word}
-use Rattle.pp_processor.specs.Processor.{Processor, word_at}
-use Rattle.pp_numbers.specs.Profile.{has_channel}
-use Rattle.pp_processor.specs.Step.{Step, need_of, local, probes, takes, does}
-use Rattle.pp_processor.specs.declared.{answer.Answer.Answer, block.Block.Block, block.BlockKind.BlockKind, need.Need.Need, pp_state.PpState.PpState}
-use Rattle.pp_processor.specs.declared.block.BlockKind.TheVariants.{CentralIn, CentralOut, Input, Output}
-use Rattle.pp_processor.specs.declared.need.Need.TheVariants.{Channel}
-use Rattle.pp_processor.specs.declared.pp_state.PpState.TheVariants.{Running}
+use Rattle.pp_processor.specs.Processor.{Processor}
 use Rattle.pp_channel.specs.History.{IsLawful, HasTwelveBitWords, waiting}
 use Rattle.pp_channel.proofs.AnswerLemmas.{full_register}
 use Rattle.pp_processor.specs.Positions.{is_same, position_at, position_of}
@@ -82,4 +65,3 @@ none_made_makes_none (ChanOp.Function w) h lawful twelve is = not_ready (ready_a
 none_made_makes_none ChanOp.Take h lawful twelve is =
     not_full (ready_at ChanOp.Take (flags_of h)) (waiting h)
     (λ ready. full_register (flags_of h) (waiting h) h (lawful, twelve, refl, refl) ∙ (and_parts (flags_of h).active (flags_of h).full ready).1) is
-

@@ -1,6 +1,6 @@
 -- Processors that stay as they are.
 use Rattle.std.proofs.Common.{◌≡◌, ◌≢◌, ℕ, Bool, true, false, Option, Some, None, refl, sym, ap, ◌∙◌}
-use Rattle.std.specs.Prelude.{◌==◌, ◌&&◌, IsNone, IsSome, is_none, is_some}
+use Rattle.std.specs.Prelude.{◌==◌, IsNone, IsSome, is_some, not}
 use Rattle.std.specs.Str.{bytes_eq}
 use Rattle.std.proofs.lemmas.Bool.{and_parts, and_from, eq-eqb, eqb-true}
 use Rattle.std.proofs.lemmas.Slice.Eq.{bytes_eq-Decides}
@@ -78,7 +78,8 @@ not_true true apart = absurd (apart refl)
 not_true false apart = refl
 
 -- a comparison of all of two processors is the test
-pub tested : {X : Type 0} (difference : Option X) (pp after : Processor) → need pp ≡ Need.Local
-    → (IsNone difference → after ≡ pp) → (IsSome difference → after ≢ pp) → is_none difference ≡ stays_running pp after
-tested None pp after e same differ = sym (ap (λ x. stays_running pp x) (same refl) ∙ stays_itself pp e)
-tested (Some x) pp after e same differ = sym (not_true (stays_running pp after) (λ is. differ refl (turned pp after e is)))
+pub tested : {X : Type 0} (difference : Option X) (none : Bool) (pp after : Processor) → is_some difference ≡ not none → need pp ≡ Need.Local
+    → (IsNone difference → after ≡ pp) → (IsSome difference → after ≢ pp) → none ≡ stays_running pp after
+tested None true pp after is e same differ = sym (ap (λ x. stays_running pp x) (same refl) ∙ stays_itself pp e)
+tested (Some x) false pp after is e same differ = sym (not_true (stays_running pp after) (λ is. differ refl (turned pp after e is)))
+tested difference none pp after is e same differ = absurd cc

@@ -1,6 +1,6 @@
 -- THE FINDINGS of a run: the steps that race with others, the processors that are not settled at
 -- its end, and the central words that one processor wrote and another used.
-use Rattle.std.specs.Prelude.{ℕ, zero, suc, Bool, true, false, not, ◌&&◌, ◌==◌, nat_lt, List, [], ◌∷◌, ◌++◌, Option, Some, None, count_by, length, if◌then◌else◌}
+use Rattle.std.specs.Prelude.{ℕ, Bool, true, false, not, ◌&&◌, ◌==◌, nat_lt, List, [], ◌∷◌, ◌++◌, Option, Some, None, count_by, length, if◌then◌else◌}
 use Rattle.std.specs.Str.{bytes_eq}
 use Rattle.pp_channel.specs.Answer.{flags_of}
 use Rattle.pp_machine.specs.MachineState.{MachineState, processor_of, history_of}

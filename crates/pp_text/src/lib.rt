@@ -22,7 +22,9 @@ pub use digits::{decimal6, octal2, octal4, octal6};
 pub use held_text::{print_flags_text, print_held_text};
 pub use instruction::{print_running, running_field};
 pub use laws::{instruction_law, text_law};
-pub use lines::{Lines, WORDS_ON_A_LINE, print_each, print_each_below, print_each_channel, print_each_named};
+pub use lines::{
+    Lines, WORDS_ON_A_LINE, print_each, print_each_below, print_each_channel, print_each_named,
+};
 pub use machine_text::{print_channels, write_text};
 pub use numbers::{
     print_decimal, print_octal, print_short_decimal, print_short_octal, print_upper_digits,

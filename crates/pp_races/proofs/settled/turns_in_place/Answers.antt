@@ -1,4 +1,5 @@
 use Rattle.std.proofs.Common.{◌≡◌, sym, ap, ◌∙◌}
+use Rattle.std.specs.Prelude.{not}
 use Rattle.pp_processor.specs.NeedAndEffect.{processor_after}
 use Rattle.pp_processor.specs.declared.answer.Answer.{Answer}
 use Rattle.pp_races.specs.Findings.{stays_running}
@@ -11,9 +12,8 @@ after_is c = c.give.ensures.after ∙ ap (λ p. processor_after p Answer.Local) 
 
 pub returns-clause-turns : goal.returns-clause-turns
 returns-clause-turns c =
-    c.is_none.ensures
-    ∙ tested c.first_difference.result c.args.pp.now c.give.new.self c.requires c.first_difference.ensures.same c.first_difference.ensures.differ
+    tested c.first_difference.result c.is_none.result c.args.pp.now c.give.new.self c.is_none.ensures c.requires c.first_difference.ensures.same c.first_difference.ensures.differ
     ∙ ap (λ x. stays_running c.args.pp.now x) (after_is c)
 
 pub returns-clause-stays : goal.returns-clause-stays
-returns-clause-stays c = λ is. sym (after_is c) ∙ c.first_difference.ensures.same (sym c.is_none.ensures ∙ is)
+returns-clause-stays c = λ is. sym (after_is c) ∙ c.first_difference.ensures.same (c.is_none.ensures ∙ ap not is)
