@@ -1,5 +1,3 @@
-//! The text of all endings.
-
 ghost use Rattle.std.specs.Prelude.{◌≡◌, ◌++◌, length, map, not, IfOk, Ok, OnOk};
 ghost use Rattle.std.specs.Io.KnownBytes.{Appends};
 ghost use Rattle.pp_numbers.specs.PpNo.{is_named};

@@ -1,5 +1,3 @@
-//! One thread's access to all channels.
-
 mod closing;
 
 ghost use Rattle.std.specs.Prelude.{◌≡◌, ◌<◌, ◌≤◌, ◌+◌, ◌-◌, ◌^◌, ◌↔◌, ℕ, List, [], ◌∷◌, ◌++◌, Contains, true, IfOk, OnOk, OnErr, IfErr, IfSome, IfNone, IsTrue, MatchBool, length, slice_index};

@@ -1,5 +1,3 @@
-//! Lists of steps.
-
 ghost use Rattle.std.specs.Prelude.{◌≡◌, ℕ, List, length, IfErr};
 ghost use Rattle.pp_numbers.specs.ChannelNo.{channel_count};
 ghost use Rattle.pp_machine.specs.Headline.{HoldsOnEachChannel};

@@ -1,5 +1,3 @@
-//! One step of a machine.
-
 ghost use Rattle.std.specs.Prelude.{◌≡◌, if◌then◌else◌, IfOk, IsOk, IsNone, OnOk, OnErr};
 ghost use Rattle.pp_processor.specs.NextStep.{IsAtInstruction, IsNext};
 ghost use Rattle.pp_processor.specs.NeedAndEffect.{need};

@@ -1,5 +1,3 @@
-//! The whole printed text of a report.
-
 ghost use Rattle.std.specs.Prelude.{◌≡◌, ◌≢◌, ◌≤◌, ℕ, All, List, Err, length, slice_get, IfSome, IsTrue, option_map};
 ghost use Rattle.std.specs.List.{enumerate_from, flat_map};
 ghost use Rattle.pp_numbers.specs.ChannelNo.{all_channels, channel_count, names_channel};

@@ -1,5 +1,3 @@
-//! An observed run.
-
 ghost use Rattle.std.specs.Prelude.{[], IfErr, OnOk, take};
 ghost use Rattle.pp_machine.specs.Run.{IsRunOf};
 ghost use Rattle.pp_run.specs.RunSteps.{IsCutAt, RunStep, run_steps};

@@ -1,5 +1,3 @@
-//! The order of a run.
-
 ghost use Rattle.std.specs.Prelude.{◌≡◌, ◌<◌, ◌^◌, length, IfOk};
 ghost use Rattle.pp_machine.specs.Run.{run_order};
 ghost use Rattle.pp_numbers.specs.PpNo.{processor_count, processor_index};

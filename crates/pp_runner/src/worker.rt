@@ -1,5 +1,3 @@
-//! What a worker leaves.
-
 ghost use Rattle.std.specs.Prelude.{◌≡◌, IfOk, map};
 ghost use Rattle.pp_runner.specs.Crew.{worker_of};
 

@@ -1,4 +1,3 @@
-//! The text of the sessions of a run.
 ghost use Rattle.pp_text.specs.TextWriter.{Prints};
 ghost use Rattle.pp_text.specs.Written.{IsWritten};
 ghost use Rattle.pp_sessions.specs.SessionsText.{channel_lines, sessions_text};
