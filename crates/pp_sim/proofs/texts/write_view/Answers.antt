@@ -4,7 +4,6 @@ use Rattle.pp_draw.specs.DrawingText.{drawing, drawing_of_run}
 use Rattle.pp_draw.specs.declared.seen_step.SeenStep.{SeenStep}
 use Rattle.pp_machine.specs.Run.{run, run_order}
 use Rattle.pp_numbers.specs.declared.window.Window.{Window}
-use Rattle.std.specs.Prelude.{min}
 use Rattle.pp_run.specs.RunSteps.{run_steps}
 use Rattle.pp_run.specs.StepCounts.{each_step_counts}
 use Rattle.pp_draw.specs.SeenStep.{earlier_steps, seen_in_window}
@@ -48,7 +47,7 @@ returns-in_ok-run_in_order-in-Memory g c = λ profile bytes meant same.
 
 pub returns-in_ok-run_in_order-in-Central : goal.returns-in_ok-run_in_order-in-Central
 returns-in_ok-run_in_order-in-Central g c = λ profile bytes meant same.
-    let bounds = c.in-Central.field-0 in
+    let bounds = c.in-Central.bounds in
     let ran = c.in_ok-run_in_order-in-Central.ensures.run.ran in
     let told = ap (central_text bounds) c.central.ensures ∙ ap (λ (m : MachineState). central_text bounds m.central) ran in
     rw (c.in-Central.is, c.answer_to-in-Central.ensures) (answers_after profile c.args.first.now c.args.turns (central_after bounds) bytes _ _ _ c.write_central.result _ _
@@ -73,7 +72,7 @@ returns-in_ok-counts-in-Sessions g c = λ profile bytes meant same.
 
 pub returns-in_ok-steps-in-Draw : goal.returns-in_ok-steps-in-Draw
 returns-in_ok-steps-in-Draw g c = λ profile bytes meant same.
-    let window : Window = record { from = min c.in-Draw.from c.args.turns; to = c.args.turns } in
+    let window : Window = record { from = c.min-from.result; to = c.args.turns } in
     let before = c.args.loaded.now.machine in
     let shown = in_use (record { machine = before; named = c.args.loaded.now.named }) in
     let after = c.run_seeing_steps.new.machine in
@@ -85,5 +84,5 @@ returns-in_ok-steps-in-Draw g c = λ profile bytes meant same.
     ∙ ap (λ (m : MachineState). drawing window shown m ok.steps.earlier ok.steps.shown.items) ran
     ∙ ap (λ (earlier : List (Option SeenStep)). drawing window shown (run (run_order c.args.first.now before.profile c.args.turns) before) earlier ok.steps.shown.items) (ok.ensures.earlier ∙ ap (λ ns. earlier_steps window ns before) order)
     ∙ ap (λ (steps : List SeenStep). drawing window shown (run (run_order c.args.first.now before.profile c.args.turns) before) (earlier_steps window (run_order c.args.first.now before.profile c.args.turns) before) steps) (ok.ensures.seen ∙ ap (λ ns. seen_in_window window ns before) order) in
-    rw (c.in-Draw.is, c.answer_to-in-Draw.ensures) (answers_after profile c.args.first.now c.args.turns (drawing_of_run window) bytes _ _ after c.write_drawing.result _ _
+    rw (c.in-Draw.is, ← c.min-from.ensures, c.answer_to-in-Draw.ensures) (answers_after profile c.args.first.now c.args.turns (drawing_of_run window) bytes _ _ after c.write_drawing.result _ _
     meant ran c.run_seeing_steps.ensures.run.headline told c.write_drawing.ensures)
