@@ -4,10 +4,10 @@ use Rattle.std.specs.Prelude.{◌-◌, slice_get}
 use Rattle.std.proofs.lemmas.List.{take_rest}
 use Rattle.std.specs.Option.{option_map_or}
 use Rattle.clap.specs.Words.{Rule, Text}
-use Rattle.pp_command.specs.CallWords.{Given, IsRefusal, IsReportedAs, Reading, command_named, given_by, given_from, reading_of_call, reading_of_words, reading_without_command, whole, with_given, with_word}
+use Rattle.pp_command.specs.CallWords.{Given, IsRefusal, IsReportedAs, Reading, given_by, given_from, reading_of_call, reading_of_words, reading_without_command, whole, with_given, with_word}
 use Rattle.pp_command.specs.CallWords.Reading.{given, help, refused}
 use Rattle.std.specs.Borrow.{Bor}
-use Rattle.pp_command.specs.CommandLine.{command_of_form, rule_of_form}
+use Rattle.pp_command.specs.CommandLine.{command_named, command_of_form, rule_of_form}
 use Rattle.pp_command.specs.declared.{call_fault.CallFault.CallFault, command.CommandHelp.CommandHelp, command.OptionForm.OptionForm, command.ValueForm.ValueForm}
 
 -- the name of an option is that of its form
@@ -27,7 +27,7 @@ pub same_name : (pair : Bor Text × Bor Text) → (pair_of pair).0 ≡ pair.0.no
 same_name pair = refl
 
 -- the name of a command is that of its form
-pub name_of_help : (found : CommandHelp) → (command_of_form found.form.now).0 ≡ found.form.now.name.now
+pub name_of_help : (found : CommandHelp) → (command_of_form found.form.now).name ≡ found.form.now.name.now
 name_of_help found = refl
 
 -- what comes to a request or to nothing since something else does is refused for the same reason
@@ -79,7 +79,7 @@ refused_word options words i d so_far lt comes so = ended_by options words i d s
 pub called : (words : List (Bor Text)) (name : Bor Text) (got : Option CommandHelp) (found : CommandHelp) (reading : Reading (List (Text × Text))) → slice_get words 0 ≡ Some name
     → option_map (λ found. command_of_form found.form.now) got ≡ command_named name.now → got ≡ Some found
     → reading_of_words (map rule_of_form found.form.now.options.now) (map (λ word. word.now) (take (length words - 1) (drop 1 words))) ≡ reading
-    → reading_of_call (map (λ word. word.now) words) ≡ with_given (λ values. given (name.now, values)) reading
+    → reading_of_call (map (λ word. word.now) words) ≡ with_given (λ values. given (found.form.now.kind, values)) reading
 called [] name got found reading at by is read = absurd cc
 called (word ∷ words) name got found reading at by is read =
     let named : command_named name.now ≡ Some (command_of_form found.form.now) = sym by ∙ ap (option_map (λ found. command_of_form found.form.now)) is in

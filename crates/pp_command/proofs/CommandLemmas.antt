@@ -8,8 +8,9 @@ use Rattle.clap.specs.declared.{error.Error.Error, parser.matches.Found.Found, p
 use Rattle.clap.specs.declared.error.kind.ErrorKind.TheVariants.{OutOfMemory}
 use Rattle.pp_numbers.specs.declared.{window.Window.Window, profile.Profile.Profile}
 use Rattle.pp_numbers.specs.Profile.{processors_in}
-use Rattle.pp_command.specs.CommandLine.{Finds, IsFaultBy, IsRefused, IsWorkOf, ReadsAlike, AsksForMore, AsksForText, ReadsChannels, ReadsChosen, ReadsEnd, ReadsNumber, ReadsProfile, ReadsTurn, ReadsTurns, ReadsWindow, ppsim, refusals}
-use Rattle.pp_command.specs.declared.{line_fault.LineFault.LineFault, work.Work.Work, text_of.TextOf.TextOf}
+use Rattle.pp_command.specs.CommandLine.{Finds, IsFaultBy, IsRefused, IsWorkOf, ReadsAlike, AsksForMore, AsksForText, AsksForView, ReadsRun, ReadsChannels, ReadsChosen, ReadsEnd, ReadsNumber, ReadsProfile, ReadsTurn, ReadsTurns, ReadsWindow, ppsim, refusals}
+use Rattle.pp_command.specs.declared.{line_fault.LineFault.LineFault, work.Work.Work, text_of.TextOf.TextOf, view.View.View, command_kind.CommandKind.CommandKind}
+use Rattle.pp_command.specs.declared.command_kind.CommandKind.TheVariants as Kind
 use Rattle.pp_command.specs.declared.line_fault.LineFault.TheVariants.{Forms, Memory, Refused, Number, Picture}
 
 -- a parse that succeeds has no refusal
@@ -80,23 +81,34 @@ no_end value_of turns reads none w k =
     none w.to (end_turn (value_of (codes "to")) turns k.0 w.to (one_number (value_of (codes "turns")) turns k.0 reads.0 k.1.0) reads.1 k.2)
 
 -- where the options say a window and more turns than a picture has, the window does not fit one
-pub no_fit : (fits : Bool) (name : Text) (value_of : Text → Option Text) (w : Window) → ReadsWindow value_of w → (IsTrue fits → w.to - w.from ≤ 2000) → AsksForMore name value_of → IsTrue (not fits)
-no_fit true name value_of w reads short k = absurd (omega (arith, short refl, k.1.2, one_length value_of w k.1.0 reads k.1.1))
-no_fit false name value_of w reads short k = refl
+pub no_fit : (fits : Bool) (kind : CommandKind) (value_of : Text → Option Text) (w : Window) → ReadsWindow value_of w → (IsTrue fits → w.to - w.from ≤ 2000) → AsksForMore kind value_of → IsTrue (not fits)
+no_fit true kind value_of w reads short k = absurd (omega (arith, short refl, k.1.2, one_length value_of w k.1.0 reads k.1.1))
+no_fit false kind value_of w reads short k = refl
 
 -- a drawing of more turns than a picture has is no text
-pub no_picture : (name : Text) (value_of : Text → Option Text) (profile : Profile) (w : Window) → name ≡ codes "draw" → ReadsWindow value_of w → 2000 < w.to - w.from → (text : TextOf) → AsksForText name value_of profile text → ⊥
-no_picture name value_of profile w draw reads long text k = grind (arith, draw, reads, long, k, one_length)
+no_drawing : (value_of : Text → Option Text) (profile : Profile) (w : Window) → ReadsWindow value_of w → 2000 < w.to - w.from
+    → (turns : ℕ) (view : View) → ReadsRun value_of turns view → AsksForView Kind.Draw value_of profile turns view → ⊥
+no_drawing value_of profile w reads long turns (View.Draw from) run asks = omega (arith, long, asks.1, one_length value_of (record { from = from; to = turns }) w run reads)
+no_drawing value_of profile w reads long turns View.Barrel run asks = cc
+no_drawing value_of profile w reads long turns View.Dump run asks = cc
+no_drawing value_of profile w reads long turns View.State run asks = cc
+no_drawing value_of profile w reads long turns View.Ends run asks = cc
+no_drawing value_of profile w reads long turns View.Races run asks = cc
+no_drawing value_of profile w reads long turns (View.Sessions words) run (is, _) = cc
+no_drawing value_of profile w reads long turns (View.Memory n bounds) run (is, _, _) = cc
+no_drawing value_of profile w reads long turns (View.Central bounds) run (is, _) = cc
+no_drawing value_of profile w reads long turns (View.Steps chosen) run (is, _) = cc
+
+no_picture : (value_of : Text → Option Text) (profile : Profile) (w : Window) → ReadsWindow value_of w → 2000 < w.to - w.from → (text : TextOf) → AsksForText Kind.Draw value_of profile text → ⊥
+no_picture value_of profile w reads long TextOf.List k = cc
+no_picture value_of profile w reads long (TextOf.Orders states) (is, _) = cc
+no_picture value_of profile w reads long (TextOf.Run turns view) k = no_drawing value_of profile w reads long turns view k.0 k.1
 
 -- one that fits is one
-pub picture : (fits : Bool) (name : Text) (value_of : Text → Option Text) (profile : Profile) (w : Window) → name ≡ codes "draw" → ReadsWindow value_of w → IsTrue fits ↔ (w.to - w.from ≤ 2000) → Finds (AsksForText name value_of profile) (then_some fits (TextOf.Draw w))
-picture true name value_of profile w draw reads is = (draw, reads, is.0 refl)
-picture false name value_of profile w draw reads is = grind (arith, no_picture)
-
--- without a number of turns there is no text but a listing and all endings
-pub no_turns : (name : Text) (value_of : Text → Option Text) (profile : Profile) → name ≢ codes "list" → name ≢ codes "orders" → ((turns : ℕ) → ReadsTurns value_of turns → ⊥) → (text : TextOf) → AsksForText name value_of profile text → ⊥
-unfolding ReadsWindow
-no_turns name value_of profile other orders none text k = grind (arith, other, orders, none, k)
+pub picture : (fits : Bool) (value_of : Text → Option Text) (profile : Profile) (w : Window) → ReadsWindow value_of w → IsTrue fits ↔ (w.to - w.from ≤ 2000)
+    → Finds (AsksForText Kind.Draw value_of profile) (then_some fits (TextOf.Run w.to (View.Draw w.from)))
+picture true value_of profile w reads is = (reads, (refl, is.0 refl))
+picture false value_of profile w reads is = grind (arith, no_picture)
 
 -- where the text of an option is there, and is no number, it says no profile
 pub no_profile : {B : Type 0} (of : B → Text) (o : Option B) (text : Option Text) → is_some o ≡ true → option_map of o ≡ text → ((n : ℕ) → ReadsNumber text n → ⊥) → (profile : Profile) → ReadsProfile text profile → ⊥
@@ -109,5 +121,5 @@ no_opened : (value : Option Text) → ((flags : Option (List Bool)) → ReadsCho
 no_opened None none flags k = none None refl
 no_opened (Some text) none flags k = none (Some flags) k
 
-pub no_check : (value_of : Text → Option Text) → ((flags : Option (List Bool)) → ReadsChosen (value_of (codes "opened")) flags → ⊥) → (work : Work) → IsWorkOf (codes "check") value_of work → ⊥
+pub no_check : (value_of : Text → Option Text) → ((flags : Option (List Bool)) → ReadsChosen (value_of (codes "opened")) flags → ⊥) → (work : Work) → IsWorkOf Kind.Check value_of work → ⊥
 no_check value_of none work k = grind (arith, none, k, no_opened)

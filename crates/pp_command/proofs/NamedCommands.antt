@@ -12,8 +12,7 @@ use Rattle.clap.specs.Kinds.{or_else}
 use Rattle.clap.specs.Walk.{Names, Walk, after_step, answers_to, finished, idle, nothing_held, settled, subcommand_met, subcommand_or_other, walk, walk_from, walked, walked_from, word_met}
 use Rattle.clap.proofs.OnLiterals.{clap_on_literals}
 use Rattle.clap.proofs.WalkLemmas.{both}
-use Rattle.pp_command.specs.CallWords.{command_named}
-use Rattle.pp_command.specs.CommandLine.{Command, ReadsAlike, app_of_command, bare, commands, file_argument, ppsim, with_commands}
+use Rattle.pp_command.specs.CommandLine.{Command, ReadsAlike, app_of_command, bare, command_named, commands, file_argument, ppsim, with_commands}
 
 -- ---- what a command's shape is
 
@@ -24,8 +23,8 @@ rules_added : (name : Text) (before rules : List Rule) → fold with_rule (with_
 rules_added name before [] = ap (with_rules name) (sym (append-nil before))
 rules_added name before (r ∷ rules) = rules_added name (before ++ r ∷ []) rules ∙ ap (with_rules name) (append_assoc before (r ∷ []) rules)
 
-shape_is : (command : Command) → (app_of_command command).top ≡ record (new_shape command.0) { rules = command.1 ++ file_argument ∷ [] }
-shape_is command = ap (λ (app : App). (with_rule app file_argument).top) (rules_added command.0 [] command.1)
+shape_is : (command : Command) → (app_of_command command).top ≡ record (new_shape command.name) { rules = command.options ++ file_argument ∷ [] }
+shape_is command = ap (λ (app : App). (with_rule app file_argument).top) (rules_added command.name [] command.options)
 
 -- ---- what building makes of the program with some commands
 
@@ -48,10 +47,10 @@ abbrev plain_names : List Text → Names
 plain_names = map (λ name. (name, []))
 
 abbrev names_in : List Command → Names
-names_in cs = plain_names (map (λ c. c.0) cs ++ codes "help" ∷ [])
+names_in cs = plain_names (map (λ c. c.name) cs ++ codes "help" ∷ [])
 
 -- each has its name, and no other
-label_is : (command : Command) → label_of (built_command command) ≡ (command.0, [])
+label_is : (command : Command) → label_of (built_command command) ≡ (command.name, [])
 label_is command = ap (λ (s : Shape). label_of (built_leaf (inherited above s))) (shape_is command)
 
 names_are : (cs : List Command) → map label_of (subs_of cs) ≡ names_in cs
@@ -61,24 +60,24 @@ names_are (c ∷ cs) = ap₂ (λ (l : Text × List Text) (ls : Names). l ∷ ls)
 -- ---- a command that is found by its name among these is met, and entered
 
 abbrev IsNamedIn : Text → List Command → Command → Type 0
-IsNamedIn name cs c = find (λ command. bytes_eq command.0 name) cs ≡ Some c
+IsNamedIn name cs c = find (λ command. bytes_eq command.name name) cs ≡ Some c
 
-name_is : (name : Text) (cs : List Command) (c : Command) → IsNamedIn name cs c → c.0 ≡ name
+name_is : (name : Text) (cs : List Command) (c : Command) → IsNamedIn name cs c → c.name ≡ name
 name_is name [] c is = absurd cc
-name_is name (d ∷ cs) c is = by (bytes_eq d.0 name) refl (name_is name cs c)
+name_is name (d ∷ cs) c is = by (bytes_eq d.name name) refl (name_is name cs c)
   where
-    by : (b : Bool) → bytes_eq d.0 name ≡ b → (IsNamedIn name cs c → c.0 ≡ name) → c.0 ≡ name
+    by : (b : Bool) → bytes_eq d.name name ≡ b → (IsNamedIn name cs c → c.name ≡ name) → c.name ≡ name
     by true at rest =
         let first : Some d ≡ Some c = sym (rw at refl) ∙ is in
         let same : d ≡ c = cc in
-        rw (← same) ((bytes_eq-Decides d.0 name).0 at)
+        rw (← same) ((bytes_eq-Decides d.name name).0 at)
     by false at rest = rest (sym (rw at refl) ∙ is)
 
-met_by : (name : Text) (cs : List Command) (c : Command) → IsNamedIn name cs c → subcommand_met (names_in cs) idle name ≡ Some c.0
+met_by : (name : Text) (cs : List Command) (c : Command) → IsNamedIn name cs c → subcommand_met (names_in cs) idle name ≡ Some c.name
 met_by name [] c is = absurd cc
-met_by name (d ∷ cs) c is = by (bytes_eq d.0 name) refl (met_by name cs c)
+met_by name (d ∷ cs) c is = by (bytes_eq d.name name) refl (met_by name cs c)
   where
-    by : (b : Bool) → bytes_eq d.0 name ≡ b → (IsNamedIn name cs c → subcommand_met (names_in cs) idle name ≡ Some c.0) → subcommand_met (names_in (d ∷ cs)) idle name ≡ Some c.0
+    by : (b : Bool) → bytes_eq d.name name ≡ b → (IsNamedIn name cs c → subcommand_met (names_in cs) idle name ≡ Some c.name) → subcommand_met (names_in (d ∷ cs)) idle name ≡ Some c.name
     by true at rest =
         let first : Some d ≡ Some c = sym (rw at refl) ∙ is in
         let same : d ≡ c = cc in
@@ -90,13 +89,13 @@ looked_up name shapes = find (λ s. answers_to name (label_of s)) shapes
 
 found_by : (name : Text) (cs : List Command) (c : Command) → IsNamedIn name cs c → looked_up name (subs_of cs) ≡ Some (built_command c)
 found_by name [] c is = absurd cc
-found_by name (d ∷ cs) c is = by (bytes_eq d.0 name) refl (found_by name cs c)
+found_by name (d ∷ cs) c is = by (bytes_eq d.name name) refl (found_by name cs c)
   where
-    answers : (b : Bool) → bytes_eq d.0 name ≡ b → answers_to name (label_of (built_command d)) ≡ b
+    answers : (b : Bool) → bytes_eq d.name name ≡ b → answers_to name (label_of (built_command d)) ≡ b
     answers true at = ap (answers_to name) (label_is d) ∙ rw at refl
     answers false at = ap (answers_to name) (label_is d) ∙ rw at refl
 
-    by : (b : Bool) → bytes_eq d.0 name ≡ b → (IsNamedIn name cs c → looked_up name (subs_of cs) ≡ Some (built_command c)) → looked_up name (subs_of (d ∷ cs)) ≡ Some (built_command c)
+    by : (b : Bool) → bytes_eq d.name name ≡ b → (IsNamedIn name cs c → looked_up name (subs_of cs) ≡ Some (built_command c)) → looked_up name (subs_of (d ∷ cs)) ≡ Some (built_command c)
     by true at rest =
         let first : Some d ≡ Some c = sym (rw at refl) ∙ is in
         let same : d ≡ c = cc in
@@ -152,9 +151,9 @@ fault_is s names name words met is =
 -- what passes a test that all pass
 passes : (test : Command → Bool) (name : Text) (cs : List Command) (c : Command) → list_all test cs ≡ true → IsNamedIn name cs c → test c ≡ true
 passes test name [] c all is = absurd cc
-passes test name (d ∷ cs) c all is = by (bytes_eq d.0 name) refl (passes test name cs c (both _ _ all).1)
+passes test name (d ∷ cs) c all is = by (bytes_eq d.name name) refl (passes test name cs c (both _ _ all).1)
   where
-    by : (b : Bool) → bytes_eq d.0 name ≡ b → (IsNamedIn name cs c → test c ≡ true) → test c ≡ true
+    by : (b : Bool) → bytes_eq d.name name ≡ b → (IsNamedIn name cs c → test c ≡ true) → test c ≡ true
     by true at rest =
         let first : Some d ≡ Some c = sym (rw at refl) ∙ is in
         let same : d ≡ c = cc in
@@ -180,13 +179,13 @@ module _ (program name : Text) (rest : List Text) (cs : List Command) (c : Comma
   named : names_in cs ≡ map label_of (subs_of cs)
   named = sym (names_are cs)
 
-  met : subcommand_met (map label_of (subs_of cs)) idle name ≡ Some c.0
+  met : subcommand_met (map label_of (subs_of cs)) idle name ≡ Some c.name
   met = ap (λ names. subcommand_met names idle name) (names_are cs) ∙ met_by name cs c is
 
-  walk_to : walk top.rules (map label_of (subs_of cs)) nothing_held (name ∷ rest) ≡ record (walk_from nothing_held) { stopped = Some (c.0, rest) }
-  walk_to = walk_is top.rules (map label_of (subs_of cs)) name rest c.0 met
+  walk_to : walk top.rules (map label_of (subs_of cs)) nothing_held (name ∷ rest) ≡ record (walk_from nothing_held) { stopped = Some (c.name, rest) }
+  walk_to = walk_is top.rules (map label_of (subs_of cs)) name rest c.name met
 
-  found : looked_up c.0 (subs_of cs) ≡ Some (built_command c)
+  found : looked_up c.name (subs_of cs) ≡ Some (built_command c)
   found = ap (λ k. looked_up k (subs_of cs)) (name_is name cs c is) ∙ found_by name cs c is
 
   rows_are : entered (built_with cs) (walk top.rules (map label_of (subs_of cs)) nothing_held (name ∷ rest)).stopped ≡ Some (rows_at (built_command c) rest)
@@ -202,7 +201,7 @@ module _ (program name : Text) (rest : List Text) (cs : List Command) (c : Comma
       (check_fault top (finished top.rules w.held) (is_some rows)))))
 
   abbrev kinds_are : Kinds
-  kinds_are = kinds_by (or_else (first_fault top name (Some c.0)) []) (record (walk_from nothing_held) { stopped = Some (c.0, rest) })
+  kinds_are = kinds_by (or_else (first_fault top name (Some c.name)) []) (record (walk_from nothing_held) { stopped = Some (c.name, rest) })
       (Some (rows_at (built_command c) rest)) (level_fault (built_command c) [] nothing_held rest false [])
 
   refused_as : built_fault (built_with cs) nothing_held (name ∷ rest) ≡ kinds_are
@@ -211,15 +210,15 @@ module _ (program name : Text) (rest : List Text) (cs : List Command) (c : Comma
       let end = walk top.rules names nothing_held (name ∷ rest) in
       let rows = entered (built_with cs) end.stopped in
       let below = entered_fault (built_with cs) end.stopped in
-      let begun = or_else (first_fault top name (Some c.0)) [] in
-      let there = record (walk_from nothing_held) { stopped = Some (c.0, rest) } in
-      ap (λ k. kinds_by k end rows below) (fault_is top names name rest c.0 met)
+      let begun = or_else (first_fault top name (Some c.name)) [] in
+      let there = record (walk_from nothing_held) { stopped = Some (c.name, rest) } in
+      ap (λ k. kinds_by k end rows below) (fault_is top names name rest c.name met)
       ∙ ap (λ w. kinds_by begun w rows below) walk_to
       ∙ ap₂ (λ o k. kinds_by begun there o k) rows_are below_is
 
 module _ (program name : Text) (rest : List Text) (c : Command) (is : IsNamedIn name commands c) where
   alone : IsNamedIn name (c ∷ []) c
-  alone = rw ((bytes_eq-Decides c.0 name).1 (name_is name commands c is)) refl
+  alone = rw ((bytes_eq-Decides c.name name).1 (name_is name commands c is)) refl
 
   subcommand_alike : subcommand_of (app_with (c ∷ [])) (program ∷ name ∷ rest) ≡ subcommand_of ppsim (program ∷ name ∷ rest)
   unfolding ppsim

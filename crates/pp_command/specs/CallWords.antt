@@ -7,8 +7,8 @@ use Rattle.std.specs.Option.{option_map}
 use Rattle.clap.specs.Lexer.{long_of, short_of}
 use Rattle.clap.specs.Words.{Rule, Text}
 use Rattle.clap.specs.declared.builder.action.ArgAction.{ArgAction}
-use Rattle.pp_command.specs.CommandLine.{AsksForMore, Command, IsAskedOf, MixesForms, ReadsFile, commands}
-use Rattle.pp_command.specs.declared.{call_fault.CallFault.CallFault, work.Work.Work}
+use Rattle.pp_command.specs.CommandLine.{AsksForMore, Command, IsAskedOf, MixesForms, ReadsFile, command_named}
+use Rattle.pp_command.specs.declared.{call_fault.CallFault.CallFault, command_kind.CommandKind.CommandKind, work.Work.Work}
 use Rattle.pp_condition.specs.declared.until.Until.{Until}
 
 -- what words come to: what they give, a request for help or the version, or nothing
@@ -121,10 +121,6 @@ whole options so_far = if is_whole options so_far then given so_far.values else 
 unfoldable pub reading_of_words : List Rule → List Text → Reading (List (Text × Text))
 reading_of_words options words = with_given (whole options) (given_by options words)
 
--- the command of this name
-unfoldable pub command_named : Text → Option Command
-command_named name = find (λ command. bytes_eq command.0 name) commands
-
 -- whether help has a page of this name
 abbrev pub is_topic : Text → Bool
 is_topic name = bytes_eq name (codes "help") || is_some (command_named name)
@@ -134,23 +130,24 @@ abbrev pub asks_for_version : Text → Bool
 asks_for_version word = bytes_eq word (codes "--version") || starts_with nat_eq word (codes "-V")
 
 -- what words come to that begin with no command: `help`, alone or before one topic, asks for help
-abbrev pub reading_of_topics : List Text → Reading (Text × List (Text × Text))
+abbrev pub reading_of_topics : List Text → Reading (CommandKind × List (Text × Text))
 reading_of_topics [] = help
 reading_of_topics (topic ∷ []) = if is_topic topic then help else refused
 reading_of_topics (topic ∷ other ∷ more) = refused
 
-abbrev pub reading_without_command : Text → List Text → Reading (Text × List (Text × Text))
+abbrev pub reading_without_command : Text → List Text → Reading (CommandKind × List (Text × Text))
 reading_without_command name topics =
     if bytes_eq name (codes "help") then reading_of_topics topics
     else (if asks_for_help name || asks_for_version name then help else refused)
 
-abbrev pub reading_by : Text → List Text → Option Command → Reading (Text × List (Text × Text))
+abbrev pub reading_by : Text → List Text → Option Command
+    → Reading (CommandKind × List (Text × Text))
 reading_by name words None = reading_without_command name words
 reading_by name words (Some command) =
-    with_given (λ values. given (name, values)) (reading_of_words command.1 words)
+    with_given (λ values. given (command.kind, values)) (reading_of_words command.options words)
 
--- what the words of a call come to: a command's name, and the values that the words after it give
-abbrev pub reading_of_call : List Text → Reading (Text × List (Text × Text))
+-- what the words of a call come to: a command, and the values that the words after its name give
+abbrev pub reading_of_call : List Text → Reading (CommandKind × List (Text × Text))
 reading_of_call [] = refused
 reading_of_call (name ∷ words) = reading_by name words (command_named name)
 
@@ -158,15 +155,15 @@ reading_of_call (name ∷ words) = reading_by name words (command_named name)
 -- over the input, or over a file
 pub record CallFor (words : List Text) (work : Work) (first : List ℕ) (until : Option Until)
     (file : Option Text) : Type 0 where
-  pub call : Text × List (Text × Text)
+  pub call : CommandKind × List (Text × Text)
   pub read : reading_of_call words ≡ given call
   pub asked : IsAskedOf call.0 (value_among call.1) work first until
   pub named : ReadsFile (value_among call.1 (codes "file")) file
 
 -- it asks for no work
-abbrev pub AsksForNone : Text → (Text → Option Text) → Type 0
-AsksForNone name value = (work : Work) (first : List ℕ) (until : Option Until)
-    → ¬ IsAskedOf name value work first until
+abbrev pub AsksForNone : CommandKind → (Text → Option Text) → Type 0
+AsksForNone kind value = (work : Work) (first : List ℕ) (until : Option Until)
+    → ¬ IsAskedOf kind value work first until
 
 -- WHY THEY ASK FOR NO WORK
 
@@ -182,14 +179,14 @@ IsRefusal reading CallFault.Forms = ⊥
 -- by these values a command asks for no work, for one of these reasons: `Memory` says nothing;
 -- `Picture` that it asks for more turns than a picture has; `Forms` that it mixes the forms of
 -- `test`; `Number` that it does neither
-abbrev pub IsAskRefused : Text → (Text → Option Text) → CallFault → Type 0
-IsAskRefused name value CallFault.Memory = Unit {0}
-IsAskRefused name value CallFault.Help = ⊥
-IsAskRefused name value CallFault.Refused = ⊥
-IsAskRefused name value CallFault.Number =
-    AsksForNone name value × (¬ AsksForMore name value) × (¬ MixesForms name value)
-IsAskRefused name value CallFault.Picture = AsksForNone name value × AsksForMore name value
-IsAskRefused name value CallFault.Forms = AsksForNone name value × MixesForms name value
+abbrev pub IsAskRefused : CommandKind → (Text → Option Text) → CallFault → Type 0
+IsAskRefused kind value CallFault.Memory = Unit {0}
+IsAskRefused kind value CallFault.Help = ⊥
+IsAskRefused kind value CallFault.Refused = ⊥
+IsAskRefused kind value CallFault.Number =
+    AsksForNone kind value × (¬ AsksForMore kind value) × (¬ MixesForms kind value)
+IsAskRefused kind value CallFault.Picture = AsksForNone kind value × AsksForMore kind value
+IsAskRefused kind value CallFault.Forms = AsksForNone kind value × MixesForms kind value
 
 -- what is given holds, if anything is
 abbrev pub IsGivenAnd : {X : Type 0} → Reading X → (X → Type 0) → Type 0

@@ -1,5 +1,5 @@
 -- What a command line asks for, by the words that stand in it.
-use Rattle.std.specs.Prelude.{◌≡◌, ◌≢◌, ℕ, ◌-◌, ◌<◌, ◌≤◌, Bool, true, false, IsSomeAnd, IsTrue, List, [], ◌∷◌, ◌++◌, fold, map, replicate, Option, Some, None, Ok, codes}
+use Rattle.std.specs.Prelude.{◌≡◌, ◌≢◌, ℕ, ◌-◌, ◌<◌, ◌≤◌, Bool, true, false, IsSomeAnd, IsTrue, List, [], ◌∷◌, ◌++◌, find, fold, map, replicate, Option, Some, None, Ok, bytes_eq, codes}
 use Rattle.std.specs.Str.Parse.{ParsesUnsigned}
 use Rattle.clap.specs.Words.{App, IsAmong, Kinds, Row, Rule, Text, fault_of, first_of, found_of, is_simple, is_simple_and_free, kind_of, new_app, new_rule, rows_of, subcommand_of, with_rule, with_subcommand}
 use Rattle.clap.specs.declared.builder.action.ArgAction.TheVariants.{Set, SetTrue}
@@ -14,7 +14,9 @@ use Rattle.pp_command.specs.ProcessorList.{AreProcessorsListed}
 use Rattle.pp_numbers.specs.declared.{window.Window.Window, bounds.Bounds.Bounds, profile.Profile.Profile}
 use Rattle.pp_numbers.specs.Profile.{has_processor, processors_in}
 use Rattle.pp_numbers.specs.Limits.{AreLimits}
-use Rattle.pp_command.specs.declared.{command.CommandForm.CommandForm, command.OptionForm.OptionForm, command.ValueForm.ValueForm, line_fault.LineFault.LineFault, text_of.TextOf.TextOf, work.Tested.Tested, work.Work.Work}
+use Rattle.pp_command.specs.declared.{command.CommandForm.CommandForm, command.OptionForm.OptionForm, command.ValueForm.ValueForm, line_fault.LineFault.LineFault, text_of.TextOf.TextOf, view.ChosenSteps.ChosenSteps, view.View.View, work.Tested.Tested, work.Work.Work}
+use Rattle.pp_command.specs.declared.command_kind.CommandKind.{CommandKind}
+use Rattle.pp_command.specs.declared.command_kind.CommandKind.TheVariants as Kind
 
 -- THE COMMAND LINE, as clap sees it: `ppsim`, one of the commands of `ppsim` below, its options, of
 -- which some may be left out, and a file, which may be left out; or `ppsim --version`
@@ -38,13 +40,19 @@ processors_option = optional_value (codes "processors")
 abbrev pub file_argument : Rule
 file_argument = record (new_rule (codes "file")) { action = Some Set; value_names = 1 }
 
--- a command: its name and its options
-abbrev pub Command : Type 0
-Command = Text × List Rule
+-- a command: what it is for, its name and its options
+pub record Command : Type 0 where
+  pub kind : CommandKind
+  pub name : Text
+  pub options : List Rule
+
+abbrev pub command : CommandKind → Text → List Rule → Command
+command kind name options = record { kind = kind; name = name; options = options }
 
 -- what clap sees of it: these options, and a file
 abbrev pub app_of_command : Command → App
-app_of_command command = with_rule (fold with_rule (new_app command.0) command.1) file_argument
+app_of_command command =
+    with_rule (fold with_rule (new_app command.name) command.options) file_argument
 
 -- the option that lists the processors of the first steps
 abbrev pub order_option : Rule
@@ -59,15 +67,14 @@ abbrev pub run_options : List Rule
 run_options = until_options ++ order_option ∷ processors_option ∷ []
 
 -- a command that makes a run of some steps in any order, with these options besides
-abbrev pub steps : Text → List Rule → Command
-steps name options = (
-  name,
-  number_option (codes "turns") ∷ options ++ run_options,
-)
+abbrev pub steps : CommandKind → Text → List Rule → Command
+steps kind name options =
+    command kind name (number_option (codes "turns") ∷ options ++ run_options)
 
 -- a command that makes a run of some turns of the barrel, with these options besides
-abbrev pub turns : Text → List Rule → Command
-turns name options = (name, number_option (codes "turns") ∷ options ++ processors_option ∷ [])
+abbrev pub turns : CommandKind → Text → List Rule → Command
+turns kind name options =
+    command kind name (number_option (codes "turns") ∷ options ++ processors_option ∷ [])
 
 -- the program without a command
 abbrev pub bare : App
@@ -81,29 +88,27 @@ with_commands app commands = fold (λ app command. with_subcommand app command.t
 
 -- the commands, in the order in which help lists them
 abbrev pub commands : List Command
-commands = steps (codes "barrel") []
-    ∷ (
-      codes "threads",
-      number_option (codes "steps") ∷ number_option (codes "patience") ∷ processors_option ∷ [],
-    )
-    ∷ (codes "list", processors_option ∷ []) ∷ (codes "lint", processors_option ∷ [])
-    ∷ steps (codes "dump") []
-    ∷ steps (codes "steps") (optional_value (codes "pp") ∷ optional_value (codes "ch")
+commands = steps Kind.Barrel (codes "barrel") []
+    ∷ command Kind.Threads (codes "threads") (number_option (codes "steps") ∷ number_option (codes "patience") ∷ processors_option ∷ [])
+    ∷ command Kind.List (codes "list") (processors_option ∷ []) ∷ command Kind.Lint (codes "lint") (processors_option ∷ [])
+    ∷ steps Kind.Dump (codes "dump") []
+    ∷ steps Kind.Steps (codes "steps") (optional_value (codes "pp") ∷ optional_value (codes "ch")
     ∷ optional_value (codes "from") ∷ optional_value (codes "to")
     ∷ optional_value (codes "where") ∷ [])
-    ∷ steps (codes "state") [] ∷ turns (codes "ends") []
-    ∷ steps (codes "memory") (number_option (codes "pp") ∷ optional_value (codes "first")
+    ∷ steps Kind.State (codes "state") [] ∷ turns Kind.Ends (codes "ends") []
+    ∷ steps Kind.Memory (codes "memory") (number_option (codes "pp") ∷ optional_value (codes "first")
     ∷ optional_value (codes "last") ∷ [])
-    ∷ steps (codes "central") (optional_value (codes "first") ∷ optional_value (codes "last") ∷ [])
-    ∷ steps (codes "sessions") (flag_option (codes "words") ∷ []) ∷ steps (codes "races") []
-    ∷ (codes "orders", number_option (codes "states") ∷ processors_option ∷ [])
-    ∷ (
-      codes "test",
-      optional_value (codes "turns") ∷ flag_option (codes "every-order")
-          ∷ optional_value (codes "states") ∷ run_options,
-    )
-    ∷ steps (codes "draw") (optional_value (codes "from") ∷ optional_value (codes "to") ∷ [])
-    ∷ (codes "check", optional_value (codes "opened") ∷ []) ∷ []
+    ∷ steps Kind.Central (codes "central") (optional_value (codes "first") ∷ optional_value (codes "last") ∷ [])
+    ∷ steps Kind.Sessions (codes "sessions") (flag_option (codes "words") ∷ []) ∷ steps Kind.Races (codes "races") []
+    ∷ command Kind.Orders (codes "orders") (number_option (codes "states") ∷ processors_option ∷ [])
+    ∷ command Kind.Test (codes "test") (optional_value (codes "turns") ∷ flag_option (codes "every-order")
+    ∷ optional_value (codes "states") ∷ run_options)
+    ∷ steps Kind.Draw (codes "draw") (optional_value (codes "from") ∷ optional_value (codes "to") ∷ [])
+    ∷ command Kind.Check (codes "check") (optional_value (codes "opened") ∷ []) ∷ []
+
+-- the command of this name
+unfoldable pub command_named : Text → Option Command
+command_named name = find (λ command. bytes_eq command.name name) commands
 
 unfoldable pub ppsim : App
 ppsim = with_commands bare (map app_of_command commands)
@@ -225,31 +230,44 @@ ReadsFile (Some text) (Some path) = (path ≡ text) × (text ≢ codes "-")
 
 -- WHAT IT ASKS FOR
 
--- this command, with these values of its options, asks for this text of a deck of this profile
-abbrev pub AsksForText : Text → (Text → Option Text) → Profile → TextOf → Type 0
-AsksForText name value _ (TextOf.Barrel turns) = (name ≡ codes "barrel") × ReadsTurns value turns
-AsksForText name value _ TextOf.List = name ≡ codes "list"
-AsksForText name value _ (TextOf.Dump turns) = (name ≡ codes "dump") × ReadsTurns value turns
-AsksForText name value _ (TextOf.State turns) = (name ≡ codes "state") × ReadsTurns value turns
-AsksForText name value _ (TextOf.Sessions turns words) = (name ≡ codes "sessions")
-    × ReadsTurns value turns × ReadsFlag (value (codes "words")) words
-AsksForText name value _ (TextOf.Races turns) = (name ≡ codes "races") × ReadsTurns value turns
-AsksForText name value _ (TextOf.Ends turns) = (name ≡ codes "ends") × ReadsTurns value turns
-AsksForText name value _ (TextOf.Orders states) =
-    (name ≡ codes "orders") × ReadsStates value states
-AsksForText name value profile (TextOf.Memory turns n bounds) = (name ≡ codes "memory")
-    × ReadsTurns value turns × ReadsProcessor profile (value (codes "pp")) n
-    × ReadsBounds 0o10000 value bounds
-AsksForText name value _ (TextOf.Central turns bounds) =
-    (name ≡ codes "central") × ReadsTurns value turns × ReadsBounds 0o400000 value bounds
-AsksForText name value profile (TextOf.Steps turns chosen) = (name ≡ codes "steps")
-    × ReadsTurns value turns × ReadsProcessors profile (value (codes "pp")) chosen.processors
-    × ReadsChosen (value (codes "ch")) chosen.channels
-    × ReadsTurn 0 (value (codes "from")) chosen.from
-    × ReadsTurn turns (value (codes "to")) chosen.to
-    × ReadsCondition profile (value (codes "where")) chosen.condition
-AsksForText name value _ (TextOf.Draw window) =
-    (name ≡ codes "draw") × ReadsWindow value window × (window.to - window.from ≤ 2000)
+-- the steps chosen of a run of this many turns, of a machine of this profile
+abbrev pub ReadsSteps : Profile → ℕ → (Text → Option Text) → ChosenSteps → Type 0
+ReadsSteps profile turns value_of chosen =
+    ReadsProcessors profile (value_of (codes "pp")) chosen.processors
+    × ReadsChosen (value_of (codes "ch")) chosen.channels
+    × ReadsTurn 0 (value_of (codes "from")) chosen.from
+    × ReadsTurn turns (value_of (codes "to")) chosen.to
+    × ReadsCondition profile (value_of (codes "where")) chosen.condition
+
+-- a command of this kind, with these values of its options, asks for this view of a run of this many
+-- turns of a deck of this profile
+abbrev pub AsksForView : CommandKind → (Text → Option Text) → Profile → ℕ → View → Type 0
+AsksForView kind _ _ _ View.Barrel = kind ≡ Kind.Barrel
+AsksForView kind _ _ _ View.Dump = kind ≡ Kind.Dump
+AsksForView kind _ _ _ View.State = kind ≡ Kind.State
+AsksForView kind _ _ _ View.Ends = kind ≡ Kind.Ends
+AsksForView kind _ _ _ View.Races = kind ≡ Kind.Races
+AsksForView kind value _ _ (View.Sessions words) =
+    (kind ≡ Kind.Sessions) × ReadsFlag (value (codes "words")) words
+AsksForView kind value profile _ (View.Memory n bounds) = (kind ≡ Kind.Memory)
+    × ReadsProcessor profile (value (codes "pp")) n × ReadsBounds 0o10000 value bounds
+AsksForView kind value _ _ (View.Central bounds) =
+    (kind ≡ Kind.Central) × ReadsBounds 0o400000 value bounds
+AsksForView kind value profile turns (View.Steps chosen) =
+    (kind ≡ Kind.Steps) × ReadsSteps profile turns value chosen
+AsksForView kind _ _ turns (View.Draw from) = (kind ≡ Kind.Draw) × (turns - from ≤ 2000)
+
+-- the turns of its run: as many as are said; for a drawing those up to the end of its window
+abbrev pub ReadsRun : (Text → Option Text) → ℕ → View → Type 0
+ReadsRun value turns (View.Draw from) = ReadsWindow value (record { from = from; to = turns })
+ReadsRun value turns view = ReadsTurns value turns
+
+-- it asks for this text of a deck
+abbrev pub AsksForText : CommandKind → (Text → Option Text) → Profile → TextOf → Type 0
+AsksForText kind _ _ TextOf.List = kind ≡ Kind.List
+AsksForText kind value _ (TextOf.Orders states) = (kind ≡ Kind.Orders) × ReadsStates value states
+AsksForText kind value profile (TextOf.Run turns view) =
+    ReadsRun value turns view × AsksForView kind value profile turns view
 
 -- the two forms of `test`: of a run of some turns; or of every order of steps, as far as some
 -- standings show, without the options of a run
@@ -273,48 +291,50 @@ IsTestedBy value_of (Tested.EveryOrder states) =
     IsOfEveryOrder value_of × ReadsStates value_of states
 
 -- it asks for this work
-abbrev pub IsWorkOf : Text → (Text → Option Text) → Work → Type 0
-IsWorkOf name value_of (Work.Deck profile text) =
-    ReadsProfile (value_of (codes "processors")) profile × AsksForText name value_of profile text
-IsWorkOf name value_of (Work.Lint profile) =
-    (name ≡ codes "lint") × ReadsProfile (value_of (codes "processors")) profile
-IsWorkOf name value_of (Work.Test profile tested) = (name ≡ codes "test")
+abbrev pub IsWorkOf : CommandKind → (Text → Option Text) → Work → Type 0
+IsWorkOf kind value_of (Work.Deck profile text) =
+    ReadsProfile (value_of (codes "processors")) profile × AsksForText kind value_of profile text
+IsWorkOf kind value_of (Work.Lint profile) =
+    (kind ≡ Kind.Lint) × ReadsProfile (value_of (codes "processors")) profile
+IsWorkOf kind value_of (Work.Test profile tested) = (kind ≡ Kind.Test)
     × ReadsProfile (value_of (codes "processors")) profile × IsTestedBy value_of tested
-IsWorkOf name value_of (Work.Threads profile limits) =
-    (name ≡ codes "threads") × ReadsProfile (value_of (codes "processors")) profile
+IsWorkOf kind value_of (Work.Threads profile limits) =
+    (kind ≡ Kind.Threads) × ReadsProfile (value_of (codes "processors")) profile
     × ReadsNumber (value_of (codes "steps")) limits.steps
     × ReadsNumber (value_of (codes "patience")) limits.patience × AreLimits limits
-IsWorkOf name value_of (Work.Check opened) =
-    (name ≡ codes "check") × ReadsChannels (value_of (codes "opened")) opened
+IsWorkOf kind value_of (Work.Check opened) =
+    (kind ≡ Kind.Check) × ReadsChannels (value_of (codes "opened")) opened
 
 -- it asks for this work, in whose run these processors come first, and which goes on until then
-pub record IsAskedOf (name : Text) (value_of : Text → Option Text) (work : Work) (first : List ℕ)
-    (until : Option Until) : Type 0 where
-  pub work_is : IsWorkOf name value_of work
+pub record IsAskedOf (kind : CommandKind) (value_of : Text → Option Text) (work : Work)
+    (first : List ℕ) (until : Option Until) : Type 0 where
+  pub work_is : IsWorkOf kind value_of work
   pub order_is : ReadsOrder (value_of (codes "processors")) (value_of (codes "order")) first
   pub until_is : ReadsUntil (value_of (codes "processors")) (value_of (codes "until"))
       (value_of (codes "times")) until
 
--- this command, with these values of its options, asks for more turns than a picture has
-abbrev pub AsksForMore : Text → (Text → Option Text) → Type 0
-AsksForMore name value_of =
-    (name ≡ codes "draw") × ((w : Window) × ReadsWindow value_of w × (2000 < w.to - w.from))
+-- it asks for more turns than a picture has
+abbrev pub AsksForMore : CommandKind → (Text → Option Text) → Type 0
+AsksForMore kind value_of =
+    (kind ≡ Kind.Draw) × ((w : Window) × ReadsWindow value_of w × (2000 < w.to - w.from))
 
 -- it is `test`, with options of none of its two forms
-abbrev pub MixesForms : Text → (Text → Option Text) → Type 0
-MixesForms name value_of =
-    (name ≡ codes "test") × (¬ IsOfARun value_of) × (¬ IsOfEveryOrder value_of)
+abbrev pub MixesForms : CommandKind → (Text → Option Text) → Type 0
+MixesForms kind value_of =
+    (kind ≡ Kind.Test) × (¬ IsOfARun value_of) × (¬ IsOfEveryOrder value_of)
 
 -- so does the command that the words name, with the values that they give
-abbrev pub SoDoes : (Text → (Text → Option Text) → Type 0) → Option (Text × List Row) → Type 0
+abbrev pub SoDoes : (CommandKind → (Text → Option Text) → Type 0) → Option (Text × List Row)
+    → Type 0
 SoDoes Does None = ⊥
-SoDoes Does (Some (name, rows)) = Does name (λ id. first_of id rows)
+SoDoes Does (Some (name, rows)) =
+    IsSomeAnd (command_named name) (λ command. Does command.kind (λ id. first_of id rows))
 
 -- the words ask for this work, in whose run these processors come first, and which goes on until
 -- then
 abbrev pub AskFor : List Text → Work → List ℕ → Option Until → Type 0
-AskFor words work first until = IsSomeAnd (subcommand_of ppsim words)
-    (λ s. IsAskedOf s.0 (λ id. first_of id s.1) work first until)
+AskFor words work first until =
+    SoDoes (λ kind value_of. IsAskedOf kind value_of work first until) (subcommand_of ppsim words)
 
 -- they ask for no work
 abbrev pub AskForNone : List Text → Type 0
@@ -370,7 +390,7 @@ rule_of_form form = record (rule_by form.value form.name.now) { required = form.
 
 -- a command of this form
 abbrev pub command_of_form : CommandForm → Command
-command_of_form form = (form.name.now, map rule_of_form form.options.now)
+command_of_form form = command form.kind form.name.now (map rule_of_form form.options.now)
 
 -- a parse makes the same of these words by this app and by `ppsim`
 pub record ReadsAlike (words : List Text) (app : App) : Type 0 where

@@ -1,12 +1,13 @@
 //! Reading the words of a call.
 
 ghost use Rattle.std.specs.Prelude.{◌≡◌, Some, bytes_eq, drop, find, map, slice_get, option_map, IfErr, IfOk, OnOk};
-ghost use Rattle.pp_command.specs.CallWords.{AsksForNone, CallFor, IsAskRefused, IsCallRefused, IsRefusal, IsReportedAs, command_named, is_flag, is_topic, is_whole, option_named, reading_of_topics, reading_of_words, reading_without_command, value_among, with_end, with_option, with_plain_word, with_value, with_word};
+ghost use Rattle.pp_command.specs.CallWords.{AsksForNone, CallFor, IsAskRefused, IsCallRefused, IsRefusal, IsReportedAs, is_flag, is_topic, is_whole, option_named, reading_of_topics, reading_of_words, reading_without_command, value_among, with_end, with_option, with_plain_word, with_value, with_word};
 ghost use Rattle.pp_command.specs.CallWords.Reading.{given};
-ghost use Rattle.pp_command.specs.CommandLine.{command_of_form, rule_of_form};
+ghost use Rattle.pp_command.specs.CommandLine.{command_named, command_of_form, rule_of_form};
 
 use crate::call_word::{asks_for_help, asks_for_version, is_option, long_of};
 use crate::command::{CommandHelp, OptionForm, ValueForm};
+use crate::command_kind::CommandKind;
 use crate::command_words::{asked_of, asks_for_more, mixes_forms, named_file};
 use crate::commands::COMMANDS;
 use crate::help_text::{command_help, program_help, topic_help, version_text};
@@ -243,7 +244,7 @@ fn values_of_words<'a, A: Allocator + Copy>(
 /// The command of this name, among these.
 fn command_among(helps: &[CommandHelp], name: &str) -> Option<CommandHelp>
     ensures { option_map (λ help. command_of_form help.form.now) result
-        ≡ find (λ command. bytes_eq command.0 name.now)
+        ≡ find (λ command. bytes_eq command.name name.now)
         (map (λ help. command_of_form help.form.now) helps.now) }
 {
     for help in helps {
@@ -255,7 +256,7 @@ fn command_among(helps: &[CommandHelp], name: &str) -> Option<CommandHelp>
 }
 
 /// The command of this name.
-#[tactic(auto, unfolding(crate::specs::CallWords::command_named))]
+#[tactic(auto, unfolding(crate::specs::CommandLine::command_named))]
 pub(crate) fn command_named(name: &str) -> Option<CommandHelp>
     ensures { option_map (λ help. command_of_form help.form.now) result ≡ command_named name.now }
 {
@@ -305,15 +306,19 @@ fn on_topics<A: Allocator + Copy>(alloc: A, topics: &[&str]) -> CallRefusal<A>
 }
 
 /// Why a command asks for no work.
-fn without_work<V: Values, A: Allocator + Copy>(alloc: A, name: &str, values: &V) -> CallRefusal<A>
-    ensures { AsksForNone name.now (V.value values.now)
-        → IsAskRefused name.now (V.value values.now) result.fault }
+fn without_work<V: Values, A: Allocator + Copy>(
+    alloc: A,
+    kind: CommandKind,
+    values: &V,
+) -> CallRefusal<A>
+    ensures { AsksForNone kind (V.value values.now)
+        → IsAskRefused kind (V.value values.now) result.fault }
 {
-    if asks_for_more(name, values) {
+    if asks_for_more(kind, values) {
         let text = "ppsim: a picture has at most 2000 turns: give --from and --to\n";
         return reported(alloc, CallFault::Picture, String::from_str(alloc, text));
     }
-    if mixes_forms(name, values) {
+    if mixes_forms(kind, values) {
         let text = "ppsim: give --turns, or --every-order and --states alone\n";
         return reported(alloc, CallFault::Forms, String::from_str(alloc, text));
     }
@@ -343,11 +348,11 @@ pub fn read_call<'a, A: Allocator + Copy>(
         Ok(values) => values,
         Err(refusal) => return Err(refusal),
     };
-    let Ok(found) = asked_of(alloc, name, &values) else {
+    let Ok(found) = asked_of(alloc, help.form.kind, &values) else {
         return Err(reported(alloc, CallFault::Memory, Ok(String::new(alloc))));
     };
     match found {
         Some(asked) => Ok((asked, named_file(values.given("file")))),
-        None => Err(without_work(alloc, name, &values)),
+        None => Err(without_work(alloc, help.form.kind, &values)),
     }
 }

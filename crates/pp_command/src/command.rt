@@ -7,6 +7,7 @@ ghost use Rattle.pp_command.specs.CommandLine.{ReadsAlike, bare, with_commands};
 ghost use Rattle.pp_command.specs.CommandLine.{app_of_command, command_of_form, file_argument, rule_of_form};
 
 use crate::call_words::command_named;
+use crate::command_kind::CommandKind;
 use crate::commands::{ABOUT, COMMANDS, EXAMPLE, FILE_HELP, MANUAL};
 use crate::number_range::NumberRange;
 use clap::{Arg, ArgAction, Command};
@@ -37,6 +38,7 @@ pub(crate) enum ValueForm {
 /// A command with its short help and its options.
 #[derive(Clone, Copy)]
 pub(crate) struct CommandForm {
+    pub(crate) kind: CommandKind,
     pub(crate) name: &'static str,
     /// Its line in the list of commands, with which its short help begins.
     pub(crate) about: &'static str,

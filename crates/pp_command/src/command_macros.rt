@@ -46,6 +46,7 @@ macro_rules! option {
 /// A command with its help.
 macro_rules! command {
     (
+        kind: $kind:expr,
         name: $name:literal,
         about: $about:literal,
         long_about: $long_about:literal,
@@ -54,6 +55,7 @@ macro_rules! command {
     ) => {
         CommandHelp {
             form: &CommandForm {
+                kind: $kind,
                 name: $name,
                 about: $about,
                 example: $example,

@@ -1,11 +1,13 @@
 //! Reading the words of a command line.
 
-ghost use Rattle.std.specs.Prelude.{◌≡◌, ◌↔◌, ℕ, [], List, Option, IsTrue, codes, map, option_map, IfOk, IfErr, IfNone, IfSome, OnOk};
+ghost use Rattle.std.specs.Prelude.{◌≡◌, ◌↔◌, ℕ, [], List, Option, IsTrue, map, option_map, IfOk, IfErr, IfNone, IfSome, OnOk};
 ghost use Rattle.pp_command.specs.CommandLine.{AskFor, AsksForMore, Finds, IsAskedOf, IsFaultBy, IsOfARun, IsOfEveryOrder, IsRefused, IsTestedBy, IsWorkOf, MixesForms, Name, ReadsFile, refusals};
 ghost use Rattle.pp_command.specs.declared.work.Work.{Work};
 ghost use Rattle.pp_condition.specs.declared.until.Until.{Until};
 
+use crate::call_words::command_named;
 use crate::command::command;
+use crate::command_kind::CommandKind;
 use crate::option_values::{
     channels_of, fits_a_picture, is_flagged, limits_of, number_of, order_of, profile_of, states_of,
     turns_of, until_of, window_of,
@@ -18,40 +20,40 @@ use pp_numbers::CHANNELS;
 use std::alloc::{AllocError, Allocator, Global};
 
 /// Whether a command asks for a picture of more turns than it has.
-pub(crate) fn asks_for_more<V: Values>(name: &str, values: &V) -> bool
-    ensures { IsTrue result ↔ AsksForMore name.now (V.value values.now) }
+pub(crate) fn asks_for_more<V: Values>(kind: CommandKind, values: &V) -> bool
+    ensures { IsTrue result ↔ AsksForMore kind (V.value values.now) }
 {
     match window_of(values) {
-        Some(window) => name == "draw" && !fits_a_picture(window),
+        Some(window) => matches!(kind, CommandKind::Draw) && !fits_a_picture(window),
         None => false,
     }
 }
 
 /// The work that a command asks for, if its numbers are in range.
-fn work_of<V: Values>(name: &str, values: &V) -> Option<Work>
-    ensures { Finds (IsWorkOf name.now (V.value values.now)) result }
+fn work_of<V: Values>(kind: CommandKind, values: &V) -> Option<Work>
+    ensures { Finds (IsWorkOf kind (V.value values.now)) result }
 {
-    match name {
-        "threads" => {
+    match kind {
+        CommandKind::Threads => {
             let profile = profile_of(values)?;
             let limits = limits_of(number_of(values, "steps")?, number_of(values, "patience")?)?;
             Some(Work::Threads { profile, limits })
         }
-        "lint" => Some(Work::Lint {
+        CommandKind::Lint => Some(Work::Lint {
             profile: profile_of(values)?,
         }),
-        "test" => {
+        CommandKind::Test => {
             let profile = profile_of(values)?;
             let tested = tested_of(values)?;
             Some(Work::Test { profile, tested })
         }
-        "check" => {
+        CommandKind::Check => {
             let opened = channels_of(values, "opened")?.unwrap_or([false; CHANNELS]);
             Some(Work::Check { opened })
         }
         _ => {
             let profile = profile_of(values)?;
-            let text = text_of(name, values, profile)?;
+            let text = text_of(kind, values, profile)?;
             Some(Work::Deck { profile, text })
         }
     }
@@ -71,10 +73,10 @@ fn tested_of<V: Values>(values: &V) -> Option<Tested>
 }
 
 /// Whether a command is `test`, with options of none of its two forms.
-pub(crate) fn mixes_forms<V: Values>(name: &str, values: &V) -> bool
-    ensures { IsTrue result ↔ MixesForms name.now (V.value values.now) }
+pub(crate) fn mixes_forms<V: Values>(kind: CommandKind, values: &V) -> bool
+    ensures { IsTrue result ↔ MixesForms kind (V.value values.now) }
 {
-    name == "test" && !is_of_a_run(values) && !is_of_every_order(values)
+    matches!(kind, CommandKind::Test) && !is_of_a_run(values) && !is_of_every_order(values)
 }
 
 /// Whether options are those of a test of a run.
@@ -101,15 +103,15 @@ fn is_of_every_order<V: Values>(values: &V) -> bool
 /// What a command asks for, if its numbers are in range.
 pub(crate) fn asked_of<V: Values, A: Allocator>(
     alloc: A,
-    name: &str,
+    kind: CommandKind,
     values: &V,
 ) -> Result<Option<Asked<A>>, AllocError>
     ensures asked { IfOk result (λ found. IfSome found (λ asked.
-        IsAskedOf name.now (V.value values.now) asked.work asked.first.items asked.until)) }
+        IsAskedOf kind (V.value values.now) asked.work asked.first.items asked.until)) }
     ensures none { IfOk result (λ found. IfNone found ((work : Work) (first : List ℕ)
-        (until : Option Until) → ¬ IsAskedOf name.now (V.value values.now) work first until)) }
+        (until : Option Until) → ¬ IsAskedOf kind (V.value values.now) work first until)) }
 {
-    let Some(work) = work_of(name, values) else {
+    let Some(work) = work_of(kind, values) else {
         return Ok(None);
     };
     let Some(first) = order_of(alloc, values)? else {
@@ -164,13 +166,17 @@ pub fn read_words<'a>(
     let Some((name, inner)) = matches.subcommand() else {
         return Err(LineFault::Number);
     };
-    let Ok(found) = asked_of(alloc, name, inner) else {
+    let Some(help) = command_named(name) else {
+        return Err(LineFault::Number);
+    };
+    let kind = help.form.kind;
+    let Ok(found) = asked_of(alloc, kind, inner) else {
         return Err(LineFault::Memory);
     };
     match found {
         Some(asked) => Ok((asked, named_file(inner.get_str("file")))),
-        None if asks_for_more(name, inner) => Err(LineFault::Picture),
-        None if mixes_forms(name, inner) => Err(LineFault::Forms),
+        None if asks_for_more(kind, inner) => Err(LineFault::Picture),
+        None if mixes_forms(kind, inner) => Err(LineFault::Forms),
         None => Err(LineFault::Number),
     }
 }

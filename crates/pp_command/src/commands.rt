@@ -2,6 +2,7 @@
 
 use crate::command::ValueForm::{Flag, Number, Text};
 use crate::command::{CommandForm, CommandHelp, OptionForm};
+use crate::command_kind::CommandKind;
 use crate::command_macros::{command, example, four_example, handoff_example, option};
 use crate::number_range::{DRAWN_FROM, FROM, PATIENCE, STATES, STEPS, TO, TURNS};
 use crate::run_options::{
@@ -53,6 +54,7 @@ pub(crate) const FILE_HELP: &str = "The file to read; standard input if not give
 /// The commands, in the order in which help lists them.
 pub(crate) const COMMANDS: [CommandHelp; 16] = [
     command! {
+        kind: CommandKind::Barrel,
         name: "barrel",
         about: "Runs a deck in the barrel, one step a turn, and prints what happened",
         long_about: "\
@@ -73,6 +75,7 @@ the channel of its own number, as at a dead start.",
         options: RUN_OPTIONS,
     },
     command! {
+        kind: CommandKind::Threads,
         name: "threads",
         about: "Runs a deck with one thread per processor, and prints what happened",
         long_about: "\
@@ -104,6 +107,7 @@ the channel of its own number, as at a dead start.",
         ],
     },
     command! {
+        kind: CommandKind::List,
         name: "list",
         about: "Prints the listing of a deck, one instruction a line, which is itself a deck",
         long_about: "\
@@ -120,6 +124,7 @@ The listing is itself a deck, and loads the same machine, where it is no longer 
         options: &[PROCESSORS_OPTION],
     },
     command! {
+        kind: CommandKind::Lint,
         name: "lint",
         about: "Prints what is wrong in a deck, by line and column",
         long_about: "\
@@ -137,6 +142,7 @@ goes wrong is one line on standard error.",
         options: &[PROCESSORS_OPTION],
     },
     command! {
+        kind: CommandKind::Dump,
         name: "dump",
         about: "Runs a deck in the barrel, and prints a deck to go on from",
         long_about: "\
@@ -152,6 +158,7 @@ and the first of these is told on standard error. Any other fault is one line th
         options: RUN_OPTIONS,
     },
     command! {
+        kind: CommandKind::Steps,
         name: "steps",
         about: "Runs a deck in the barrel, and prints each step",
         long_about: "\
@@ -187,6 +194,7 @@ of central memory.",
         ],
     },
     command! {
+        kind: CommandKind::State,
         name: "state",
         about: "Runs a deck in the barrel, and prints how things stand then",
         long_about: "\
@@ -207,6 +215,7 @@ of central memory.",
         options: RUN_OPTIONS,
     },
     command! {
+        kind: CommandKind::Ends,
         name: "ends",
         about: "Runs a deck in the barrel, and says how the run ends",
         long_about: "\
@@ -223,6 +232,7 @@ standard error.",
         options: &[TURNS_OPTION, PROCESSORS_OPTION],
     },
     command! {
+        kind: CommandKind::Memory,
         name: "memory",
         about: "Runs a deck in the barrel, and prints the words of a processor's memory",
         long_about: "\
@@ -247,6 +257,7 @@ are spaces). What goes wrong is one line on standard error.",
         ],
     },
     command! {
+        kind: CommandKind::Central,
         name: "central",
         about: "Runs a deck in the barrel, and prints the words of central memory",
         long_about: "\
@@ -269,6 +280,7 @@ and 55 are spaces). What goes wrong is one line on standard error.",
         ],
     },
     command! {
+        kind: CommandKind::Sessions,
         name: "sessions",
         about: "Runs a deck in the barrel, and prints the sessions of its channels",
         long_about: "\
@@ -294,6 +306,7 @@ line. Turns and counts are decimal, words octal. What goes wrong is one line on 
         ],
     },
     command! {
+        kind: CommandKind::Races,
         name: "races",
         about: "Runs a deck in the barrel, and says whether every order of steps ends the same",
         long_about: "\
@@ -316,6 +329,7 @@ polls a channel each look counts. SAME IN EVERY ORDER never stands where somethi
         options: RUN_OPTIONS,
     },
     command! {
+        kind: CommandKind::Orders,
         name: "orders",
         about: "Lists every way in which a deck can end, over all orders of steps",
         long_about: "\
@@ -338,6 +352,7 @@ may be missing.",
         options: &[option!(required: true, "states", Number(STATES)), PROCESSORS_OPTION],
     },
     command! {
+        kind: CommandKind::Test,
         name: "test",
         about: "Runs a deck in the barrel, and says whether it came to what the deck expects",
         long_about: "\
@@ -377,6 +392,7 @@ endings may be missing, and the exit status is then 1, too.",
         ],
     },
     command! {
+        kind: CommandKind::Draw,
         name: "draw",
         about: "Runs a deck in the barrel, and draws what happened",
         long_about: "\
@@ -402,6 +418,7 @@ to draw and the one before which the picture ends: --turns 999999 --from 5000 --
         ],
     },
     command! {
+        kind: CommandKind::Check,
         name: "check",
         about: "Reads a channel trace, and says whether it is lawful",
         long_about: "\

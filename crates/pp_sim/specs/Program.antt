@@ -29,6 +29,11 @@ IsDone Z (Work.Test profile tested) first until = AnswersTest profile first unti
 IsDone Z (Work.Threads profile limits) first until = AnswersDeck profile (IsThreadsText Z limits)
 IsDone Z (Work.Check opened) first until = AnswersTrace opened
 
+-- every work but that with one thread per processor
+abbrev pub NeedsNoThreads : Work → Type 0
+NeedsNoThreads (Work.Threads profile limits) = ⊥
+NeedsNoThreads other = Unit {0}
+
 -- the status of a work that was done, or failed: by what was read, a device, or want of memory
 abbrev pub status_of : Result (Unit {0}) TextFault → ℕ
 status_of (Ok done) = 0

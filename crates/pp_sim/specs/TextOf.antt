@@ -1,10 +1,10 @@
 -- The texts of a deck: which text is each that is asked for.
-use Rattle.std.specs.Prelude.{◌≡◌, ℕ, List, ◌≤◌, length, Ok, None, Some, Option, [], true, unwrap_or}
+use Rattle.std.specs.Prelude.{◌≡◌, ℕ, List, ◌≤◌, length, min, Ok, None, Some, Option, [], true, unwrap_or}
 use Rattle.std.specs.List.{list_all}
 use Rattle.pp_machine.specs.Headline.{HoldsOnEachChannel, IsMachine}
 use Rattle.pp_machine.specs.MachineState.{MachineState, processor_of}
 use Rattle.pp_machine.specs.Run.{run, run_order}
-use Rattle.pp_numbers.specs.declared.{bounds.Bounds.Bounds, window.Window.Window}
+use Rattle.pp_numbers.specs.declared.{bounds.Bounds.Bounds}
 use Rattle.pp_deck.specs.DeckMeaning.{LoadedDeck, deck_meaning}
 use Rattle.pp_deck.specs.InUse.{in_use}
 use Rattle.pp_listing.specs.Dump.{after, deck_to_go_on, dump, first_busy}
@@ -34,7 +34,7 @@ use Rattle.pp_run.specs.Determinacy.{IsDeterminate}
 use Rattle.pp_condition.specs.Until.{IsEndOf}
 use Rattle.pp_condition.specs.declared.{condition.Condition.Condition, until.Until.Until}
 use Rattle.pp_command.specs.TextOf.{turns_of, with_turns}
-use Rattle.pp_command.specs.declared.{text_of.ChosenSteps.ChosenSteps, text_of.TextOf.TextOf}
+use Rattle.pp_command.specs.declared.{text_of.TextOf.TextOf, view.ChosenSteps.ChosenSteps, view.View.View}
 use Rattle.pp_sim.specs.TextAnswer.{NothingPrevents}
 
 -- the order of a loaded deck's run of N steps, in which the processors of a list come first
@@ -89,10 +89,6 @@ memory_after n bounds steps deck = memory_text bounds (processor_of n (run steps
 abbrev pub central_after : Bounds → List ℕ → LoadedDeck → List ℕ
 central_after bounds steps deck = central_text bounds (run steps deck.machine).central
 
--- the drawing of a loaded deck in a window of its run, which ends with the window
-abbrev pub IsDrawing : List ℕ → Window → LoadedDeck → List ℕ → Type 0
-IsDrawing first w = IsTextAfter first w.to (drawing_of_run w)
-
 -- the text of a loaded deck: its ending in N turns of the barrel, and the loops of its processors
 pub record IsEndsText (turns : ℕ) (deck : LoadedDeck) (text : List ℕ) : Type 0 where
   pub ending : Ending
@@ -129,24 +125,29 @@ IsStepsText first turns chosen deck text = let choice : Choice = record {
 } in IsStepsTextBy chosen.condition choice (run_of first turns deck) deck.machine text
 
 -- THE TEXT: which text of a loaded deck is each that is asked for, if these processors come first.
--- The ends are those of the barrel alone, and the endings those of every order
+-- The ends are those of the barrel alone, and the endings those of every order. A drawing is of the
+-- turns from one on, and ends with its run
 abbrev pub IsTextOf : List ℕ → TextOf → LoadedDeck → List ℕ → Type 0
-IsTextOf first (TextOf.Barrel turns) = IsBarrelText first turns
 IsTextOf _ TextOf.List = IsListText
-IsTextOf first (TextOf.Dump turns) = IsDumpText first turns
-IsTextOf first (TextOf.State turns) = IsTextAfter first turns state_after
-IsTextOf _ (TextOf.Ends turns) = IsEndsText turns
 IsTextOf _ (TextOf.Orders states) = IsEndingsText
-IsTextOf first (TextOf.Memory turns n bounds) = IsTextAfter first turns (memory_after n bounds)
-IsTextOf first (TextOf.Central turns bounds) = IsTextAfter first turns (central_after bounds)
-IsTextOf first (TextOf.Sessions turns words) = IsTextAfter first turns (sessions_after words)
-IsTextOf first (TextOf.Races turns) = IsRacesText first turns
-IsTextOf first (TextOf.Steps turns chosen) = IsStepsText first turns chosen
-IsTextOf first (TextOf.Draw window) = IsDrawing first window
+IsTextOf first (TextOf.Run turns View.Barrel) = IsBarrelText first turns
+IsTextOf first (TextOf.Run turns View.Dump) = IsDumpText first turns
+IsTextOf first (TextOf.Run turns View.State) = IsTextAfter first turns state_after
+IsTextOf _ (TextOf.Run turns View.Ends) = IsEndsText turns
+IsTextOf first (TextOf.Run turns (View.Memory n bounds)) =
+    IsTextAfter first turns (memory_after n bounds)
+IsTextOf first (TextOf.Run turns (View.Central bounds)) =
+    IsTextAfter first turns (central_after bounds)
+IsTextOf first (TextOf.Run turns (View.Sessions words)) =
+    IsTextAfter first turns (sessions_after words)
+IsTextOf first (TextOf.Run turns View.Races) = IsRacesText first turns
+IsTextOf first (TextOf.Run turns (View.Steps chosen)) = IsStepsText first turns chosen
+IsTextOf first (TextOf.Run turns (View.Draw from)) =
+    IsTextAfter first turns (drawing_of_run (record { from = min from turns; to = turns }))
 
 -- what stands in its way: of a dump what goes on in the machine, and of all others nothing
 abbrev pub obstacle : List ℕ → TextOf → LoadedDeck → Busy → Type 0
-obstacle first (TextOf.Dump turns) = PreventsDump first turns
+obstacle first (TextOf.Run turns View.Dump) = PreventsDump first turns
 obstacle first other = NothingPrevents
 
 -- what a text and its deck tell, if the run goes on until then: the same as if the text were of as

@@ -5,7 +5,7 @@ ghost use Rattle.pp_runner.specs.Report.{ReportFitsInMemory};
 ghost use Rattle.pp_sim.specs.Program.{IsDone, IsDoneOnFile, IsPrinted, IsRun, IsReported, status_of};
 
 use crate::text_fault::answer_to;
-use crate::{TextFault, check_text, deck_text, lint_text, test_text, threads_text};
+use crate::{TextFault, threads_text, work_text};
 use pp_command::{Asked, LineFault, Work, read_words};
 use pp_text::write_whole;
 use std::alloc::{Allocator, Global};
@@ -93,21 +93,10 @@ fn do_work<T: Threads + Wait + Sync, I: Read, A: Allocator + Copy + Send + Sync,
         (I.remaining input.old) (I.remaining input.new)
         (O.contents output.old) (O.contents output.new) }
 {
-    match &asked.work {
-        Work::Deck { profile, text } => {
-            let first = asked.first.as_slice();
-            deck_text(alloc, *profile, first, &asked.until, input, output, text)
-        }
-        Work::Lint { profile } => lint_text(alloc, *profile, input, output),
-        Work::Test { profile, tested } => {
-            let first = asked.first.as_slice();
-            test_text(alloc, *profile, first, &asked.until, input, output, *tested)
-        }
-        Work::Threads { profile, limits } => {
-            threads_text(rt, alloc, *profile, input, output, *limits)
-        }
-        Work::Check { opened } => check_text(alloc, opened, input, output),
+    if let Work::Threads { profile, limits } = &asked.work {
+        return threads_text(rt, alloc, *profile, input, output, *limits);
     }
+    work_text(alloc, asked, input, output)
 }
 
 fn tell_line_fault<O: Write, E: Write>(

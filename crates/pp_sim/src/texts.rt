@@ -5,25 +5,28 @@ pub(crate) mod deck_text;
 pub(crate) mod lint_text;
 pub(crate) mod test_text;
 pub(crate) mod threads_text;
+pub(crate) mod work_text;
 
 ghost use Rattle.std.specs.Prelude.{◌≡◌, Ok};
+ghost use Rattle.pp_command.specs.declared.text_of.TextOf.TheVariants.{Run};
 ghost use Rattle.pp_deck.specs.DeckMeaning.{deck_meaning};
 ghost use Rattle.pp_endings.specs.EndingsText.{IsEndingsText};
 ghost use Rattle.pp_sim.specs.TextAnswer.{AnswersLoaded, AnswersLoadedUnless};
 ghost use Rattle.pp_sim.specs.TextOf.{IsDumpText, IsEndsText, IsRacesText, IsStepsText, IsTextAfter, IsTextOf, IsTextUntil, PreventsDump, obstacle, obstacle_until};
 ghost use Rattle.pp_state.specs.StateText.{state_after};
 
-use crate::TextFault;
 use crate::deck_bytes::DeckBytes;
 use crate::text_fault::{answer_to, answer_to_report};
-use pp_command::{ChosenSteps, TextOf};
-use pp_condition::{Until, steps_until};
+use crate::{Schedule, TextFault};
+use pp_command::{ChosenSteps, TextOf, View};
+use pp_condition::steps_until;
 use pp_deck::Deck;
 use pp_draw::{run_seeing_steps, write_drawing};
 use pp_endings::text_of_endings;
 use pp_ends::{find_ending, find_loops, write_ends};
 use pp_listing::{DumpFault, order_left, write_dump, write_listing};
 use pp_machine::PpNo;
+use pp_numbers::Window;
 use pp_races::write_races;
 use pp_run::{BareMachine, Order};
 use pp_sessions::{run_counting_steps, write_sessions};
@@ -33,24 +36,25 @@ use pp_text::{write_text, write_whole};
 use std::alloc::Allocator;
 use std::io::Write;
 
-/// Writes this text of a deck that is loaded, in whose run these processors come first, and which
-/// goes on until then, if that is given: first it is found how many steps the run has.
+/// Writes this text of a deck that is loaded, of a run by this schedule: first it is found how many
+/// steps the run has.
 pub(crate) fn write_text_until<A: Allocator + Copy, W: Write>(
     alloc: A,
     deck: &DeckBytes,
     loaded: &mut Deck<A>,
     writer: &mut W,
-    first: &[PpNo],
-    until: &Option<Until>,
+    schedule: &Schedule,
     text: &TextOf,
 ) -> Result<(), TextFault>
     requires { deck_meaning deck.now.profile deck.now.bytes.now
         ≡ Ok (record { machine = loaded.old.machine; named = loaded.old.named }) }
     ensures { AnswersLoadedUnless loaded.old.machine loaded.old.named
-        (obstacle_until first.now until.now text.now) (IsTextUntil first.now until.now text.now)
+        (obstacle_until schedule.now.first.now schedule.now.until text.now)
+        (IsTextUntil schedule.now.first.now schedule.now.until text.now)
         result (W.contents writer.old) (W.contents writer.new) }
 {
-    let Some(until) = until else {
+    let first = schedule.first;
+    let Some(until) = &schedule.until else {
         return write_text_of(alloc, deck, loaded, writer, first, text);
     };
     let order = Order::of_run(alloc, first, loaded.machine.profile(), text.turns())?;
@@ -74,42 +78,56 @@ fn write_text_of<A: Allocator + Copy, W: Write>(
         (W.contents writer.old) (W.contents writer.new) }
 {
     match text {
-        TextOf::Barrel(turns) => {
-            loaded.machine.run_in_order(first, *turns)?;
+        TextOf::List => answer_to(write_listing(writer, loaded)),
+        TextOf::Orders(states) => write_endings(alloc, deck, loaded, writer, *states),
+        TextOf::Run { turns, view } => write_view(alloc, loaded, writer, first, *turns, view),
+    }
+}
+
+/// Writes this view of the run of a deck that is loaded, in which these processors come first.
+fn write_view<A: Allocator + Copy, W: Write>(
+    alloc: A,
+    loaded: &mut Deck<A>,
+    writer: &mut W,
+    first: &[PpNo],
+    turns: u32,
+    view: &View,
+) -> Result<(), TextFault>
+    ensures { AnswersLoadedUnless loaded.old.machine loaded.old.named
+        (obstacle first.now (Run turns view.now)) (IsTextOf first.now (Run turns view.now)) result
+        (W.contents writer.old) (W.contents writer.new) }
+{
+    match view {
+        View::Barrel => {
+            loaded.machine.run_in_order(first, turns)?;
             answer_to(write_text(writer, &loaded.machine, &loaded.named))
         }
-        TextOf::List => answer_to(write_listing(writer, loaded)),
-        TextOf::Dump(turns) => write_dump_after(alloc, loaded, writer, first, *turns),
-        TextOf::State(turns) => write_state_after(alloc, loaded, writer, first, *turns),
-        TextOf::Sessions { turns, words } => {
+        View::Dump => write_dump_after(alloc, loaded, writer, first, turns),
+        View::State => write_state_after(alloc, loaded, writer, first, turns),
+        View::Sessions { words } => {
             let shown = loaded.in_use();
-            let order = Order::of_run(alloc, first, loaded.machine.profile(), *turns)?;
+            let order = Order::of_run(alloc, first, loaded.machine.profile(), turns)?;
             let counts = run_counting_steps(&mut loaded.machine, &order)?;
             answer_to(write_sessions(writer, &loaded.machine, &shown, &counts, *words))
         }
-        TextOf::Races(turns) => write_raced(alloc, loaded, writer, first, *turns),
-        TextOf::Ends(turns) => write_ends_after(alloc, loaded, writer, *turns),
-        TextOf::Orders(states) => write_endings(alloc, deck, loaded, writer, *states),
-        TextOf::Memory {
-            turns,
-            processor,
-            bounds,
-        } => {
-            loaded.machine.run_in_order(first, *turns)?;
+        View::Races => write_raced(alloc, loaded, writer, first, turns),
+        View::Ends => write_ends_after(alloc, loaded, writer, turns),
+        View::Memory { processor, bounds } => {
+            loaded.machine.run_in_order(first, turns)?;
             answer_to(write_memory(writer, loaded.machine.pp(*processor), *bounds))
         }
-        TextOf::Central { turns, bounds } => {
-            loaded.machine.run_in_order(first, *turns)?;
+        View::Central(bounds) => {
+            loaded.machine.run_in_order(first, turns)?;
             answer_to(write_central(writer, loaded.machine.central(), *bounds))
         }
-        TextOf::Steps { turns, chosen } => {
-            write_chosen_steps(alloc, loaded, writer, first, *turns, chosen)
-        }
-        TextOf::Draw(window) => {
+        View::Steps(chosen) => write_chosen_steps(alloc, loaded, writer, first, turns, chosen),
+        View::Draw { from } => {
             let shown = loaded.in_use();
-            let order = Order::of_run(alloc, first, loaded.machine.profile(), window.to)?;
-            let steps = run_seeing_steps(alloc, &mut loaded.machine, &order, *window)?;
-            answer_to(write_drawing(writer, &loaded.machine, &shown, &steps, *window))
+            let order = Order::of_run(alloc, first, loaded.machine.profile(), turns)?;
+            let from = (*from).min(turns);
+            let window = Window { from, to: turns };
+            let steps = run_seeing_steps(alloc, &mut loaded.machine, &order, window)?;
+            answer_to(write_drawing(writer, &loaded.machine, &shown, &steps, window))
         }
     }
 }

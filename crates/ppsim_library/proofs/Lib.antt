@@ -1,1 +1,2 @@
 mod WordLemmas
+mod WorkLemmas

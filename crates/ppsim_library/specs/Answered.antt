@@ -6,7 +6,7 @@ use Rattle.pp_command.specs.CallWords.{CallFor, IsCallRefused}
 use Rattle.pp_command.specs.declared.{call_fault.CallFault.CallFault, work.Work.Work}
 use Rattle.pp_condition.specs.declared.until.Until.{Until}
 use Rattle.pp_sim.specs.FaultText.{fault_text}
-use Rattle.pp_sim.specs.Program.{IsDone}
+use Rattle.pp_sim.specs.Program.{IsDone, NeedsNoThreads}
 use Rattle.pp_text.specs.PrintedText.{line_end}
 use Rattle.pp_sim.specs.declared.text_fault.TextFault.{TextFault}
 use Rattle.ppsim_library.specs.declared.answer.Answer.{Answer}
@@ -18,14 +18,6 @@ parts_of text = slice_split (λ byte. byte == 0) text
 abbrev pub words_of : List ℕ → List (List ℕ)
 words_of [] = []
 words_of (byte ∷ bytes) = parts_of (byte ∷ bytes)
-
--- every work but that with one thread per processor
-abbrev pub NeedsNoThreads : Work → Type 0
-NeedsNoThreads (Work.Deck profile text) = Unit {0}
-NeedsNoThreads (Work.Lint profile) = Unit {0}
-NeedsNoThreads (Work.Test profile tested) = Unit {0}
-NeedsNoThreads (Work.Threads profile limits) = ⊥
-NeedsNoThreads (Work.Check opened) = Unit {0}
 
 -- the status of a fault: the program's own, but that bytes are read without a fault, and are
 -- written without one but for want of memory

@@ -1,14 +1,13 @@
 //! Calls: their words, and their work over bytes in memory.
 
-ghost use Rattle.std.specs.Prelude.{◌≡◌, IfOk, Some, map};
-ghost use Rattle.pp_sim.specs.Program.{IsDone};
-ghost use Rattle.ppsim_library.specs.Answered.{Answers, IsAnswered, IsDeclinedFor, NeedsNoThreads, parts_of, words_of};
+ghost use Rattle.std.specs.Prelude.{◌≡◌, IfOk, map};
+ghost use Rattle.ppsim_library.specs.Answered.{Answers, IsAnswered, IsDeclinedFor, parts_of, words_of};
 
 use crate::answer::{
     Answer, answer_of, helped, not_text, refused, without_files, without_memory, without_threads,
 };
 use pp_command::{Asked, CallFault, read_call};
-use pp_sim::{TextFault, Work, check_text, deck_text, lint_text, test_text};
+use pp_sim::{Work, work_text};
 use std::alloc::{AllocError, Allocator};
 use std::str;
 
@@ -72,6 +71,7 @@ fn parts_of<A: Allocator>(alloc: A, text: &str) -> Result<Vec<&str, A>, AllocErr
 }
 
 /// Does what is asked for over the input, if it needs no threads.
+#[tactic(auto, using(crate::proofs::WorkLemmas::any_allocator))]
 fn answer_work<A: Allocator + Copy>(
     alloc: A,
     asked: &Asked<A>,
@@ -86,31 +86,6 @@ fn answer_work<A: Allocator + Copy>(
     }
     let mut reader = input;
     let mut text = Vec::new(alloc);
-    let outcome = do_work(alloc, asked, &mut reader, &mut text);
+    let outcome = work_text(alloc, asked, &mut reader, &mut text);
     answer_of(alloc, outcome, text.as_slice(), room)
-}
-
-fn do_work<A: Allocator + Copy>(
-    alloc: A,
-    asked: &Asked<A>,
-    input: &mut &[u8],
-    output: &mut Vec<u8, A>,
-) -> Result<(), TextFault>
-    requires { NeedsNoThreads asked.now.work }
-    ensures { IsDone (Unit {0}) asked.now.work asked.now.first.items asked.now.until result
-        (Some input.old.now) (Some input.new.now) (Some output.old.items) (Some output.new.items) }
-{
-    match &asked.work {
-        Work::Deck { profile, text } => {
-            let first = asked.first.as_slice();
-            deck_text(alloc, *profile, first, &asked.until, input, output, text)
-        }
-        Work::Lint { profile } => lint_text(alloc, *profile, input, output),
-        Work::Test { profile, tested } => {
-            let first = asked.first.as_slice();
-            test_text(alloc, *profile, first, &asked.until, input, output, *tested)
-        }
-        Work::Threads { .. } => unreachable!(),
-        Work::Check { opened } => check_text(alloc, opened, input, output),
-    }
 }

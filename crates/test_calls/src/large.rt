@@ -6,7 +6,7 @@ use pp_machine::{Machine, Profile};
 use pp_sim::DeckCode::{
     BadDigits, BadProcessor, CentralRange, NoProcessor, NotAscii, PastEnd, TooLong, UnknownLine,
 };
-use pp_sim::{DeckCode, DeckFault, Tested, TextFault, read_deck, test_text};
+use pp_sim::{DeckCode, DeckFault, Schedule, Tested, TextFault, read_deck, test_text};
 use pp_word::{Word12, Word18, Word60};
 use std::alloc::{AllocError, Global};
 use std::test::Fail;
@@ -144,8 +144,10 @@ fn verdict_on(alloc: Global, deck: Long, tested: Tested) -> Result<Vec<u8>, Fail
     match test_text(
         alloc,
         Profile::Ten,
-        &[],
-        &None,
+        &Schedule {
+            first: &[],
+            until: None,
+        },
         &mut reader,
         &mut writer,
         tested,

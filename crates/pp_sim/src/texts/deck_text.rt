@@ -2,30 +2,29 @@ ghost use Rattle.std.specs.Prelude.{[]};
 ghost use Rattle.pp_sim.specs.TextAnswer.{AnswersDeck, AnswersDeckUnless};
 ghost use Rattle.pp_sim.specs.TextOf.{IsBarrelText, IsTextUntil, obstacle_until};
 
-use crate::TextFault;
 use crate::deck_bytes::DeckBytes;
 use crate::streams::read_front;
 use crate::texts::write_text_until;
-use pp_command::TextOf;
-use pp_condition::Until;
-use pp_machine::{PpNo, Profile};
+use crate::{Schedule, TextFault};
+use pp_command::{TextOf, View};
+use pp_machine::Profile;
 use std::alloc::Allocator;
 use std::io::{Read, Write};
 
-/// Reads a deck for a machine of this profile, and writes this text of it, in whose run these
-/// processors come first, and which goes on until then, if that is given. If a dump is asked for
-/// and there is none, nothing is written, and the answer is `NotBetweenPrograms`.
+/// Reads a deck for a machine of this profile, and writes this text of it, of a run by this schedule.
+/// If a dump is asked for and there is none, nothing is written, and the answer is
+/// `NotBetweenPrograms`.
 pub fn deck_text<A: Allocator + Copy, R: Read, W: Write>(
     alloc: A,
     profile: Profile,
-    first: &[PpNo],
-    until: &Option<Until>,
+    schedule: &Schedule,
     reader: &mut R,
     writer: &mut W,
     text: &TextOf,
 ) -> Result<(), TextFault>
-    ensures { AnswersDeckUnless profile (obstacle_until first.now until.now text.now)
-        (IsTextUntil first.now until.now text.now) result
+    ensures { AnswersDeckUnless profile
+        (obstacle_until schedule.now.first.now schedule.now.until text.now)
+        (IsTextUntil schedule.now.first.now schedule.now.until text.now) result
         (R.remaining reader.old) (R.remaining reader.new)
         (W.contents writer.old) (W.contents writer.new) }
 {
@@ -33,7 +32,7 @@ pub fn deck_text<A: Allocator + Copy, R: Read, W: Write>(
     let bytes = front.as_slice();
     let deck = DeckBytes { profile, bytes };
     let mut loaded = deck.load(alloc)?;
-    write_text_until(alloc, &deck, &mut loaded, writer, first, until, text)
+    write_text_until(alloc, &deck, &mut loaded, writer, schedule, text)
 }
 
 /// Reads a deck for a machine of this profile, runs it in the barrel for `turns` turns (decimal),
@@ -49,13 +48,17 @@ pub fn barrel_text<A: Allocator + Copy, R: Read, W: Write>(
         (R.remaining reader.old) (R.remaining reader.new)
         (W.contents writer.old) (W.contents writer.new) }
 {
+    let schedule = Schedule {
+        first: &[],
+        until: None,
+    };
+    let view = View::Barrel;
     deck_text(
         alloc,
         profile,
-        &[],
-        &None,
+        &schedule,
         reader,
         writer,
-        &TextOf::Barrel(turns),
+        &TextOf::Run { turns, view },
     )
 }

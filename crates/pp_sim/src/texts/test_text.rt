@@ -6,13 +6,13 @@ ghost use Rattle.pp_sim.specs.declared.text_fault.TextFault.TheVariants.{Memory}
 ghost use Rattle.pp_command.specs.declared.work.Tested.{Tested};
 ghost use Rattle.pp_condition.specs.declared.until.Until.{Until};
 
-use crate::TextFault;
 use crate::deck_bytes::DeckBytes;
 use crate::streams::read_front;
+use crate::{Schedule, TextFault};
 use pp_command::Tested;
-use pp_condition::{Until, steps_until};
+use pp_condition::steps_until;
 use pp_deck::Deck;
-use pp_machine::{PpNo, Profile};
+use pp_machine::Profile;
 use pp_run::Order;
 use pp_test::{lines_to_judge, text_of_every_order, write_verdict};
 use pp_text::write_whole;
@@ -20,19 +20,17 @@ use std::alloc::Allocator;
 use std::io::{Read, Write};
 
 /// Reads a deck for a machine of this profile, and writes the verdict by the expectations in it: on
-/// a run, in which these processors come first, and which goes on until then, if that is given; or
-/// over every order of steps. `Findings` if there are no expectations, if one failed, or if there
+/// a run by this schedule, or over every order of steps. `Findings` if there are no expectations, if one failed, or if there
 /// may be more endings than were tested.
 pub fn test_text<A: Allocator + Copy, R: Read, W: Write>(
     alloc: A,
     profile: Profile,
-    first: &[PpNo],
-    until: &Option<Until>,
+    schedule: &Schedule,
     reader: &mut R,
     writer: &mut W,
     tested: Tested,
 ) -> Result<(), TextFault>
-    ensures { AnswersTest profile first.now until.now tested result
+    ensures { AnswersTest profile schedule.now.first.now schedule.now.until tested result
         (R.remaining reader.old) (R.remaining reader.new)
         (W.contents writer.old) (W.contents writer.new) }
 {
@@ -40,7 +38,7 @@ pub fn test_text<A: Allocator + Copy, R: Read, W: Write>(
     let bytes = front.as_slice();
     let deck = DeckBytes { profile, bytes };
     let mut loaded = deck.load(alloc)?;
-    write_test(alloc, &deck, &mut loaded, writer, first, until, tested)
+    write_test(alloc, &deck, &mut loaded, writer, schedule, tested)
 }
 
 /// Writes the verdict on a deck.
@@ -49,18 +47,17 @@ fn write_test<A: Allocator + Copy, W: Write>(
     deck: &DeckBytes,
     loaded: &mut Deck<A>,
     writer: &mut W,
-    first: &[PpNo],
-    until: &Option<Until>,
+    schedule: &Schedule,
     tested: Tested,
 ) -> Result<(), TextFault>
     requires meant { deck_meaning deck.now.profile deck.now.bytes.now
         ≡ Ok (record { machine = loaded.old.machine; named = loaded.old.named }) }
     requires short { length deck.now.bytes.now ≤ most_bytes }
-    ensures { IsTest deck.now.profile first.now until.now tested result deck.now.bytes.now
+    ensures { IsTest deck.now.profile schedule.now.first.now schedule.now.until tested result deck.now.bytes.now
         (W.contents writer.old) (W.contents writer.new) }
 {
     match tested {
-        Tested::Run(turns) => write_test_of_run(alloc, deck, loaded, writer, first, until, turns),
+        Tested::Run(turns) => write_test_of_run(alloc, deck, loaded, writer, schedule, turns),
         Tested::EveryOrder(states) => write_test_of_endings(alloc, deck, loaded, writer, states),
     }
 }
@@ -94,18 +91,24 @@ fn write_test_of_run<A: Allocator + Copy, W: Write>(
     deck: &DeckBytes,
     loaded: &mut Deck<A>,
     writer: &mut W,
-    first: &[PpNo],
-    until: &Option<Until>,
+    schedule: &Schedule,
     turns: u32,
 ) -> Result<(), TextFault>
     requires meant { deck_meaning deck.now.profile deck.now.bytes.now
         ≡ Ok (record { machine = loaded.old.machine; named = loaded.old.named }) }
     requires short { length deck.now.bytes.now ≤ most_bytes }
-    ensures { IsTest deck.now.profile first.now until.now (Tested.Run turns) result
+    ensures { IsTest deck.now.profile schedule.now.first.now schedule.now.until (Tested.Run turns) result
         deck.now.bytes.now (W.contents writer.old) (W.contents writer.new) }
 {
-    let turns = turns_of_run(alloc, loaded, first, until, turns)?;
-    let lines = lines_to_judge(alloc, deck.profile, deck.bytes, loaded, first, turns)?;
+    let turns = turns_of_run(alloc, loaded, schedule, turns)?;
+    let lines = lines_to_judge(
+        alloc,
+        deck.profile,
+        deck.bytes,
+        loaded,
+        schedule.first,
+        turns,
+    )?;
     match write_verdict(writer, deck.bytes, lines.as_slice()) {
         Ok(true) => Ok(()),
         Ok(false) => Err(TextFault::Findings),
@@ -117,18 +120,17 @@ fn write_test_of_run<A: Allocator + Copy, W: Write>(
 fn turns_of_run<A: Allocator + Copy>(
     alloc: A,
     loaded: &Deck<A>,
-    first: &[PpNo],
-    until: &Option<Until>,
+    schedule: &Schedule,
     turns: u32,
 ) -> Result<u32, TextFault>
-    ensures ok { IfOk result (HasTurns first.now until.now turns
+    ensures ok { IfOk result (HasTurns schedule.now.first.now schedule.now.until turns
         (record { machine = loaded.now.machine; named = loaded.now.named })) }
     ensures fault { IfErr result (λ fault. fault ≡ Memory) }
 {
-    let Some(until) = until else {
+    let Some(until) = &schedule.until else {
         return Ok(turns);
     };
-    let order = Order::of_run(alloc, first, loaded.machine.profile(), turns)?;
+    let order = Order::of_run(alloc, schedule.first, loaded.machine.profile(), turns)?;
     let end = steps_until(alloc, &loaded.machine, &order, until)?;
     Ok(end)
 }

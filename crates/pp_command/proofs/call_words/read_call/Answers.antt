@@ -29,7 +29,7 @@ pub returns-in-Some-found-clause-asked : goal.returns-in-Some-found-clause-asked
 returns-in-Some-found-clause-asked g c =
     let at = sym c.first.ensures.value ∙ sym c.copied.ensures ∙ c.in-Some.is in
     let asked = rw c.in-Some-found.is at c.in-Ok-asked_of.ensures.asked in record {
-      call = (c.in-Some.name.now, c.in-Ok.values.values);
+      call = (c.in-Some-command_named.help.form.now.kind, c.in-Ok.values.values);
       read = called c.args.words.now c.in-Some.name c.command_named.result c.in-Some-command_named.help (given c.in-Ok.values.values) at c.command_named.ensures c.in-Some-command_named.is c.in-Ok.ensures.values;
       asked = asked;
       named = rw c.given.ensures at c.named_file.ensures;

@@ -9,7 +9,7 @@ returns-in-Ok-true g c =
     let lines = c.in_ok-lines.lines.items in
     let held = sym c.in-Ok-true.field-0-test ∙ c.in-Ok-true.ensures.held in (
       _,
-      comes_to _ c.args.first.now c.args.until.now c.args.turns c.in_ok-turns.turns _ lines _ deck c.requires.meant c.in_ok-turns.ensures.ok c.in_ok-lines.ensures
+      comes_to _ c.args.schedule.now.first.now c.args.schedule.now.until c.args.turns c.in_ok-turns.turns _ lines _ deck c.requires.meant c.in_ok-turns.ensures.ok c.in_ok-lines.ensures
           (rw c.as_slice.ensures.value at held),
       rw c.as_slice.ensures.value at c.in-Ok-true.ensures.written,
     )
@@ -20,7 +20,7 @@ returns-in-Ok-false g c =
     let lines = c.in_ok-lines.lines.items in
     let held = sym c.in-Ok-false.field-0-test ∙ c.in-Ok-false.ensures.held in (
       _,
-      comes_to _ c.args.first.now c.args.until.now c.args.turns c.in_ok-turns.turns _ lines _ deck c.requires.meant c.in_ok-turns.ensures.ok c.in_ok-lines.ensures
+      comes_to _ c.args.schedule.now.first.now c.args.schedule.now.until c.args.turns c.in_ok-turns.turns _ lines _ deck c.requires.meant c.in_ok-turns.ensures.ok c.in_ok-lines.ensures
           (rw c.as_slice.ensures.value at held),
       rw c.as_slice.ensures.value at c.in-Ok-false.ensures.written,
     )
@@ -31,6 +31,6 @@ returns g c =
     let lines = c.in_ok-lines.lines.items in (
       _,
       _,
-      comes_to _ c.args.first.now c.args.until.now c.args.turns c.in_ok-turns.turns _ lines _ deck c.requires.meant c.in_ok-turns.ensures.ok c.in_ok-lines.ensures refl,
+      comes_to _ c.args.schedule.now.first.now c.args.schedule.now.until c.args.turns c.in_ok-turns.turns _ lines _ deck c.requires.meant c.in_ok-turns.ensures.ok c.in_ok-lines.ensures refl,
       rw c.as_slice.ensures.value at c.in-Err.ensures.fault,
     )

@@ -1,0 +1,20 @@
+/// What a command is for.
+#[derive(Clone, Copy)]
+pub(crate) enum CommandKind {
+    Barrel,
+    Threads,
+    List,
+    Lint,
+    Dump,
+    Steps,
+    State,
+    Ends,
+    Memory,
+    Central,
+    Sessions,
+    Races,
+    Orders,
+    Test,
+    Draw,
+    Check,
+}
