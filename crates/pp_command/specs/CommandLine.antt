@@ -89,21 +89,26 @@ with_commands app commands = fold (λ app command. with_subcommand app command.t
 -- the commands, in the order in which help lists them
 abbrev pub commands : List Command
 commands = steps Kind.Barrel (codes "barrel") []
-    ∷ command Kind.Threads (codes "threads") (number_option (codes "steps") ∷ number_option (codes "patience") ∷ processors_option ∷ [])
-    ∷ command Kind.List (codes "list") (processors_option ∷ []) ∷ command Kind.Lint (codes "lint") (processors_option ∷ [])
+    ∷ command Kind.Threads (codes "threads") (number_option (codes "steps")
+    ∷ number_option (codes "patience") ∷ processors_option ∷ [])
+    ∷ command Kind.List (codes "list") (processors_option ∷ [])
+    ∷ command Kind.Lint (codes "lint") (processors_option ∷ [])
     ∷ steps Kind.Dump (codes "dump") []
     ∷ steps Kind.Steps (codes "steps") (optional_value (codes "pp") ∷ optional_value (codes "ch")
     ∷ optional_value (codes "from") ∷ optional_value (codes "to")
     ∷ optional_value (codes "where") ∷ [])
     ∷ steps Kind.State (codes "state") [] ∷ turns Kind.Ends (codes "ends") []
-    ∷ steps Kind.Memory (codes "memory") (number_option (codes "pp") ∷ optional_value (codes "first")
+    ∷ steps Kind.Memory (codes "memory") (number_option (codes "pp")
+    ∷ optional_value (codes "first") ∷ optional_value (codes "last") ∷ [])
+    ∷ steps Kind.Central (codes "central") (optional_value (codes "first")
     ∷ optional_value (codes "last") ∷ [])
-    ∷ steps Kind.Central (codes "central") (optional_value (codes "first") ∷ optional_value (codes "last") ∷ [])
-    ∷ steps Kind.Sessions (codes "sessions") (flag_option (codes "words") ∷ []) ∷ steps Kind.Races (codes "races") []
+    ∷ steps Kind.Sessions (codes "sessions") (flag_option (codes "words") ∷ [])
+    ∷ steps Kind.Races (codes "races") []
     ∷ command Kind.Orders (codes "orders") (number_option (codes "states") ∷ processors_option ∷ [])
-    ∷ command Kind.Test (codes "test") (optional_value (codes "turns") ∷ flag_option (codes "every-order")
-    ∷ optional_value (codes "states") ∷ run_options)
-    ∷ steps Kind.Draw (codes "draw") (optional_value (codes "from") ∷ optional_value (codes "to") ∷ [])
+    ∷ command Kind.Test (codes "test") (optional_value (codes "turns")
+    ∷ flag_option (codes "every-order") ∷ optional_value (codes "states") ∷ run_options)
+    ∷ steps Kind.Draw (codes "draw") (optional_value (codes "from")
+    ∷ optional_value (codes "to") ∷ [])
     ∷ command Kind.Check (codes "check") (optional_value (codes "opened") ∷ []) ∷ []
 
 -- the command of this name
@@ -239,8 +244,8 @@ ReadsSteps profile turns value_of chosen =
     × ReadsTurn turns (value_of (codes "to")) chosen.to
     × ReadsCondition profile (value_of (codes "where")) chosen.condition
 
--- a command of this kind, with these values of its options, asks for this view of a run of this many
--- turns of a deck of this profile
+-- a command of this kind, with these values of its options, asks for this view of a run of this
+-- many turns of a deck of this profile
 abbrev pub AsksForView : CommandKind → (Text → Option Text) → Profile → ℕ → View → Type 0
 AsksForView kind _ _ _ View.Barrel = kind ≡ Kind.Barrel
 AsksForView kind _ _ _ View.Dump = kind ≡ Kind.Dump

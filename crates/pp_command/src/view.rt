@@ -33,8 +33,8 @@ pub struct ChosenSteps {
 pub enum View {
     /// Its events, and the processors named and the channels used at its end.
     Barrel,
-    /// The dump at its end: a deck to go on from. If a processor is within a block or at fault, or a
-    /// channel is active, there is none.
+    /// The dump at its end: a deck to go on from. If a processor is within a block or at fault, or
+    /// a channel is active, there is none.
     Dump,
     /// How things stand at its end: the processors in use, what differs from the load, and the
     /// channels.

@@ -11,8 +11,8 @@ use pp_machine::Profile;
 use std::alloc::Allocator;
 use std::io::{Read, Write};
 
-/// Reads a deck for a machine of this profile, and writes this text of it, of a run by this schedule.
-/// If a dump is asked for and there is none, nothing is written, and the answer is
+/// Reads a deck for a machine of this profile, and writes this text of it, of a run by this
+/// schedule. If a dump is asked for and there is none, nothing is written, and the answer is
 /// `NotBetweenPrograms`.
 pub fn deck_text<A: Allocator + Copy, R: Read, W: Write>(
     alloc: A,

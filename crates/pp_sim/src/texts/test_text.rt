@@ -20,8 +20,8 @@ use std::alloc::Allocator;
 use std::io::{Read, Write};
 
 /// Reads a deck for a machine of this profile, and writes the verdict by the expectations in it: on
-/// a run by this schedule, or over every order of steps. `Findings` if there are no expectations, if one failed, or if there
-/// may be more endings than were tested.
+/// a run by this schedule, or over every order of steps. `Findings` if there are no expectations,
+/// if one failed, or if there may be more endings than were tested.
 pub fn test_text<A: Allocator + Copy, R: Read, W: Write>(
     alloc: A,
     profile: Profile,
@@ -53,8 +53,8 @@ fn write_test<A: Allocator + Copy, W: Write>(
     requires meant { deck_meaning deck.now.profile deck.now.bytes.now
         ≡ Ok (record { machine = loaded.old.machine; named = loaded.old.named }) }
     requires short { length deck.now.bytes.now ≤ most_bytes }
-    ensures { IsTest deck.now.profile schedule.now.first.now schedule.now.until tested result deck.now.bytes.now
-        (W.contents writer.old) (W.contents writer.new) }
+    ensures { IsTest deck.now.profile schedule.now.first.now schedule.now.until tested result
+        deck.now.bytes.now (W.contents writer.old) (W.contents writer.new) }
 {
     match tested {
         Tested::Run(turns) => write_test_of_run(alloc, deck, loaded, writer, schedule, turns),
@@ -97,8 +97,9 @@ fn write_test_of_run<A: Allocator + Copy, W: Write>(
     requires meant { deck_meaning deck.now.profile deck.now.bytes.now
         ≡ Ok (record { machine = loaded.old.machine; named = loaded.old.named }) }
     requires short { length deck.now.bytes.now ≤ most_bytes }
-    ensures { IsTest deck.now.profile schedule.now.first.now schedule.now.until (Tested.Run turns) result
-        deck.now.bytes.now (W.contents writer.old) (W.contents writer.new) }
+    ensures { IsTest deck.now.profile schedule.now.first.now schedule.now.until
+        (Tested.Run turns) result deck.now.bytes.now
+        (W.contents writer.old) (W.contents writer.new) }
 {
     let turns = turns_of_run(alloc, loaded, schedule, turns)?;
     let lines = lines_to_judge(
