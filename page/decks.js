@@ -2,15 +2,16 @@
 // Each deck of a reader's own is kept in the browser's storage, so that opening another loses none.
 
 const MOST_BYTES = 1048577, MOST_IN_ADDRESS = 32768; // the first is one more than a deck may have
-const OWN = 'own ', STORED = 'ppsim deck ', MOST_OWN = 30; // before the number of a deck; decks kept
+const MOST_INSERTED = 100000, MOST_OWN = 30; // characters that undo takes back; decks kept
+const OWN = 'own ', STORED = 'ppsim deck '; // before the number of a deck
 
-let /** @type {Own[]} */ own = [], chosen = '', saving = 0, renewing = 0;
+let /** @type {Own[]} */ own = [], chosen = '', isLoading = false, saving = 0;
 const turn = () => $('turn').valueAsNumber, last = () => Number($('turn').max);
 /** The deck of one's own that is in the editor, if it is no example. */
 const mine = () => own.find(it => OWN + it.id === chosen);
 /** All decks that can be chosen, by name. */
 const decks = () => ({ ...EXAMPLES, ...Object.fromEntries(own.map(it => [OWN + it.id, it])) });
-const runShown = () => ({ deck: deckText, processors: processors(), turns: last(),
+const runShown = () => ({ deck: $('deck').value, processors: processors(), turns: last(),
   turn: turn(), view: view(), order: orderText(list) });
 
 function readStored() {
@@ -51,14 +52,20 @@ function listDecks() {
 
 /** Shows a deck. What stood in the editor stays among one's own, and undo brings it back too. */
 function load(/** @type {string} */ choice, /** @type {Run} */ run = decks()[choice]) {
-  const before = deckText, text = run.deck.replace(/\r\n?/g, '\n'); // as a field has it
+  const text = run.deck, editor = $('deck'), focused = document.activeElement;
   keepMine();
-  if (text !== before) {
-    change(0, before.length, text);
-    reveal(-1);
-    scroller().scrollTop = 0;
+  isLoading = true;
+  const length = Math.max(text.length, editor.value.length);
+  if (!editor.value || length > MOST_INSERTED) editor.value = text;
+  else if (editor.value !== text) {
+    editor.focus({ preventScroll: true });
+    editor.select();
+    if (!document.execCommand('insertText', false, text)) editor.value = text;
+    editor.setSelectionRange(0, 0);
+    editor.scrollTop = 0;
+    /** @type {HTMLElement | null} */ (focused)?.focus({ preventScroll: true });
   }
-  if (!before) states.splice(now = 0, states.length - 1);
+  isLoading = false;
   takeRun(choice, run);
 }
 
@@ -76,16 +83,14 @@ function takeRun(choice, { processors, order = '', turns, turn = turns, view }) 
 }
 
 /** The text in the editor is another; by undo it may be that of another deck. */
-function edited(isUndo = false) {
-  const all = decks(), same = isUndo && Object.keys(all).find(it => all[it].deck === deckText);
+function edited(/** @type {InputEvent} */ e) {
+  if (isLoading) return;
+  const isUndo = e.inputType?.startsWith('history'), all = decks();
+  const same = isUndo && Object.keys(all).find(it => all[it].deck === $('deck').value);
   if (same && same !== chosen) return takeRun(same, all[same]);
-  if (!mine()) {
-    chosen = adopt(runShown(), `my ${chosen}`);
-    listDecks();
-  }
-  if (lineCount <= MOST_WHOLE) return renew();
-  clearTimeout(renewing);
-  renewing = setTimeout(renew, REST);
+  if (!mine()) chosen = adopt(runShown(), `my ${chosen}`);
+  listDecks();
+  renew();
 }
 
 async function openFile(/** @type {File | undefined} */ file) {
@@ -95,7 +100,7 @@ async function openFile(/** @type {File | undefined} */ file) {
 }
 
 function saveFile() {
-  const href = `data:text/plain;charset=utf-8,${encodeURIComponent(deckText)}`;
+  const href = `data:text/plain;charset=utf-8,${encodeURIComponent($('deck').value)}`;
   make('a', { href, download: `${(mine()?.name ?? chosen).replaceAll(' ', '_')}.deck` }).click();
 }
 

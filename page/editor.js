@@ -1,41 +1,66 @@
 // ---- beside the lines of a deck, and of a trace: what is found in them, and what they do
 
 const ROW = 19, MOST_FOUND = 5000; // the height of a line in pixels; characters of what is found
-/** What the worker says of the lines of the deck; of the trace only one may be at fault. */
-let /** @type {string[]} */ beside = [], unlawful = { words: '', line: 0 };
+const /** @type {Record<string, Notes>} */ found = { deck: new Map(), trace: new Map() };
+/** The instructions that each line of the deck loads, as listed. */
+const /** @type {Map<number, Line[]>} */ instructions = new Map();
+let /** @type {Uint8Array | undefined} */ explained;
 
-/** Shows what is wrong in the deck, and what its lines do. */
-async function explain(/** @type {Answer} */ state) {
-  const asked = deck, { status, output, parts = [] } = await ask(['explain', ...machineWords()]);
-  if (deck !== asked || status === STOPPED) return;
-  const words = output.slice(0, MOST_FOUND).match(/^\d+:\d+ .*$/gm)?.join('\n');
-  $('fault').textContent = words ?? (state.status > 0 ? faultOf(state) : '');
-  $('deck').ariaInvalid = `${!!words}`;
-  beside = parts;
+/** Notes findings: each its words, and its line counted from 1. */
+function noteFound(/** @type {string} */ id, /** @type {Iterable<string[]>} */ findings) {
+  found[id] = new Map([...findings].map(([words, line]) => [Number(line) - 1, words]));
+  $(id).ariaInvalid = `${found[id].size > 0}`;
+  showRows(id);
 }
 
-/** Shows that a line of the trace is at fault, if one is: counted from 1. */
-function explainTrace(words = '', line = '0') {
-  unlawful = { words, line: Number(line) };
-  $('trace').ariaInvalid = `${!!words}`;
-  showRows('trace');
+/** Finds what is wrong in the deck, and what its lines do, but those at fault. */
+async function explain(/** @type {Answer} */ state, /** @type {Answer} */ { status, output }) {
+  const isFaulty = state.status !== 0, findings = [...output.matchAll(/^(\d+):\d+ .*$/gm)];
+  const words = findings.map(([words]) => words).join('\n').slice(0, MOST_FOUND);
+  $('fault').textContent = words || (state.status > 0 ? faultOf(state) : '');
+  if (explained === deck || status === STOPPED) return;
+  noteFound('deck', findings);
+  const lines = /** @type {string[]} */ ($('deck').value.split('\n'));
+  const sound = lines.map((it, n) => (isFaulty && found.deck.has(n) ? '' : it));
+  const input = isFaulty ? bytesOf(sound.join('\n')) : deck, lineOf = placesOf(sound), asked = deck;
+  const listing = await ask(['list', ...machineWords()], front, input);
+  if (listing.status === STOPPED || deck !== asked) return;
+  explained = deck;
+  instructions.clear();
+  for (const it of linesOf(listing.output)) {
+    const line = lineOf.get(it.place), does = it.text.split('* ')[1]?.trimEnd();
+    if (line === undefined || !does) continue;
+    instructions.set(line, [...instructions.get(line) ?? [], { ...it, text: does }]);
+  }
+}
+
+/** The line that sets each place, as `PP00 P=0105`. Of other lines the place is no number. */
+function placesOf(/** @type {string[]} */ lines) {
+  const /** @type {Map<string, number>} */ lineOf = new Map();
+  let section = '';
+  for (const [n, line] of lines.entries()) {
+    const [first = '', ...words] = line.replace(/(^|\s)\*.*/, '').trim().split(/\s+/);
+    if (first === 'PP') section = words[0]?.padStart(2, '0') ?? '';
+    const placeOf = (k = 0) => (parseInt(first, 8) + k).toString(8).padStart(4, '0');
+    for (const k of words.keys()) lineOf.set(`PP${section} P=${placeOf(k)}`, n);
+  }
+  return lineOf;
 }
 
 /** Shows what there is to say of the lines in sight. */
 function showRows(/** @type {string} */ id) {
-  const isDeck = id === 'deck', box = isDeck ? scroller() : $(id), rows = $(`${id}-rows`);
-  const count = isDeck ? lineCount : linesIn($(id).value), first = Math.floor(box.scrollTop / ROW);
-  const length = Math.min(count - first, Math.ceil(box.clientHeight / ROW) + 1);
-  rows.replaceChildren(...Array.from({ length }, (_, n) => rowBeside(isDeck, first + n)));
+  const box = $(id), rows = $(`${id}-rows`), count = box.value.split('\n').length;
+  const first = Math.floor(box.scrollTop / ROW), most = Math.ceil(box.clientHeight / ROW) + 1;
+  const length = Math.min(count - first, most);
+  rows.replaceChildren(...Array.from({ length }, (_, n) => rowBeside(id, first + n)));
   rows.parentElement.style.setProperty('--digits', `${count}`.length);
   rows.style.setProperty('--hidden', `${box.scrollTop % ROW}px`);
 }
 
 /** The number of a line, and its instructions: a click runs to there. */
-function rowBeside(/** @type {boolean} */ isDeck, /** @type {number} */ n) {
-  const /** @type {[string, ...Step[]]} */ [words, ...all] = isDeck ? JSON.parse(beside[n >> 6] ?? '[]')[n & 63] ?? []
-    : [n + 1 === unlawful.line ? unlawful.words : ''];
-  const lit = all.filter(it => runsAt(it.place)), goal = $('target').value;
+function rowBeside(/** @type {string} */ id, /** @type {number} */ n) {
+  const all = id === 'deck' ? instructions.get(n) ?? [] : [], words = found[id].get(n);
+  const lit = all.filter(({ place }) => runsAt(place)), goal = $('target').value;
   const marks = [words && 'bad', lit[0] && 'lit', all.some(it => it.place === goal) && 'stop'];
   const leadTo = (/** @type {string} */ tag, /** @type {object} */ more, place = '') =>
     make(tag, { ...more, onpointerdown: () => place && runTo(place) });

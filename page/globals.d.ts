@@ -4,7 +4,7 @@ declare const EXAMPLES: Record<string, Run & { title: string }>;
 declare const DecompressionStream: new (format: string) => ReadableWritablePair;
 
 /** What a command answers. */
-type Answer = { status: number, output: string, error: string, parts?: string[] };
+type Answer = { status: number, output: string, error: string };
 /** A deck, its machine, the length of its run, and which moment of it is shown, how. */
 type Run = { deck: string, processors: number, turns: number, turn?: number, order?: string,
   view?: string };
@@ -21,7 +21,7 @@ type View = { words: (turn: number) => string[], by?: ReturnType<typeof engine>,
 /** The drawing that is shown: the turns it has, how wide one is, and what stays in sight. */
 type Drawn = { answer: Answer, from: number, to: number, width: number, names: Element[],
   legend: Element };
-/** An instruction that a line of the deck loads. */
-type Step = { place: string, text: string };
+/** What is found in the lines of an editor, by their numbers from 0. */
+type Notes = Map<number, string>;
 /** A line of a text that leads to after a turn, or to a place: `PP00 P=0105`. */
 type Line = { text: string, at: number, place: string };

@@ -16,12 +16,12 @@ function showSoon() {
 async function show() {
   const it = ++shows, isOld = () => it !== shows, { before, by, input, also, paint } = VIEWS[view()];
   clearTimeout(saving);
-  const stands = ask(overRun('state', turn())), drawing = drawingWords(), picture = ask(drawing);
-  const state = await stands;
+  const stands = ask(overRun('state', turn())), lint = ask(['lint', ...machineWords()]);
+  const drawing = drawingWords(), picture = ask(drawing), state = await stands;
   if (isOld()) return;
   showHand(state);
   picture.then(it => { if (!isOld()) draw(drawing, it); });
-  await explain(state);
+  await explain(state, await lint);
   await before?.();
   if (isOld()) return;
   showRows('deck');
@@ -33,7 +33,7 @@ async function show() {
   const isWritten = status === 0 || output !== '';
   if (isOld()) return;
   const fault = faultOf(answer);
-  if (input) explainTrace(.../^line (\d+).*/.exec(fault) ?? []);
+  if (input) noteFound('trace', [...fault.matchAll(/^line (\d+).*/g)]);
   $('text').classList.toggle('bad', !isWritten);
   if (!isWritten) paintParts(`fault ${fault}`, () => [fault]);
   else if (paint) paint(answer, isOld);
@@ -42,8 +42,7 @@ async function show() {
 
 /** The deck, the machine or the length of the run has changed. */
 function renew() {
-  clearTimeout(renewing);
-  deck = bytesOf(deckText);
+  deck = bytesOf($('deck').value);
   forget();
   drawn = null;
   endings = [];
@@ -115,11 +114,9 @@ const DOES = {
       clearTimeout(choosing);
       choosing = setTimeout(load, it.matches(':focus-visible') ? 700 : 0, it.value);
     } },
-  keydown: { deck: typeKey }, keyup: { deck: keyUp },
-  beforeinput: { deck: beforeTyped }, copy: { deck: copyPart }, cut: { deck: copyPart },
-  input: { deck: takeInput, turn: showSoon, trace: showSoon, opened: showSoon,
+  input: { deck: edited, turn: showSoon, trace: showSoon, opened: showSoon,
     pp: showSoon, states: showSoon, left: showSoon, right: showSoon },
-  scroll: { deck: scrolled, sight: scrolled, trace: () => showRows('trace'),
+  scroll: { deck: () => showRows('deck'), trace: () => showRows('trace'),
     drawing: () => keepNames() },
   pointerdown: { drawing: drag }, pointermove: { drawing: drag },
   submit: { goal: () => runTo($('target').value.trim()) },
@@ -136,8 +133,8 @@ async function begin() {
   readStored();
   recall();
   Object.assign(window, { onkeydown: press, onhashchange: recall, onpagehide: remember,
-    onafterprint: () => keepNames(), onresize: scrolled,
-    onbeforeprint: () => { $('paper').textContent = deckText; keepNames(0); },
+    onafterprint: () => keepNames(), onresize: () => showRows('deck'),
+    onbeforeprint: () => { $('paper').textContent = $('deck').value; keepNames(0); },
     onsubmit: (/** @type {Event} */ e) => e.preventDefault(), ondragover: drop, ondrop: drop });
 }
 

@@ -201,7 +201,7 @@ async function paintCompared(_, isOld) {
 /** Shows how the run by turns meets what the deck expects; if it does, whether each ending does.
  * @type {Paint} */
 async function paintTest({ status, output }, isOld) {
-  const [task = ''] = /^(?:\*(?![=!]).*\n)+/.exec(deckText) ?? [];
+  const [task = ''] = /^(?:\*(?![=!]).*\n)+/.exec($('deck').value) ?? [];
   const every = status ? null : await ask(['test', '--every-order', ...statesWords()], back);
   if (isOld()) return;
   const text = every && `\nIn every order:\n${every.output || faultOf(every)}`;

@@ -11,7 +11,7 @@ const make = (tag, properties = {}, ...children) => {
 const buttonOf = (textContent = '', onclick = () => {}, title = '') =>
   make('button', { type: 'button', textContent, onclick, title });
 const bytesOf = (/** @type {string} */ text) => new TextEncoder().encode(text);
-const LAST_TURN = 999999, PATIENCE = 400, SIGN_AFTER = 200, REST = 700; // milliseconds
+const LAST_TURN = 999999, PATIENCE = 400, SIGN_AFTER = 200; // milliseconds
 const MOST_KEPT = 3e7, MOST_ANSWERS = 500; // characters of answers, and how many are kept
 const STOPPED = -1; // a status, beside those of the program
 

@@ -34,35 +34,7 @@ function run(words, input, megabytes = 4) {
   return { status, output: textOf(output), error: textOf(error) };
 }
 
-/** What lint says, and what stands beside each line: its words there, and the instructions that the line
- * loads, as listed; of a faulty deck those of its sound lines. Each part is the JSON of 64 lines. */
-function explain([, ...machine], input) {
-  const lint = run(['lint', ...machine], input), lines = new TextDecoder().decode(input).split('\n');
-  const listed = run(['list', ...machine], input), rows = lines.map(() => ['']), lineOf = new Map();
-  for (const [words, line] of lint.output.matchAll(/^(\d+):\d+ .*$/gm)) {
-    rows[line - 1] = [words];
-    if (listed.status !== 0) lines[line - 1] = '';
-  }
-  const sound = listed.status === 0 ? listed
-    : run(['list', ...machine], new TextEncoder().encode(lines.join('\n')));
-  let section = '';
-  const placeOf = at => `PP${section.padStart(2, '0')} P=${at.toString(8).padStart(4, '0')}`;
-  for (const [n, line] of lines.entries()) {
-    const [first, ...words] = line.replace(/(^|\s)\*.*/, '').trim().split(/\s+/);
-    if (first === 'PP') section = words[0] ?? '';
-    else if (first !== 'CM') words.forEach((_, k) => lineOf.set(placeOf(parseInt(first, 8) + k), n));
-  }
-  for (const [, pp, at, text] of sound.output.matchAll(/^(?:PP (\d+)$|(\d{4}) [^*\n]*\* (.*\S))/gm)) {
-    const place = placeOf(at ?? '');
-    if (pp) section = pp;
-    else rows[lineOf.get(place)]?.push({ place, text });
-  }
-  const parts = [];
-  for (let n = 0; n < rows.length; n += 64) parts.push(JSON.stringify(rows.slice(n, n + 64)));
-  return { ...lint, parts };
-}
-
 onmessage = ({ data: { module, words, input } }) => {
   if (module) library = module;
-  else postMessage(words[0] === 'explain' ? explain(words, input) : run(words, input));
+  else postMessage(run(words, input));
 };

@@ -63,8 +63,7 @@ async function chromium() {
     }
   });
   for (const domain of ['Page', 'Runtime', 'Log', 'Accessibility']) await send(`${domain}.enable`);
-  const codes = { ' ': 'Space', Enter: 'Enter' }, commands = { z: 'undo', y: 'redo', a: 'selectAll' };
-  const numbers = { Enter: 13, Backspace: 8, Delete: 46, Home: 36, End: 35, PageDown: 34, ArrowDown: 40 };
+  const codes = { ' ': 'Space', Enter: 'Enter' };
   return {
     name: 'Chromium', hasMedia: true, complaints, close,
     open: async url => {
@@ -91,8 +90,9 @@ async function chromium() {
       const code = codes[key] ?? (digit ? `Digit${key}` : key.length === 1 ? `Key${key.toUpperCase()}` : key);
       const text = ctrl || key.length > 1 && key !== 'Enter' ? undefined : key === 'Enter' ? '\r' : key;
       const asked = { key, code, modifiers, text,
-        windowsVirtualKeyCode: key.length > 1 ? numbers[key] : key.toUpperCase().charCodeAt(0),
-        ...(ctrl && commands[key] && { commands: [commands[key]] }) };
+        windowsVirtualKeyCode: key === 'Enter' ? 13 : key.toUpperCase().charCodeAt(0),
+        ...(ctrl && key === 'z' && { commands: ['undo'] }) };
+      if (key.length > 1 && key !== 'Enter') delete asked.windowsVirtualKeyCode;
       await send('Input.dispatchKeyEvent', { type: text ? 'keyDown' : 'rawKeyDown', ...asked });
       await send('Input.dispatchKeyEvent', { type: 'keyUp', ...asked, text: undefined });
     },
@@ -128,8 +128,7 @@ async function firefox() {
   await send('session.subscribe', { events: ['log.entryAdded'] });
   const { contexts: [{ context }] } = await send('browsingContext.getTree');
   const keys = { ArrowLeft: '\uE012', ArrowRight: '\uE014', Home: '\uE011', End: '\uE010',
-    Enter: '\uE006', Tab: '\uE004', Backspace: '\uE003', Delete: '\uE017', ArrowDown: '\uE015',
-    PageDown: '\uE00F' };
+    Enter: '\uE006', Tab: '\uE004' };
   const act = (type, actions) => send('input.performActions', { context,
     actions: [{ type, id: type, actions }] });
   const strokes = key => ['keyDown', 'keyUp'].map(type => ({ type, value: keys[key] ?? key }));
