@@ -1,5 +1,5 @@
-//! What is known of an instruction whatever its processor holds. d is the lower six bits of its word,
-//! m its second word.
+//! What is known of an instruction whatever its processor holds. d is the lower six bits of its
+//! word, m its second word.
 
 ghost use Rattle.std.specs.Prelude.{◌≡◌, ℕ, None, Some};
 ghost use Rattle.pp_processor.specs.Effect.{faults};
