@@ -65,9 +65,6 @@ module _ (pp : Processor) (MayStore : ℕ → Type 0) (P : Processor → Type 0)
     branches : (test : Bool) → P (branches_where test pp 2)
     branches test = either P test (verbs.goes_to (second_word pp)) (verbs.loads pp.a 2 (omega arith) (omega arith))
 
-    loads : (a n : ℕ) → 0 < n → n < 3 → P (record pp { a = a; p = place_after pp.p n })
-    loads a n some few = verbs.loads a n some few
-
     -- the eight operations on the word at a place
     operates : (code place n : ℕ) → MayStore place → 0 < n → n < 3 → P (slice_index_or memory_operations (code % 8) loads_word pp place n)
     operates code place n may some few =

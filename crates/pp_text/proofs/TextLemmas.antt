@@ -1,5 +1,5 @@
 -- Steps of what prints.
-use Rattle.std.proofs.Common.{◌≡◌, ◌≢◌, ℕ, ◌-◌, ◌/◌, ◌%◌, ◌^◌, ◌<◌, zero, suc, List, [], ◌∷◌, ◌++◌, None, get_or, slice_get, refl, append_assoc, arith, codes}
+use Rattle.std.proofs.Common.{◌≡◌, ◌≢◌, ℕ, ◌-◌, ◌/◌, ◌%◌, ◌^◌, ◌<◌, zero, suc, List, [], ◌∷◌, ◌++◌, refl, append_assoc, arith, codes}
 use Rattle.pp_channel.specs.Answer.{flags_of}
 use Rattle.pp_channel.specs.declared.{chan_op.ChanOp.ChanOp, flags.Flags.Flags}
 use Rattle.pp_machine.specs.MachineState.{MachineState, history_of, processor_of}
@@ -24,12 +24,6 @@ pub event_line_in_pieces : (upper heading tail : List ℕ) (e : Trace) → upper
     → (upper ++ heading) ++ tail ≡ event_line e
 unfolding event_line decimal
 event_line_in_pieces upper heading tail e u h t = rw (u, h, t) (simp append_assoc)
-
--- past the end of central memory stands nothing
-pub no_central_word : (central : List ℕ) (a : ℕ) → None ≡ slice_get central a → get_or central a 0 ≡ 0
-no_central_word [] a e = refl
-no_central_word (w ∷ ws) zero e = absurd (cc)
-no_central_word (w ∷ ws) (suc a) e = no_central_word ws a e
 
 -- the text of a channel that holds a processor
 pub held_is : (n c : ℕ) (op : ChanOp) (m : MachineState) (count : ℕ) (flags : Flags) → need (processor_of n m) ≡ Channel c op → step_outcome n m ≡ Held → flags ≡ flags_of (history_of c m)
