@@ -45,32 +45,45 @@ pub fn text_of_endings<A: Allocator + Copy>(
     let found = find_endings(alloc, &load.machine, states)?;
     load.machine.is_sound();
     let before = BareMachine::of(alloc, &load.machine)?;
+    let source = Source {
+        alloc,
+        profile,
+        bytes,
+        load,
+        before: &before,
+    };
     let mut text = Vec::new(alloc);
-    write_found(&mut text, alloc, profile, bytes, load, &before, &found)?;
+    write_found(&mut text, &source, &found)?;
     Ok(text)
+}
+
+/// What each ending is shown from: a deck, by its bytes and loaded, and its machine at the load.
+#[derive(Drop)]
+struct Source<'a, A: Allocator> {
+    alloc: A,
+    profile: Profile,
+    bytes: &'a [u8],
+    load: &'a Deck<A>,
+    before: &'a BareMachine<A>,
 }
 
 /// Writes the text of the endings that were found.
 fn write_found<W: Write, A: Allocator + Copy>(
     writer: &mut W,
-    alloc: A,
-    profile: Profile,
-    bytes: &[u8],
-    load: &Deck<A>,
-    before: &BareMachine<A>,
+    source: &Source<A>,
     found: &Endings<A>,
 ) -> Result<(), Memory>
-    requires meant { deck_meaning profile bytes.now
-        ≡ Ok (record { machine = load.now.machine; named = load.now.named }) }
-    requires stands { StandsFor before.now load.now.machine }
+    requires meant { deck_meaning source.now.profile source.now.bytes.now
+        ≡ Ok (record { machine = source.now.load.now.machine; named = source.now.load.now.named }) }
+    requires stands { StandsFor source.now.before.now source.now.load.now.machine }
     ensures { OnOk result (Appends (W.contents writer.old) (W.contents writer.new) (endings_text
-        (record { machine = load.now.machine; named = load.now.named })
+        (record { machine = source.now.load.now.machine; named = source.now.load.now.named })
         (orders_of found.now) (going_in found.now) (not found.now.are_all))) }
 {
     let mut text = TextWriter::new(writer);
     let endings = found.endings.as_slice();
     print_head(&mut text, endings.len(), !found.are_all);
-    print_endings(&mut text, alloc, profile, bytes, load, before, endings)?;
+    print_endings(&mut text, source, endings)?;
     text.finish().map_err(|_| Memory)
 }
 
@@ -89,23 +102,22 @@ fn print_head<W: Write>(text: &mut TextWriter<W>, count: usize, more: bool)
 /// Prints each of some endings.
 fn print_endings<W: Write, A: Allocator + Copy>(
     text: &mut TextWriter<W>,
-    alloc: A,
-    profile: Profile,
-    bytes: &[u8],
-    load: &Deck<A>,
-    before: &BareMachine<A>,
+    source: &Source<A>,
     endings: &[Ending<A>],
 ) -> Result<(), Memory>
-    requires meant { deck_meaning profile bytes.now
-        ≡ Ok (record { machine = load.now.machine; named = load.now.named }) }
-    requires stands { StandsFor before.now load.now.machine }
+    requires meant { deck_meaning source.now.profile source.now.bytes.now
+        ≡ Ok (record { machine = source.now.load.now.machine; named = source.now.load.now.named }) }
+    requires stands { StandsFor source.now.before.now source.now.load.now.machine }
     ensures { OnOk result (Prints W.contents text.old text.new (each_below (length endings.now)
-        (ending_at (record { machine = load.now.machine; named = load.now.named })
+        (ending_at (record {
+          machine = source.now.load.now.machine;
+          named = source.now.load.now.named;
+        })
         (map (λ ending. ending.order.items) endings.now)
         (map (λ ending. ending.goes_on) endings.now)))) }
 {
     for ending in endings {
-        print_ending(text, alloc, profile, bytes, load, before, ending)?;
+        print_ending(text, source, ending)?;
     }
     Ok(())
 }
@@ -114,28 +126,29 @@ fn print_endings<W: Write, A: Allocator + Copy>(
 #[tactic(auto, unfolding(crate::specs::EndingsText::ending_text))]
 fn print_ending<W: Write, A: Allocator + Copy>(
     text: &mut TextWriter<W>,
-    alloc: A,
-    profile: Profile,
-    bytes: &[u8],
-    load: &Deck<A>,
-    before: &BareMachine<A>,
+    source: &Source<A>,
     ending: &Ending<A>,
 ) -> Result<(), Memory>
-    requires meant { deck_meaning profile bytes.now
-        ≡ Ok (record { machine = load.now.machine; named = load.now.named }) }
-    requires stands { StandsFor before.now load.now.machine }
+    requires meant { deck_meaning source.now.profile source.now.bytes.now
+        ≡ Ok (record { machine = source.now.load.now.machine; named = source.now.load.now.named }) }
+    requires stands { StandsFor source.now.before.now source.now.load.now.machine }
     ensures { OnOk result (Prints W.contents text.old text.new (ending_text
-        (record { machine = load.now.machine; named = load.now.named })
+        (record { machine = source.now.load.now.machine; named = source.now.load.now.named })
         ending.now.order.items ending.now.goes_on)) }
 {
-    let after = load_after(alloc, profile, bytes, ending.order.as_slice())?;
+    let after = load_after(
+        source.alloc,
+        source.profile,
+        source.bytes,
+        ending.order.as_slice(),
+    )?;
     print_order_line(text, ending.order.as_slice());
     let lines = GoingLines {
         machine: &after.machine,
         going: &ending.goes_on,
     };
-    print_each_named(text, &load.in_use(), &lines);
-    print_changes(text, before, &after.machine);
+    print_each_named(text, &source.load.in_use(), &lines);
+    print_changes(text, source.before, &after.machine);
     Ok(())
 }
 

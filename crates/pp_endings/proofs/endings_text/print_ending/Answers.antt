@@ -13,7 +13,7 @@ use Rattle.pp_endings.proofs.endings_text.print_ending.Goals as goal
 pub returns : goal.returns
 unfolding ending_text
 returns g c =
-    let deck : LoadedDeck = record { machine = c.args.load.now.machine; named = c.args.load.now.named } in
+    let deck : LoadedDeck = record { machine = c.args.source.now.load.now.machine; named = c.args.source.now.load.now.named } in
     let order = c.args.ending.now.order.items in
     let going = c.args.ending.now.goes_on in
     let after = c.in_ok-after.after.machine in

@@ -11,7 +11,7 @@ loop-ending-init g c = rw (each_below_zero _) (prints_nothing _ _)
 
 pub loop-ending-preserved : goal.loop-ending-preserved
 loop-ending-preserved g c =
-    let deck : LoadedDeck = record { machine = c.args.load.now.machine; named = c.args.load.now.named } in
+    let deck : LoadedDeck = record { machine = c.args.source.now.load.now.machine; named = c.args.source.now.load.now.named } in
     let endings = c.args.endings.now in
     let at = ending_at deck (map (λ ending. ending.order.items) endings) (map (λ ending. ending.goes_on) endings) in
     let told : Prints g.W.Write.contents c.loop-ending.text c.print_ending.new.text (at c.loop-ending.ending-index) =

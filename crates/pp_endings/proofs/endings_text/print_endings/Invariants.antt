@@ -6,5 +6,5 @@ use Rattle.pp_endings.proofs.endings_text.print_endings.Given as goal
 
 abbrev pub invariant-loop-ending : goal.invariant-loop-ending
 invariant-loop-ending g l = Prints g.W.Write.contents l.fn.text l.text (each_below l.ending-index
-    (ending_at (record { machine = l.load.machine; named = l.load.named })
+    (ending_at (record { machine = l.source.load.now.machine; named = l.source.load.now.named })
     (map (λ ending. ending.order.items) l.endings) (map (λ ending. ending.goes_on) l.endings)))
