@@ -56,7 +56,7 @@ pub record HasEnded {A : Type 0} (size steps : ℕ) (family : LineState) (load :
 
 -- a worker has begun with this processor and one of these lines
 abbrev pub HasBegun : {A : Type 0} → Processor → ℕ → ℕ → LineState → Begun A → Type 0
-HasBegun load size steps family (Begun.Here line) = IsSplitFrom family (2 * steps + 1) line
+HasBegun load size steps family (Begun.Here number line) = IsSplitFrom family (2 * steps + 1) line
 HasBegun load size steps family (Begun.Apart child) =
     IsSplitFrom family (2 * steps + 1) child.promise.line.value
     × (child.promise.load.value ≡ load) × (child.promise.site.value.size ≡ size)

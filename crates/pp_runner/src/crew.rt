@@ -41,8 +41,8 @@ impl<A: Allocator> Promise<(Ended<A>, Line<A>)> for EndOf<A> {
 /// A worker that has begun.
 #[derive(Drop)]
 enum Begun<A: Allocator> {
-    /// In this thread, which has yet to run it, on this line.
-    Here(Line<A>),
+    /// In this thread, which has yet to run it, with this number, on this line.
+    Here(PpNo, Line<A>),
     /// In a thread of its own.
     Apart(PromisedHandle<(Ended<A>, Line<A>), EndOf<A>>),
 }
@@ -58,15 +58,15 @@ fn begin<'s, 'e: 's, G: Gate + Sync, A: Allocator + Copy + Send + Sync>(
     gate: &'e G,
     number: PpNo,
     load: &'e Pp,
-    family: &Line<A>,
     line: Line<A>,
 ) -> Result<Begun<A>, RunFault>
-    requires fresh { IsSplitFrom family.now (2 * site.now.limits.steps + 1) line }
-    requires central { length family.now.view.central ≡ site.now.size }
-    ensures { IfOk result (HasBegun load.now site.now.size site.now.limits.steps family.now) }
+    requires fresh { IsSplitFrom site.now.family.value (2 * site.now.limits.steps + 1) line }
+    requires central { length site.now.family.value.view.central ≡ site.now.size }
+    ensures { IfOk result
+        (HasBegun load.now site.now.size site.now.limits.steps site.now.family.value) }
 {
     if number.index() == 0 || !matches!(load.state(), PpState::Running) {
-        return Ok(Begun::Here(line));
+        return Ok(Begun::Here(number, line));
     }
     let promise = EndOf {
         load: Snapshot::of(load),
@@ -90,21 +90,21 @@ fn finish<R: Threads, G: Gate, A: Allocator + Copy>(
     rt: &R,
     site: &Site<A>,
     gate: &G,
-    number: PpNo,
     load: &Pp,
-    family: &Line<A>,
     begun: Begun<A>,
     others: Result<Crew<A>, RunFault>,
 ) -> Result<Crew<A>, RunFault>
-    requires begun { HasBegun load.now site.now.size site.now.limits.steps family.now begun }
-    requires central { length family.now.view.central ≡ site.now.size }
+    requires begun { HasBegun load.now site.now.size site.now.limits.steps
+        site.now.family.value begun }
+    requires central { length site.now.family.value.view.central ≡ site.now.size }
     ensures { (loads : List Processor) → IfOk others (λ crew. AllZip
-        (HasEnded site.now.size site.now.limits.steps family.now) loads crew.items)
-        → IfOk result (λ crew. AllZip (HasEnded site.now.size site.now.limits.steps family.now)
+        (HasEnded site.now.size site.now.limits.steps site.now.family.value) loads crew.items)
+        → IfOk result (λ crew. AllZip
+        (HasEnded site.now.size site.now.limits.steps site.now.family.value)
         (loads ++ load.now ∷ []) crew.items) }
 {
     let last = match begun {
-        Begun::Here(line) => work(site, gate, number, load, line),
+        Begun::Here(number, line) => work(site, gate, number, load, line),
         Begun::Apart(child) => child.join(rt),
     };
     let mut crew = others?;
@@ -119,11 +119,12 @@ fn run_lines<'s, 'e: 's, R: Threads, G: Gate + Sync, A: Allocator + Copy + Send 
     site: &'e Site<A>,
     gate: &'e G,
     machine: &'e Machine<A>,
-    family: &Line<A>,
     mut lines: Vec<Line<A>, A>,
 ) -> Result<Crew<A>, RunFault>
-    requires { AreReady machine.now site.now.size site.now.limits.steps family.now lines.items }
-    ensures { IfOk result (λ crew. AllZip (HasEnded site.now.size site.now.limits.steps family.now)
+    requires { AreReady machine.now site.now.size site.now.limits.steps site.now.family.value
+        lines.items }
+    ensures { IfOk result (λ crew. AllZip
+        (HasEnded site.now.size site.now.limits.steps site.now.family.value)
         (take (vec_len lines) machine.now.processors) crew.items) }
 {
     let Some(line) = lines.pop() else {
@@ -131,9 +132,9 @@ fn run_lines<'s, 'e: 's, R: Threads, G: Gate + Sync, A: Allocator + Copy + Send 
     };
     let number = PpNo::at(lines.len());
     let load = machine.pp(number);
-    let begun = begin(scope, site, gate, number, load, family, line)?;
-    let others = run_lines(rt, scope, site, gate, machine, family, lines);
-    finish(rt, site, gate, number, load, family, begun, others)
+    let begun = begin(scope, site, gate, number, load, line)?;
+    let others = run_lines(rt, scope, site, gate, machine, lines);
+    finish(rt, site, gate, load, begun, others)
 }
 
 /// Runs the workers of the barrel's first processors at once, one on each line.
@@ -142,11 +143,12 @@ pub fn run_crew<R: Threads + Wait, G: Gate + Sync, A: Allocator + Copy + Send + 
     site: &Site<A>,
     gate: &G,
     machine: &Machine<A>,
-    family: &Line<A>,
     lines: Vec<Line<A>, A>,
 ) -> Result<Crew<A>, RunFault>
-    requires { AreReady machine.now site.now.size site.now.limits.steps family.now lines.items }
-    ensures { IfOk result (λ crew. AllZip (HasEnded site.now.size site.now.limits.steps family.now)
+    requires { AreReady machine.now site.now.size site.now.limits.steps site.now.family.value
+        lines.items }
+    ensures { IfOk result (λ crew. AllZip
+        (HasEnded site.now.size site.now.limits.steps site.now.family.value)
         (take (vec_len lines) machine.now.processors) crew.items) }
 {
     thread::scope(
@@ -155,10 +157,11 @@ pub fn run_crew<R: Threads + Wait, G: Gate + Sync, A: Allocator + Copy + Send + 
         |scope| -> Result<Crew<A>, RunFault>
             requires { IsSync G.row × IsSend A.row × IsSync A.row
                 × Frees A.Allocator A.dealloc_token × AreReady machine.now site.now.size
-                site.now.limits.steps family.now lines.items }
+                site.now.limits.steps site.now.family.value lines.items }
             ensures { IfOk result (λ crew. AllZip
-                (HasEnded site.entry.now.size site.entry.now.limits.steps family.entry.now)
+                (HasEnded site.entry.now.size site.entry.now.limits.steps
+                site.entry.now.family.value)
                 (take (vec_len lines) machine.entry.now.processors) crew.items) }
-        { run_lines(rt, scope, site, gate, machine, family, lines) },
+        { run_lines(rt, scope, site, gate, machine, lines) },
     )
 }

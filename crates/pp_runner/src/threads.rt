@@ -17,6 +17,7 @@ use pp_line::{Closed, Line};
 use pp_machine::Machine;
 use pp_numbers::Limits;
 use std::alloc::Allocator;
+use std::snapshot::Snapshot;
 use std::sync::Wait;
 use std::thread::Threads;
 
@@ -60,15 +61,16 @@ pub fn run_threads<R: Threads + Wait + Sync, G: Gate + Sync, A: Allocator + Copy
     ensures { IfOk result (λ report. IsReportOf limits machine.now report) }
 {
     machine.is_sound();
+    // Two entries an answer at most, and a look at which the worker gives up.
+    let (first, lines) = open_family(alloc, machine, 2 * limits.steps() + 1)?;
     let site = Site {
         alloc,
         size: machine.central().size(),
         limits,
+        family: Snapshot::of(&first),
         spinning: Spinning::of_run(rt),
     };
-    // Two entries an answer at most, and a look at which the worker gives up.
-    let (first, lines) = open_family(alloc, machine, 2 * limits.steps() + 1)?;
-    let crew = run_crew(rt, &site, gate, machine, &first, lines)?;
+    let crew = run_crew(rt, &site, gate, machine, lines)?;
     // The events of the line that opened channels stand in no worker's log.
     let Closed { logs, channels } = first.close_with(crew)?;
     Ok(Report {

@@ -14,11 +14,6 @@ use std::test::Fail;
 use std::thread::Threads;
 use test_bench::{BLOCK, Rationed, channel, first};
 
-/// A processor that waits for one that was refused memory gives up.
-fn limits() -> Result<Limits, Fail> {
-    Ok(Limits::new(100, 1000).ok_or("no limits")?)
-}
-
 /// How many workers of a report ended for lack of memory; nothing if the processor of one is not
 /// that of its load after its answers.
 fn out_of_memory<A: Allocator>(machine: &Machine<A>, report: &Report<A>) -> Option<usize> {
@@ -39,13 +34,13 @@ fn out_of_memory<A: Allocator>(machine: &Machine<A>, report: &Report<A>) -> Opti
 }
 
 /// Loads a deck and runs it: how many workers ended for lack of memory, and how many events a
-/// channel had; or nothing if it was refused memory.
+/// channel had; or nothing if it was refused memory. A processor that waits for one that was gives
+/// up.
 fn run_deck<R: Threads + Wait + Sync, G: Gate + Sync, A: Allocator + Copy + Send + Sync>(
     rt: &R,
     gate: &G,
     alloc: A,
     profile: Profile,
-    limits: Limits,
     text: &str,
     channel: ChannelNo,
 ) -> Option<(Option<usize>, usize)>
@@ -57,6 +52,7 @@ fn run_deck<R: Threads + Wait + Sync, G: Gate + Sync, A: Allocator + Copy + Send
     if !deck.machine.events().is_empty() {
         return None;
     }
+    let limits = Limits::new(100, 1000)?;
     let Ok(report) = run_threads(rt, alloc, &deck.machine, limits, gate) else {
         return None;
     };
@@ -107,11 +103,10 @@ fn run_with_little<R: Threads + Wait + Sync>(
     rt: &R,
     heap: &Rationed<Global>,
     profile: Profile,
-    limits: Limits,
     text: &str,
     channel: ChannelNo,
 ) -> Option<bool> {
-    match run_deck(rt, &NoGate, heap, profile, limits, text, channel)? {
+    match run_deck(rt, &NoGate, heap, profile, text, channel)? {
         (Some(0), events) => Some(events > 0),
         (Some(_), _) => None,
         (None, _) => Some(false),
@@ -121,13 +116,10 @@ fn run_with_little<R: Threads + Wait + Sync>(
 /// Each deck is run with each request refused in turn, up to a run without a refusal.
 #[test]
 fn runs_refused(rt: HostRuntime) -> Result<(), Fail> {
-    let limits = limits()?;
     for (profile, text, number) in DECKS {
         let channel = channel(number)?;
         let heap = Rationed::new(rt.alloc());
-        let last = heap.refuse_each(|_| run_with_little(
-            &rt, &heap, profile, limits, text, channel,
-        ));
+        let last = heap.refuse_each(|_| run_with_little(&rt, &heap, profile, text, channel));
         assert!(rt; last > Some(15), "lines, logs and answers grow");
     }
     Ok(())

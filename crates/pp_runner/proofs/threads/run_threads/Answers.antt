@@ -31,7 +31,7 @@ close_with-requires g c =
     let many = c.in_ok-first.ensures.each_processor in
     let loads = take (vec_len c.in_ok-first.lines) c.args.machine.now.processors in
     let crew = c.in_ok-crew.crew.items in
-    let ended = c.in_ok-crew.ensures in
+    let ended = rw c.of.ensures at c.in_ok-crew.ensures in
     let few = most_processors c.args.machine.now.profile in
     let each : length loads ≡ vec_len c.in_ok-first.lines = length-take-le (vec_len c.in_ok-first.lines) c.args.machine.now.processors (omega (arith, c.is_sound.ensures.processors, few, many)) in
     let shares = ended_shares c.size.result steps first loads crew first ended in (
@@ -57,7 +57,7 @@ returns g c =
     let logs = c.in_ok-logs.field-0.logs.items in
     let ws = map worker_of logs in
     let channels = c.in_ok-logs.field-0.channels in
-    let ended = c.in_ok-crew.ensures in
+    let ended = rw c.of.ensures at c.in_ok-crew.ensures in
     let closed = c.in_ok-logs.ensures.channels in
     let few = most_processors p in
     let each : length loads ≡ vec_len c.in_ok-first.lines = length-take-le (vec_len c.in_ok-first.lines) processors (omega (arith, c.is_sound.ensures.processors, few, many)) in
@@ -101,6 +101,6 @@ pub run_crew-requires-after_bounds : goal.run_crew-requires-after_bounds
 run_crew-requires-after_bounds g c κs within = record {
   each = c.is_sound.ensures.processors;
   count = let most = most_processors c.args.machine.now.profile in omega (arith, most, c.in_ok-first.ensures.each_processor, c.in_ok-first.lines.ok.0);
-  central = ap length c.in_ok-first.ensures.first.central ∙ sym (c.size.ensures.value ∙ ap length c.central.ensures);
-  fresh = subst (λ (steps : ℕ). All (IsSplitFrom c.in_ok-first.first (2 * steps + 1)) c.in_ok-first.lines.items) c.steps.ensures.value c.in_ok-first.ensures.fresh;
+  central = ap (λ (l : LineState). length l.view.central) c.of.ensures ∙ ap length c.in_ok-first.ensures.first.central ∙ sym (c.size.ensures.value ∙ ap length c.central.ensures);
+  fresh = rw c.of.ensures (subst (λ (steps : ℕ). All (IsSplitFrom c.in_ok-first.first (2 * steps + 1)) c.in_ok-first.lines.items) c.steps.ensures.value c.in_ok-first.ensures.fresh);
 }
