@@ -32,6 +32,21 @@ macro_rules! four_example {
     };
 }
 
+/// A text with a paragraph in it that says what the faults of a processor are.
+macro_rules! with_faults {
+    ($before:literal $(, $after:literal)?) => {
+        concat!(
+            $before,
+            "
+
+FAULT 1 is an exchange jump and FAULT 2 a read of the central program address (there is no central
+processor); FAULT 3 is a channel that the machine does not have, and FAULT 4 an address past the end
+of central memory.",
+            $("\n\n", $after)?
+        )
+    };
+}
+
 /// An option, and whether its command needs it.
 macro_rules! option {
     (required: $required:literal, $name:literal, $value:expr) => {
@@ -49,7 +64,7 @@ macro_rules! command {
         kind: $kind:expr,
         name: $name:literal,
         about: $about:literal,
-        long_about: $long_about:literal,
+        long_about: $long_about:expr,
         example: $example:expr,
         options: $options:expr,
     ) => {
@@ -71,3 +86,4 @@ pub(crate) use example;
 pub(crate) use four_example;
 pub(crate) use handoff_example;
 pub(crate) use option;
+pub(crate) use with_faults;

@@ -3,7 +3,7 @@
 use crate::command::ValueForm::{Flag, Number, Text};
 use crate::command::{CommandForm, CommandHelp, OptionForm};
 use crate::command_kind::CommandKind;
-use crate::command_macros::{command, example, four_example, handoff_example, option};
+use crate::command_macros::{command, example, four_example, handoff_example, option, with_faults};
 use crate::number_range::{DRAWN_FROM, FROM, PATIENCE, STATES, STEPS, TO, TURNS};
 use crate::run_options::{
     FIRST_OPTION, ORDER_OPTION, PROCESSORS_OPTION, RUN_OPTIONS, TIMES_OPTION, TURNS_OPTION,
@@ -57,20 +57,15 @@ pub(crate) const COMMANDS: [CommandHelp; 16] = [
         kind: CommandKind::Barrel,
         name: "barrel",
         about: "Runs a deck in the barrel, one step a turn, and prints what happened",
-        long_about: "\
+        long_about: with_faults!("\
 Runs a deck in the barrel: processors 0, 1, .. and 11 (octal) take one step a turn, again and again;
 of twenty processors, 20, 21, .. and 31 follow them in each round.
 
 Reads the deck from FILE or standard input. Prints to standard output a line for each channel event,
 in order; the P, the A and the state of each processor that the deck names; and the state of each
-channel that has a history. What goes wrong is one line on standard error.
-
-FAULT 1 is an exchange jump and FAULT 2 a read of the central program address (there is no central
-processor); FAULT 3 is a channel that the machine does not have, and FAULT 4 an address past the end
-of central memory.
-
+channel that has a history. What goes wrong is one line on standard error.", "\
 Where the deck has a line DEAD, the processors without a section wait for their programs, each on
-the channel of its own number, as at a dead start.",
+the channel of its own number, as at a dead start."),
         example: EXAMPLE,
         options: RUN_OPTIONS,
     },
@@ -78,7 +73,7 @@ the channel of its own number, as at a dead start.",
         kind: CommandKind::Threads,
         name: "threads",
         about: "Runs a deck with one thread per processor, and prints what happened",
-        long_about: "\
+        long_about: with_faults!("\
 Runs a deck with one thread per processor, all at once. Each goes on at its own speed, so the
 order of events on different channels, and sometimes the events themselves, differ from run to run.
 
@@ -87,18 +82,13 @@ channel has held one step too often in a row (PATIENCE). 1000000 is a good patie
 that waits for ever makes all these tries: on idle cores in about 0.1 seconds, and in minutes at
 the greatest patience; beside other programs it takes many times as long.
 It also ends where it is refused memory for one more answer (MEMORY), and where a channel has had
-2^50 - 1 events (WORN).
-
-FAULT 1 is an exchange jump and FAULT 2 a read of the central program address (there is no central
-processor); FAULT 3 is a channel that the machine does not have, and FAULT 4 an address past the end
-of central memory.
-
+2^50 - 1 events (WORN).", "\
 Reads the deck from FILE or standard input. Prints to standard output, channel by channel, a line
 for each event in order; the P, the A and the end of each processor that the deck names; and the
 state of each channel that has a history. What goes wrong is one line on standard error.
 
 Where the deck has a line DEAD, the processors without a section wait for their programs, each on
-the channel of its own number, as at a dead start.",
+the channel of its own number, as at a dead start."),
         example: handoff_example!("threads --steps 100 --patience 1000000"),
         options: &[
             option!(required: true, "steps", Number(STEPS)),
@@ -132,10 +122,11 @@ Prints what is wrong in a deck, by line and column. Nothing is run.
 
 Reads the deck from FILE or standard input. Prints to standard output a line for each fault, as in
 '2:11 wrong digits: 1603,3450': its line and its column (decimal, from 1), what is wrong, and the
-field that is; and for each instruction that is another than the comment of its line says, as in
-'5:29 UJN 0205, but 0373 is UJN 0204', both; or 'nothing found'. After a fault it goes on with the
-next line, so that all of them are printed. The exit status is 1 if something is found. What else
-goes wrong is one line on standard error.",
+field that is. After a fault it goes on with the next line, so that all of them are printed. Other
+lines point at what is set twice or lacking, at instructions that fault wherever they are run, at
+channels that one processor alone uses, and at comments that name another instruction than their
+line has, as in '5:29 UJN 0205, but 0373 is UJN 0204'. If there is none, 'nothing found' is printed.
+The exit status is 1 if something is found. What else goes wrong is one line on standard error.",
         example: example!("lint", "comma.deck", "  PP 0
   0100 1405 1603,3450 0300
   START 0100"),
@@ -161,7 +152,7 @@ and the first of these is told on standard error. Any other fault is one line th
         kind: CommandKind::Steps,
         name: "steps",
         about: "Runs a deck in the barrel, and prints each step",
-        long_about: "\
+        long_about: with_faults!("\
 Runs a deck in the barrel, and prints each step: what the instruction is, and what it did.
 
 Reads the deck from FILE or standard input. Prints to standard output a line for each step of the
@@ -171,11 +162,7 @@ central word that the step changed; the channel event, or the flags that were se
 FAULT with its number. Steps of a processor that are held in a row, with the same flags, are one
 line, at the first of them: HELD, the channel with its flags, and how many there are. With --pp,
 --ch, --from or --to only the steps chosen are printed, and counted. What goes wrong is one line on
-standard error.
-
-FAULT 1 is an exchange jump and FAULT 2 a read of the central program address (there is no central
-processor); FAULT 3 is a channel that the machine does not have, and FAULT 4 an address past the end
-of central memory.",
+standard error."),
         example: four_example!("steps --turns 40 --pp 0"),
         options: &[
             TURNS_OPTION,
@@ -197,7 +184,7 @@ of central memory.",
         kind: CommandKind::State,
         name: "state",
         about: "Runs a deck in the barrel, and prints how things stand then",
-        long_about: "\
+        long_about: with_faults!("\
 Runs a deck in the barrel, and prints how things stand then: where each processor is and what holds
 it, what the run has changed in the memories, and the state of the channels.
 
@@ -206,11 +193,7 @@ deck names or that waited at dead start, its P, its A and its state, the instruc
 next place of a block in progress, and, if its next step is held, by which channel and how many of
 its last steps in a row were; then the words of processors and of central memory that differ from
 those loaded, as lines of a deck; and the state of each channel that has a history. What goes wrong
-is one line on standard error.
-
-FAULT 1 is an exchange jump and FAULT 2 a read of the central program address (there is no central
-processor); FAULT 3 is a channel that the machine does not have, and FAULT 4 an address past the end
-of central memory.",
+is one line on standard error."),
         example: four_example!("state --turns 40"),
         options: RUN_OPTIONS,
     },

@@ -11,6 +11,7 @@ use crate::option_values::{
 };
 use pp_condition::Condition;
 use pp_numbers::{Bounds, CHANNELS, PROCESSORS, PpNo, Profile};
+use pp_word::{MOST_CENTRAL_WORDS, PLACES};
 
 /// Which steps of a run are chosen: those that all fields choose.
 #[derive(Clone, Copy)]
@@ -61,12 +62,6 @@ pub enum View {
     /// each processor in use. From a command line they are at most 2,000 (decimal).
     Draw { from: u32 },
 }
-
-/// How many places a processor's memory has.
-const PLACES: u32 = 0o10000;
-
-/// How many words central memory has at most.
-const MOST_CENTRAL_WORDS: u32 = 0o400000;
 
 /// The view of a run of this many turns that a command asks for which draws none, if its values are
 /// in range.
