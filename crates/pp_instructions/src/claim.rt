@@ -62,6 +62,7 @@ impl<'a> Claims<'a> {
         ensures taken { IfSome result (λ said. self.old
             ≡ claim said.field said.mnemonic.now said.operand.now ∷ self.new) }
         ensures none { IfNone result (self.old ≡ []) }
+        ensures ended { IfNone result (self.new ≡ []) }
     {
         if !self.goes_on {
             return None;

@@ -6,7 +6,9 @@ mod claim;
 mod column;
 mod instruction;
 mod instruction_effect;
+mod law;
 
 pub use claim::{Claim, Claims, comment_place};
 pub use column::Columns;
 pub use instruction::{Instruction, Instructions, word_of};
+pub use law::foreseen_law;

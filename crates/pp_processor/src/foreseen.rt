@@ -103,9 +103,9 @@ pub fn sure_fault_law()
         → instruction op pp d ≡ local (faults pp fault) }
 {}
 
-/// A processor comes from an instruction to no other place than those that are foreseen: whatever
-/// it holds and is answered, its step leaves P where it was, or behind the instruction if it may go
-/// on, or where the instruction leads, or, by an index, anywhere.
+/// Outside a block a processor comes from an instruction to no other place than those that are
+/// foreseen: whatever it holds and is answered, its step leaves P where it was, or behind the
+/// instruction if it may go on, or where the instruction leads, or, by an index, anywhere.
 #[tactic(auto, using(crate::proofs::NextPlaceLemmas::comes_to))]
 pub fn next_place_law()
     ensures { (pp : Processor) (answer : Answer) → IsProcessor pp → pp.block ≡ None
