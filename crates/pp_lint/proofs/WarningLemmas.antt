@@ -107,9 +107,6 @@ found_in p (suc n) i within none passes =
 pub first_is_before : (k : ℕ) (notes : List Note) (row : Row) (i : ℕ) → i < row.count → NoneIsBefore k notes row i → true ≡ is_before k (first_line notes row.kind (row.first + i)) → Some i ≡ first_twice k notes row
 first_is_before k notes row i within none is = sym (found_in (λ j. is_before k (first_line notes row.kind (row.first + j))) row.count i within none (sym is))
 
-pub none_is_before : (k : ℕ) (notes : List Note) (row : Row) (i : ℕ) → i ≡ row.count → NoneIsBefore k notes row i → None ≡ first_twice k notes row
-none_is_before k notes row i all none = sym (subst (NoneIsBefore k notes row) all none)
-
 pub not_twice : (k : ℕ) (line : List ℕ) (notes : List Note) (row : Row) → is_set row.kind ≡ true → None ≡ first_twice k notes row → twice_findings k line notes row ≡ []
 unfolding twice_findings
 not_twice k line notes row set none = rw (set, ← none) refl

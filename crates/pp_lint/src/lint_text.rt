@@ -23,7 +23,7 @@ use crate::row::{Kind, Row, one, processor_in, row_of};
 use crate::straight_line::behind_line;
 use crate::text_lines::TextLines;
 use pp_channel::Memory;
-use pp_deck::{DeckCode, Fields};
+use pp_deck::{DEFAULT_SIZE, DeckCode, Fields};
 use pp_numbers::{PpNo, Profile};
 use pp_text::{ReportFault, TextWriter, print_short_decimal};
 use pp_word::numeral;
@@ -32,9 +32,6 @@ use std::io::Write;
 
 /// The longest deck, in bytes (decimal).
 const LONGEST_DECK: usize = 1_048_576;
-
-/// The size of central memory if a deck sets none: 10000 words (octal).
-const DEFAULT_SIZE: u32 = 0o10000;
 
 /// Writes what is found in a deck for a machine of this profile: a line for each finding, with line
 /// and column (decimal, from 1), or `nothing found`. Returns whether something is found. Memory is

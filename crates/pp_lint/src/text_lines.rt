@@ -36,6 +36,7 @@ impl<'a> TextLines<'a> {
     pub fn next_line(&mut self) -> Option<&'a [u8]>
         ensures taken { IfSome result (λ line. self.old ≡ line.now ∷ self.new) }
         ensures none { IfNone result (self.old ≡ []) }
+        ensures ended { IfNone result (self.new ≡ []) }
     {
         let text = self.text?;
         match text.iter().position(|byte| *byte == b'\n') {

@@ -6,7 +6,7 @@ use pp_machine::{Machine, Profile};
 use pp_sim::DeckCode::{
     BadDigits, BadProcessor, CentralRange, NoProcessor, NotAscii, PastEnd, TooLong, UnknownLine,
 };
-use pp_sim::{DeckCode, DeckFault, Schedule, Tested, TextFault, read_deck, test_text};
+use pp_sim::{DeckCode, DeckFault, Schedule, Tested, TextFault, lint_text, read_deck, test_text};
 use pp_word::{Word12, Word18, Word60};
 use std::alloc::{AllocError, Global};
 use std::test::Fail;
@@ -94,6 +94,43 @@ fn is_listed(alloc: Global, deck: Long, listed: &str) -> Result<bool, Fail> {
 fn long_decks(rt: HostRuntime) -> Result<(), Fail> {
     for (deck, listed) in DECKS {
         assert!(rt; is_listed(rt.alloc(), deck, listed)?, "{listed}");
+    }
+    Ok(())
+}
+
+/// Decks, and what is found in each.
+const LINTED: [(Long, &str); 5] = [
+    (
+        (b"", b" ", b"9", 1_048_577),
+        "1:1 longer than 1048576 bytes\n",
+    ),
+    (
+        (b"", b" ", b"9", 1_048_576),
+        "1:1048576 no PP line before this: 9\n",
+    ),
+    (
+        (b"", b"\n", b"9", 1_048_576),
+        "1048576:1 no PP line before this: 9\n",
+    ),
+    (
+        (b"", b"* PP 0\n", b"PP 0\n0 1", 140_008),
+        "20001:1 PP 0 has no START\n",
+    ),
+    (
+        (b"PP 0\nSTART 0\n0 ", b"1 ", b"* LDN", 8210),
+        "3:8195 LDN, but 0001 is PSN 01\n",
+    ),
+];
+
+#[test]
+fn findings_in_long_decks(rt: HostRuntime) -> Result<(), Fail> {
+    for (deck, found) in LINTED {
+        let text = text_of(deck, rt.alloc())?;
+        let (mut reader, mut writer) = (text.as_slice(), Vec::new(rt.alloc()));
+        let told = lint_text(rt.alloc(), Profile::Ten, &mut reader, &mut writer);
+        assert!(rt; text.len() == deck.3, "{found}");
+        assert!(rt; matches!(told, Err(TextFault::Findings)), "{found}");
+        assert!(rt; writer.as_slice() == found.as_bytes(), "{found}");
     }
     Ok(())
 }
