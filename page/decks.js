@@ -1,17 +1,14 @@
 // ---- decks: the examples, a reader's own, their storage and the address
-// Each deck of a reader's own is kept in the browser's storage, so that opening another loses none.
 
 const MOST_BYTES = 1048577, MOST_IN_ADDRESS = 32768; // the first is one more than a deck may have
-const MOST_INSERTED = 100000, MOST_OWN = 30; // characters that undo takes back; decks kept
-const OWN = 'own ', STORED = 'ppsim deck '; // before the number of a deck
-
-let /** @type {Own[]} */ own = [], chosen = '', isLoading = false, saving = 0;
+const MOST_OWN = 30, OWN = 'own ', STORED = 'ppsim deck '; // decks kept; before a deck's number
+let /** @type {Own[]} */ own = [], chosen = '', saving = 0;
 const turn = () => $('turn').valueAsNumber, last = () => Number($('turn').max);
 /** The deck of one's own that is in the editor, if it is no example. */
 const mine = () => own.find(it => OWN + it.id === chosen);
 /** All decks that can be chosen, by name. */
 const decks = () => ({ ...EXAMPLES, ...Object.fromEntries(own.map(it => [OWN + it.id, it])) });
-const runShown = () => ({ deck: $('deck').value, processors: processors(), turns: last(),
+const runShown = () => ({ deck: deckText(), processors: processors(), turns: last(),
   turn: turn(), view: view(), order: orderText(list) });
 
 function readStored() {
@@ -52,20 +49,8 @@ function listDecks() {
 
 /** Shows a deck. What stood in the editor stays among one's own, and undo brings it back too. */
 function load(/** @type {string} */ choice, /** @type {Run} */ run = decks()[choice]) {
-  const text = run.deck, editor = $('deck'), focused = document.activeElement;
   keepMine();
-  isLoading = true;
-  const length = Math.max(text.length, editor.value.length);
-  if (!editor.value || length > MOST_INSERTED) editor.value = text;
-  else if (editor.value !== text) {
-    editor.focus({ preventScroll: true });
-    editor.select();
-    if (!document.execCommand('insertText', false, text)) editor.value = text;
-    editor.setSelectionRange(0, 0);
-    editor.scrollTop = 0;
-    /** @type {HTMLElement | null} */ (focused)?.focus({ preventScroll: true });
-  }
-  isLoading = false;
+  fill(run.deck);
   takeRun(choice, run);
 }
 
@@ -86,8 +71,9 @@ function takeRun(choice, { processors, order = '', turns, turn = turns, view }) 
 function edited(/** @type {InputEvent} */ e) {
   if (isLoading) return;
   const isUndo = e.inputType?.startsWith('history'), all = decks();
-  const same = isUndo && Object.keys(all).find(it => all[it].deck === $('deck').value);
+  const same = isUndo && Object.keys(all).find(it => all[it].deck === deckText());
   if (same && same !== chosen) return takeRun(same, all[same]);
+  if (!before && !after) listParts(linesIn($('deck').value).length);
   if (!mine()) chosen = adopt(runShown(), `my ${chosen}`);
   listDecks();
   renew();
@@ -100,7 +86,7 @@ async function openFile(/** @type {File | undefined} */ file) {
 }
 
 function saveFile() {
-  const href = `data:text/plain;charset=utf-8,${encodeURIComponent($('deck').value)}`;
+  const href = `data:text/plain;charset=utf-8,${encodeURIComponent(deckText())}`;
   make('a', { href, download: `${(mine()?.name ?? chosen).replaceAll(' ', '_')}.deck` }).click();
 }
 

@@ -2,18 +2,16 @@
 
 /** The line of each processor shown at the turn, by its two digits. */
 const /** @type {Map<string, string>} */ standing = new Map();
-let timer = 0;
-
+let timer = 0, endTurn = LAST_TURN; // where the run by turns ends, as far as that is known
 const say = (/** @type {string} */ text) => { $('ran').textContent = text; };
+const copyText = (what = '', text = '') => navigator.clipboard.writeText(text)
+  .then(() => say(`${what} is copied.`), fault => say(`Not copied: ${fault}`));
 const isRunning = (/** @type {string} */ line) => line.includes(' RUNNING ');
 const isHeld = (/** @type {string} */ line) => line.includes(' HELD ');
 /** Whether a processor that runs stands at this place: `PP00 P=0105`. */
 const runsAt = (/** @type {string} */ place) =>
   !!place && [...standing.values()].some(it => it.startsWith(place) && isRunning(it));
-
-const setLast = (/** @type {number} */ to) => {
-  $('last').value = $('turn').max = Math.min(LAST_TURN, Math.max(0, to));
-};
+const setLast = (to = 0) => { $('last').value = $('turn').max = Math.max(0, Math.min(to, LAST_TURN)); };
 
 /** Goes to after so many steps; past the end the run becomes longer. */
 function go(/** @type {number} */ to) {
@@ -41,9 +39,6 @@ function typeOrder() {
   list = steps;
   go(Math.max(at, steps.length));
 }
-
-const copyText = (what = '', text = '') => navigator.clipboard.writeText(text)
-  .then(() => say(`${what} is copied.`), fault => say(`Not copied: ${fault}`));
 
 /** The first step between two turns that comes to where a condition says: one held was there. */
 async function findStep(condition = '', from = 0, end = LAST_TURN) {
@@ -98,9 +93,6 @@ function showHand(/** @type {Answer} */ { status, output }) {
   $('order').value = orderText(list, turn());
   $('order').ariaInvalid = 'false';
 }
-
-/** The turn at which the run by turns has come to its end, as far as that is known. */
-let endTurn = LAST_TURN;
 
 /** Finds how the run by turns ends, and says whether the run shown is cut before that. */
 async function findEnding() {

@@ -7,21 +7,19 @@ function showSoon() {
   $('at').textContent = turn();
   moveCursor();
   stopWork([front]);
-  next ||= Promise.resolve(front.free()).then(() => {
-    next = null;
-    show();
-  });
+  next ||= Promise.resolve(front.free()).then(() => { next = null; show(); });
 }
 
 async function show() {
-  const it = ++shows, isOld = () => it !== shows, { before, by, input, also, paint } = VIEWS[view()];
+  const it = ++shows, of = deck, isOld = () => it !== shows || deck !== of;
+  const { before, by, input, also, paint } = VIEWS[view()];
   clearTimeout(saving);
-  const stands = ask(overRun('state', turn())), lint = ask(['lint', ...machineWords()]);
-  const drawing = drawingWords(), picture = ask(drawing), state = await stands;
+  const first = [overRun('state', turn()), ['lint', ...machineWords()]].map(it => ask(it));
+  const drawing = drawingWords(), picture = ask(drawing), [state, lint] = await Promise.all(first);
   if (isOld()) return;
   showHand(state);
   picture.then(it => { if (!isOld()) draw(drawing, it); });
-  await explain(state, await lint);
+  await explain(state, lint);
   await before?.();
   if (isOld()) return;
   showRows('deck');
@@ -33,7 +31,7 @@ async function show() {
   const isWritten = status === 0 || output !== '';
   if (isOld()) return;
   const fault = faultOf(answer);
-  if (input) noteFound('trace', [...fault.matchAll(/^line (\d+).*/g)]);
+  if (input) noteFound('trace', fault.match(/^line \d+.*/g) ?? []);
   $('text').classList.toggle('bad', !isWritten);
   if (!isWritten) paintParts(`fault ${fault}`, () => [fault]);
   else if (paint) paint(answer, isOld);
@@ -42,11 +40,10 @@ async function show() {
 
 /** The deck, the machine or the length of the run has changed. */
 function renew() {
-  deck = bytesOf($('deck').value);
+  deck = bytesOf(deckText());
   forget();
   drawn = null;
-  endings = [];
-  endTurn = LAST_TURN;
+  [endings, endTurn] = [[], LAST_TURN];
   stopWork();
   for (const it of $('pp').options) it.hidden = !numbers().includes(parseInt(it.value, 8));
   if (!$('pp').value || $('pp').selectedOptions[0].hidden) $('pp').value = 0;
@@ -94,7 +91,6 @@ function press(/** @type {any} */ e) {
 }
 
 const drop = (/** @type {any} */ e) => { e.preventDefault(); openFile(e.dataTransfer.files[0]); };
-
 /** What each control of the page does, by its event. */
 const DOES = {
   click: {
@@ -104,12 +100,12 @@ const DOES = {
     load: () => go(0), back: () => go(turn() - 1), turnOn: () => go(turn() + 1),
     roundOn: () => go(turn() + processors()), stop: () => stopWork([front, back], 0),
     steps: (/** @type {any} */ e) => stepBy(parseInt(e.target.value, 8)),
-    tabs: (/** @type {any} */ e) => { // by a mouse: keys go to the text
-      if (e.pointerType && e.target.type === 'radio') $('text').focus({ preventScroll: true });
-    },
+    tabs: (/** @type {any} */ e) => // by a mouse: keys go to the text
+      e.pointerType && e.target.type === 'radio' && $('text').focus({ preventScroll: true }),
   },
   change: { file: () => openFile($('file').files[0]), last: takeLast, order: typeOrder,
     processors: renew, more: showSoon, tabs: () => choose(),
+    part: () => { fill(deckText(), $('part').selectedIndex); showSoon(); },
     example: (/** @type {any} */ { target: it }) => { // by keys once its name is typed
       clearTimeout(choosing);
       choosing = setTimeout(load, it.matches(':focus-visible') ? 700 : 0, it.value);
@@ -134,7 +130,7 @@ async function begin() {
   recall();
   Object.assign(window, { onkeydown: press, onhashchange: recall, onpagehide: remember,
     onafterprint: () => keepNames(), onresize: () => showRows('deck'),
-    onbeforeprint: () => { $('paper').textContent = $('deck').value; keepNames(0); },
+    onbeforeprint: () => { $('paper').textContent = deckText(); keepNames(0); },
     onsubmit: (/** @type {Event} */ e) => e.preventDefault(), ondragover: drop, ondrop: drop });
 }
 

@@ -1,7 +1,6 @@
 // ---- the views of a run, and their texts
 
 const MOST_ROWS = 2000, ROWS_BEFORE = 500, STEPS_SHOWN = 600, MOST_ENDINGS = 200;
-
 // The steps round the turn, or all, if what is typed chooses among them.
 const stepsFrom = () => (typed().length ? 0 : Math.max(0, Math.floor((turn() - 100) / 400) * 400));
 const stepsTo = () => (typed().length ? last() : Math.min(last(), stepsFrom() + STEPS_SHOWN));
@@ -35,21 +34,18 @@ const /** @type {Record<string, View>} */ VIEWS = {
 const view = () => $('views').elements.view.value;
 const viewWords = (t = turn()) => [...VIEWS[view()].words(t), ...typed()];
 
-// ---- a text line by line
-
 /** The lines of a text, and where each leads. */
 function linesOf(text = '') {
   let section = '';
   return text.split(/(?<=\n)/).map(text => {
     section = /^PP (\d+)/.exec(text)?.[1].padStart(2, '0') ?? section;
     const [place] = /^\d{4}(?= +\d{4} )/.exec(text) ?? [];
-    const [at = 'none'] = /^\d{6,}(?= PP)|(?<=FROM )\d{6,}/.exec(text) ?? [];
+    const [at = 'none'] = (!place && /^\d{6,}(?= PP)|(?<=FROM )\d{6,}/.exec(text)) || [];
     return { text, at: Number(at), place: section && place ? `PP${section} P=${place}` : '' };
   });
 }
 
 let painted = { text: '', from: -1, lines: linesOf('') };
-
 /** Shows the lines of a text, at most so many round the turn; what lies after it is grey. A line
  * that leads somewhere is a button. What is shown already stays, and keeps the focus. */
 function paintLines(/** @type {string} */ text) {
@@ -88,8 +84,6 @@ function markLines(/** @type {Line[]} */ lines) {
   if (current && !isSeen) box.scrollTop = top - box.clientHeight / 2;
 }
 
-// ---- other texts
-
 /** Shows these parts, but if they are shown already. */
 function paintParts(/** @type {string} */ key, /** @type {() => (Node | string)[]} */ parts) {
   if (painted.text === key && painted.from < 0) return;
@@ -126,8 +120,6 @@ async function paintMarked({ output }, isOld) {
   paintParts(`${view()} ${before} ${output}`, () =>
     (output ? marked(output, before) : ['All words are 0.']));
 }
-
-// ---- every ending, and two runs side by side
 
 const MOMENT = 'this moment', TURN_ORDER = 'the turn order, at its end';
 let /** @type {{ order: number[], text: string }[]} */ endings = [];
@@ -196,12 +188,10 @@ async function paintCompared(_, isOld) {
       make('pre', { ariaLabel: 'Right' }, ...marked(right, left)))]);
 }
 
-// ---- what a deck expects
-
 /** Shows how the run by turns meets what the deck expects; if it does, whether each ending does.
  * @type {Paint} */
 async function paintTest({ status, output }, isOld) {
-  const [task = ''] = /^(?:\*(?![=!]).*\n)+/.exec($('deck').value) ?? [];
+  const [task = ''] = /^(?:\*(?![=!]).*\n)+/.exec(deckText()) ?? [];
   const every = status ? null : await ask(['test', '--every-order', ...statesWords()], back);
   if (isOld()) return;
   const text = every && `\nIn every order:\n${every.output || faultOf(every)}`;

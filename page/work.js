@@ -14,7 +14,6 @@ const bytesOf = (/** @type {string} */ text) => new TextEncoder().encode(text);
 const LAST_TURN = 999999, PATIENCE = 400, SIGN_AFTER = 200; // milliseconds
 const MOST_KEPT = 3e7, MOST_ANSWERS = 500; // characters of answers, and how many are kept
 const STOPPED = -1; // a status, beside those of the program
-
 let /** @type {WebAssembly.Module} */ library, source = '', deck = new Uint8Array(), kept = 0;
 let /** @type {number[]} */ list = [];
 const answers = new Map();
@@ -50,10 +49,8 @@ function engine() {
 
 /** One for what goes with the turn, one for what is asked of whole runs, and may take long. */
 const front = engine(), back = engine();
-
 const showWork = () => Object.assign($('busy'),
   { hidden: Math.max(front.worksFor(), back.worksFor()) < SIGN_AFTER - 10 });
-
 /** Stops these workers, if they have been at work for so long. */
 const stopWork = (engines = [front, back], longest = PATIENCE) =>
   engines.forEach(it => { if (it.worksFor() > longest) it.stop(); });
@@ -73,11 +70,8 @@ function ask(/** @type {string[]} */ words, by = front, input = deck) {
 }
 
 const forget = () => { answers.clear(); kept = 0; };
-
 /** A fault in the words of the program, without its name. */
 const faultOf = (/** @type {Answer} */ { error }) => error.replace(/^ppsim: /, '').trimEnd();
-
-// ---- machines and orders
 
 const processors = () => Number($('processors').value);
 /** The numbers of the machine's processors. */

@@ -188,6 +188,9 @@ async function faults() {
     `$('fault').textContent === '2:6 wrong digits: 8\\n4:1 no such line here: pp'
       && $('deck-rows').querySelectorAll('.bad').length === 2
       && $('deck-rows').querySelector('.bad')?.title === '2:6 wrong digits: 8'`);
+  await write('deck', 'PP 0\n0100 2600 * RPN\nSTART 0100\n');
+  await becomes('a line shows all that is found in it',
+    `$('deck-rows').querySelector('.bad')?.title.split('\\n').length === 2`);
   await write('deck', 'PP 0\n0100 0300 * <img src=x onerror=alert(1)><script>alert(2)</script>\n'
     + 'START 0100\n');
   await becomes('a mended deck is run',
@@ -456,8 +459,8 @@ async function edits() {
   await value(`$('deck').focus(); $('deck').setSelectionRange(0, 0)`);
   await type('* mine\n');
   await becomes('an edited example is a deck of one\'s own', `${chosen}.startsWith('my handoff')`);
-  await becomes('beside each line is what it does', `[...$('deck-rows').children[3].querySelectorAll('span, mark')]
-    .map(it => it.textContent).join('; ') === 'ACN 05; LDN 07; OAN 05; UJN 0103'`);
+  await becomes('beside each line is what it does', `[...$('deck-rows').children].slice(3, 4)
+    .flatMap(it => [...it.querySelectorAll('span, mark')]).map(it => it.textContent).join('; ') === 'ACN 05; LDN 07; OAN 05; UJN 0103'`);
   const mine = await value(`$('example').value`);
   await pick('example', 'lost_word');
   await becomes('an example opened over it', `$('deck').value === EXAMPLES.lost_word.deck`);
@@ -475,7 +478,7 @@ async function edits() {
   await write('deck', long);
   await becomes('what is too long for the address is said to be', `$('kept').textContent.startsWith('Too long')`);
   await reload();
-  await becomes('and is kept', `$('deck').value.length === ${long.length}`);
+  await becomes('and is kept', `deckText().length === ${long.length}`);
   await show({ kept: 'nothing' });
   await becomes('what another browser keeps is said to be elsewhere',
     `$('ran').textContent.startsWith('The deck of this address')`);
@@ -484,6 +487,72 @@ async function edits() {
   await write('deck', '* '.repeat(600000));
   await becomes('a deck of more than a megabyte is refused',
     `$('fault').textContent === '1:1 longer than 1048576 bytes'`);
+}
+
+/** A deck of a megabyte is edited in parts, and no key holds up the page. */
+async function parts() {
+  await show();
+  await value(`openFile(new File(['PP 0\\n', ...Array.from({ length: 99999 }, (_, n) =>
+    (64 + n % 3500).toString(8).padStart(4, '0') + ' 1405\\n')], 'long.deck')), 0`);
+  await becomes('of a long deck the first part is shown', `!$('parts').hidden && $('part').length === 50
+    && $('deck').value.split('\\n').length === 2000 && deckText().length === 999995`);
+  await pick('part', '98001 to 100000');
+  await becomes('its last part can be chosen, and each line has its number and what it does',
+    `$('deck-rows').textContent.startsWith('98001LDN 0598002LDN 05')`);
+  if (browser.controls) expect('the choice of a part has a name', (await browser.controls())
+    .some(({ role, name }) => role === 'combobox' && name === 'Lines'));
+  await value(`{
+    $('deck').focus();
+    $('deck').setSelectionRange(9, 9);
+    const beat = new MessageChannel();
+    let latest = performance.now();
+    beat.port1.onmessage = () => {
+      const now = performance.now();
+      window.longest = Math.max(window.longest, now - latest);
+      latest = now;
+      beat.port2.postMessage(0);
+    };
+    beat.port2.postMessage(0);
+  }`);
+  const times = [];
+  for (const key of ' *key') {
+    await value(`window.longest = 0`);
+    await press(key);
+    await pause(1000);
+    times.push(await value(`window.longest`));
+  }
+  times.sort((a, b) => a - b);
+  console.log(`a key in a long deck holds the page up for ${times.map(it => it.toFixed(0)).join(', ')} ms`);
+  expect('a key does not hold the page up', times[0] < 300);
+  await type('\nSTART 0100');
+  await becomes('the whole deck is run with the edit', `standing.get('00')?.includes('RUNNING')
+    && new TextDecoder().decode(deck) === deckText()`);
+  await value(`HTMLAnchorElement.prototype.click = function() { window.saved = this.href; }`);
+  await click('#save');
+  expect('and saved', await value(`decodeURIComponent(window.saved).split(',')[1] === deckText()
+    && deckText().split('\\n')[98000].endsWith(' 1405 *key') && deckText().length === 1000011`));
+  await pick('part', '1 to 2000');
+  await press('z', { ctrl: true });
+  expect('another part keeps it', await value(`$('deck').value.startsWith('PP 0\\n0100 1405\\n')
+    && $('part').length === 51 && deckText().includes(' *key\\nSTART 0100\\n')`));
+  await pick('part', '2001 to 4000');
+  await value(`$('deck').setRangeText('9', 25, 29); $('deck').dispatchEvent(new Event('input'))`);
+  await becomes('a fault is marked at its line, in the words of the whole deck',
+    `$('fault').textContent.startsWith('2003:6 wrong digits: 9\\n')
+      && $('deck-rows').children[2].matches('.bad') && $('deck-rows').children[2].textContent === '2003'
+      && $('deck-rows').children[3].textContent === '2004LDN 05'`);
+  await reload();
+  await becomes('the deck is kept', `deckText().includes(' *key\\nSTART 0100\\n')
+    && deckText().split('\\n')[2002].endsWith(' 9') && $('part').length === 51`);
+  await pick('example', 'handoff');
+  await becomes('a short deck has one part', `$('parts').hidden && deckText() === EXAMPLES.handoff.deck
+    && $('deck').value === deckText() && $('deck-rows').textContent.startsWith('1')`);
+  const long = '* long\n'.repeat(4001);
+  await write('deck', long);
+  await becomes('one that grows long is offered in parts', `!$('parts').hidden && $('part').length === 3
+    && $('deck').value.length === ${long.length}`);
+  await pick('part', '4001 to 4001');
+  await becomes('and then cut', `$('deck').value === '* long\\n' && deckText().length === ${long.length}`);
 }
 
 /** Work that takes long can be stopped, and the page is not held up. */
@@ -564,7 +633,7 @@ async function frames() {
 async function main() {
   browser = await browsers[which]();
   const all = { first, views, options, faults, moving, lists, hand, endings, exercises, newcomer, decks, edits,
-    work, screens, names, frames };
+    parts, work, screens, names, frames };
   for (const [name, part] of Object.entries(all)) {
     if (!only || only.split(',').includes(name)) await part();
   }
