@@ -127,9 +127,9 @@ fn findings_in_long_decks(rt: HostRuntime) -> Result<(), Fail> {
     for (deck, found) in LINTED {
         let text = text_of(deck, rt.alloc())?;
         let (mut reader, mut writer) = (text.as_slice(), Vec::new(rt.alloc()));
-        let told = lint_text(rt.alloc(), Profile::Ten, &mut reader, &mut writer);
+        let answer = lint_text(rt.alloc(), Profile::Ten, &mut reader, &mut writer);
         assert!(rt; text.len() == deck.3, "{found}");
-        assert!(rt; matches!(told, Err(TextFault::Findings)), "{found}");
+        assert!(rt; matches!(answer, Err(TextFault::Findings)), "{found}");
         assert!(rt; writer.as_slice() == found.as_bytes(), "{found}");
     }
     Ok(())
