@@ -1,54 +1,100 @@
 -- Channels that one processor alone uses.
-use Rattle.std.proofs.Common.{◌≡◌, ℕ, ◌+◌, ◌<◌, Bool, true, false, List, [], ◌∷◌, ◌++◌, Some, None, refl, subst, sym, ap, ◌∙◌, arith}
-use Rattle.std.specs.Prelude.{◌||◌, codes}
-use Rattle.std.specs.List.{flat_map, list_any, range_with_len}
+use Rattle.std.proofs.Common.{◌≡◌, ℕ, ◌+◌, ◌-◌, ◌<◌, ◌≤◌, Bool, true, false, List, [], ◌∷◌, ◌++◌, Option, Some, None, get_or, length, map, take, refl, sym, ap, ◌∙◌, arith, subst}
+use Rattle.std.specs.Prelude.{◌||◌, codes, filter_map, if◌then◌else◌, is_some, option_to_list, slice_get}
+use Rattle.std.specs.List.{flat_map, range_with_len}
+use Rattle.std.proofs.lemmas.List.{append-nil, map-append, take_all, take_more}
+use Rattle.std.proofs.lemmas.List.Concat.{flat_map-append}
+use Rattle.std.proofs.lemmas.List.Elements.{filter_map-append}
 use Rattle.pp_word.specs.Numeral.{octal, short_octal}
-use Rattle.pp_numbers.specs.PpNo.{processor_count, processor_number}
+use Rattle.pp_numbers.proofs.GrowingLists.{filter_map_more, range_append, range_more}
+use Rattle.pp_numbers.specs.PpNo.{is_named}
+use Rattle.pp_numbers.specs.Tables.{tabulate}
 use Rattle.pp_numbers.specs.declared.profile.Profile.{Profile}
-use Rattle.pp_text.proofs.PrintingLemmas.{range_flat}
-use Rattle.pp_lint.specs.ChannelUse.{alone_finding, alone_findings, alone_text, first_use, is_alone, is_shared, is_used_by_another}
+use Rattle.pp_machine.specs.MachineState.{processor_of}
+use Rattle.pp_deck.specs.DeckLine.{Line}
+use Rattle.pp_deck.specs.DeckMeaning.{LoadedDeck}
+use Rattle.pp_instructions.specs.InstructionEffect.{channel_named}
+use Rattle.pp_listing.specs.ListedLine.{ListedLine, listed_line}
+use Rattle.pp_listing.specs.Listing.{instructions_listed}
+use Rattle.pp_listing.specs.declared.listed_instructions.ListedInstruction.{ListedInstruction}
+use Rattle.pp_lint.specs.ChannelUse.{alone_among, alone_finding, alone_findings, alone_text, first_use, is_in_line, use_in}
 use Rattle.pp_lint.specs.Finding.{Finding}
-use Rattle.pp_lint.specs.Given.{Note}
-use Rattle.pp_instructions.specs.InstructionEffect.{channel_named, sends_function}
-use Rattle.pp_lint.specs.LintText.{is_something_found}
-use Rattle.pp_lint.specs.StraightLine.{field_of, is_at}
+use Rattle.pp_lint.specs.LintText.{finding_line, is_something_found}
+use Rattle.pp_lint.specs.StraightLine.{is_at}
 use Rattle.pp_lint.specs.Warnings.{field_finding}
-use Rattle.pp_instructions.specs.declared.instruction.Instruction.{Instruction}
+use Rattle.pp_lint.specs.declared.channel_use.ChannelUse.{ChannelUse}
 use Rattle.pp_lint.proofs.FindingLemmas.{found_more}
-use Rattle.pp_lint.proofs.WarningLemmas.{any_next, any_there}
+use Rattle.pp_lint.proofs.WarningLemmas.{prints_both}
+use Rattle.pp_text.specs.TextWriter.{Prints}
+use Rattle.pp_text.specs.declared.text_writer.TextWriter.{TextWriter}
 
--- ---- processors beside one
+-- ---- what there is of some numbers, one after another
 
--- none of the processors at the first places uses a channel, one apart
-abbrev pub NoneBeside : List Note → ℕ → ℕ → ℕ → Type 0
-NoneBeside notes n c place = list_any (λ p. is_used_by_another notes n c (processor_number p)) (range_with_len 0 place) ≡ false
+module _ {A : Type 0} (of : ℕ → Option A) (number : ℕ → ℕ) where
+  pub one_more : (k : ℕ) → filter_map of (tabulate (k + 1) number) ≡ filter_map of (tabulate k number) ++ option_to_list (of (number k))
+  unfolding tabulate
+  one_more k = let here : 0 + k ≡ k = omega arith in
+      ap (λ ks. filter_map of (map number ks)) (range_more 0 k ∙ ap (λ i. range_with_len 0 k ++ i ∷ []) here) ∙ ap (filter_map of) (map-append number (range_with_len 0 k) (k ∷ [])) ∙ filter_map_more of (map number (range_with_len 0 k)) (number k)
 
-pub shared_there : (notes : List Note) (n c place m : ℕ) → place < processor_count → m ≡ processor_number place → true ≡ is_used_by_another notes n c m → true ≡ is_shared notes n c
-unfolding is_shared
-shared_there notes n c place m within is uses =
-    sym (any_there (λ p. is_used_by_another notes n c (processor_number p)) processor_count place within (ap (is_used_by_another notes n c) (sym is) ∙ sym uses))
+  pub none_yet : filter_map of (tabulate 0 number) ≡ []
+  unfolding tabulate
+  none_yet = refl
 
-pub none_beside_next : (notes : List Note) (n c place m : ℕ) → NoneBeside notes n c place → m ≡ processor_number place → false ≡ is_used_by_another notes n c m → NoneBeside notes n c (place + 1)
-none_beside_next notes n c place m none is uses =
-    any_next (λ p. is_used_by_another notes n c (processor_number p)) place ∙ ap (λ b. b || is_used_by_another notes n c (processor_number place)) none ∙ ap (is_used_by_another notes n c) (sym is) ∙ sym uses
+  and_others : (k n : ℕ) → filter_map of (tabulate (k + n) number) ≡ filter_map of (tabulate k number) ++ filter_map of (map number (range_with_len (0 + k) n))
+  unfolding tabulate
+  and_others k n = ap (λ ks. filter_map of (map number ks)) (range_append 0 k n) ∙ ap (filter_map of) (map-append number (range_with_len 0 k) (range_with_len (0 + k) n)) ∙ filter_map-append of (map number (range_with_len 0 k)) (map number (range_with_len (0 + k) n))
 
-pub not_shared : (notes : List Note) (n c place : ℕ) → place ≡ processor_count → NoneBeside notes n c place → false ≡ is_shared notes n c
-unfolding is_shared
-not_shared notes n c place all none = sym (subst (NoneBeside notes n c) all none)
+  pub none_here : (k : ℕ) (so_far : List A) → filter_map of (tabulate k number) ≡ so_far → None ≡ of (number k) → filter_map of (tabulate (k + 1) number) ≡ so_far
+  none_here k so_far are none = one_more k ∙ ap (λ o. filter_map of (tabulate k number) ++ option_to_list o) (sym none) ∙ append-nil _ ∙ are
 
--- ---- the first instruction that uses a channel
+  pub one_here : (k : ℕ) (so_far : List A) (x : A) → filter_map of (tabulate k number) ≡ so_far → Some x ≡ of (number k) → filter_map of (tabulate (k + 1) number) ≡ so_far ++ x ∷ []
+  one_here k so_far x are is = one_more k ∙ ap (λ o. filter_map of (tabulate k number) ++ option_to_list o) (sym is) ∙ ap (λ xs. xs ++ x ∷ []) are
 
-pub no_use : (profile : Profile) (c : ℕ) → None ≡ first_use profile c []
+-- ---- the only processor
+
+not_alone_after : (of : ℕ → Option ChannelUse) (number : ℕ → ℕ) (k n : ℕ) (first second : ChannelUse) → k < n → filter_map of (tabulate k number) ≡ first ∷ [] → Some second ≡ of (number k)
+    → None ≡ alone_among (filter_map of (tabulate n number))
+not_alone_after of number k n first second within one is =
+    let n_is : n ≡ (k + 1) + (n - (k + 1)) = omega (arith, within) in
+    let rest = filter_map of (map number (range_with_len (0 + (k + 1)) (n - (k + 1)))) in
+    sym (ap (λ i. alone_among (filter_map of (tabulate i number))) n_is
+    ∙ ap alone_among (and_others of number (k + 1) (n - (k + 1)) ∙ ap (λ us. us ++ rest) (one_here of number k (first ∷ []) second one is)))
+
+-- by the one found so far, if there is one
+pub not_alone : (of : ℕ → Option ChannelUse) (number : ℕ → ℕ) (k n : ℕ) (found : Option ChannelUse) (second : ChannelUse) → k < n → is_some found ≡ true → filter_map of (tabulate k number) ≡ option_to_list found → Some second ≡ of (number k)
+    → None ≡ alone_among (filter_map of (tabulate n number))
+not_alone of number k n (Some first) second within some one is = not_alone_after of number k n first second within one is
+not_alone of number k n None second within some one is = absurd (cc)
+
+pub first_found : (of : ℕ → Option ChannelUse) (number : ℕ → ℕ) (k : ℕ) (found : Option ChannelUse) (first : ChannelUse) → is_some found ≡ false → filter_map of (tabulate k number) ≡ option_to_list found → Some first ≡ of (number k)
+    → filter_map of (tabulate (k + 1) number) ≡ first ∷ []
+first_found of number k None first none so_far is = one_here of number k [] first so_far is
+first_found of number k (Some other) first none so_far is = absurd (cc)
+
+-- ---- by whether the deck names the processor
+
+pub unnamed : (deck : LoadedDeck) (c n : ℕ) → is_named deck.named n ≡ false → None ≡ first_use deck c n
 unfolding first_use
-no_use profile c = refl
+unnamed deck c n not_named = rw not_named refl
 
-pub use_here : (profile : Profile) (c : ℕ) (all more : List Instruction) (i : Instruction) → all ≡ i ∷ more → true ≡ is_at c (channel_named profile i.word) → Some i ≡ first_use profile c all
+pub of_named : (deck : LoadedDeck) (c n : ℕ) → is_named deck.named n ≡ true → slice_get (filter_map (use_in deck.machine.profile c n) (instructions_listed (processor_of n deck.machine))) 0 ≡ first_use deck c n
 unfolding first_use
-use_here profile c all more i taken uses = rw (taken, ← uses) refl
+of_named deck c n names = rw names refl
 
-pub use_later : (profile : Profile) (c : ℕ) (all more : List Instruction) (i : Instruction) → all ≡ i ∷ more → false ≡ is_at c (channel_named profile i.word) → first_use profile c more ≡ first_use profile c all
-unfolding first_use
-use_later profile c all more i taken uses = rw (taken, ← uses) refl
+-- ---- the first instruction
+
+use_listed : (profile : Profile) (c n : ℕ) (i : ListedInstruction) (here second : Bool) → is_at c (channel_named profile i.word) ≡ here → i.has_second ≡ second
+    → use_in profile c n (listed_line i) ≡ (if here then Some (record { n = n; c = c; place = i.place; word = i.word }) else None)
+use_listed profile c n i here true is long = rw (long, is) refl
+use_listed profile c n i here false is long = rw (long, is) refl
+
+pub first_here : (profile : Profile) (c n : ℕ) (i : ListedInstruction) (old new : List ListedLine) → old ≡ listed_line i ∷ new → true ≡ is_at c (channel_named profile i.word)
+    → Some (record { n = n; c = c; place = i.place; word = i.word }) ≡ slice_get (filter_map (use_in profile c n) old) 0
+first_here profile c n i old new taken here = rw (taken, use_listed profile c n i true i.has_second (sym here) refl) refl
+
+pub first_later : (profile : Profile) (c n : ℕ) (i : ListedInstruction) (old new : List ListedLine) → old ≡ listed_line i ∷ new → false ≡ is_at c (channel_named profile i.word)
+    → slice_get (filter_map (use_in profile c n) new) 0 ≡ slice_get (filter_map (use_in profile c n) old) 0
+first_later profile c n i old new taken other = rw (taken, use_listed profile c n i false i.has_second (sym other) refl) refl
 
 -- ---- what is found
 
@@ -57,28 +103,32 @@ pub alone_pieces : (n m c : ℕ) (digits : List ℕ) → digits ≡ octal 2 c �
 unfolding alone_text
 alone_pieces n m c digits is same = rw (is, same) refl
 
-pub not_alone : (profile : Profile) (k : ℕ) (line : List ℕ) (notes : List Note) (n first : ℕ) (is : List Instruction) (c : ℕ) → false ≡ is_alone profile k notes n c → alone_finding profile k line notes n first is c ≡ []
-not_alone profile k line notes n first is c alone = rw (← alone) refl
+pub in_another : (k : ℕ) (line : List ℕ) (n first : ℕ) (said : Option Line) (one : ChannelUse) → false ≡ is_in_line n said one → alone_finding k line n first said one ≡ []
+in_another k line n first said one other = rw (← other) refl
 
-pub alone_nowhere : (profile : Profile) (k : ℕ) (line : List ℕ) (notes : List Note) (n first : ℕ) (is : List Instruction) (c : ℕ) → true ≡ is_alone profile k notes n c → None ≡ first_use profile c is
-    → alone_finding profile k line notes n first is c ≡ []
-alone_nowhere profile k line notes n first is c alone none = rw (← alone, ← none) refl
+pub in_this : (k : ℕ) (line : List ℕ) (n first : ℕ) (said : Option Line) (one : ChannelUse) → true ≡ is_in_line n said one
+    → alone_finding k line n first said one ≡ field_finding (k + 1) line (one.place + 1 - first) (alone_text one.n one.c) ∷ []
+in_this k line n first said one here = rw (← here) refl
 
-pub alone_there : (profile : Profile) (k : ℕ) (line : List ℕ) (notes : List Note) (n first : ℕ) (is : List Instruction) (c : ℕ) (i : Instruction) → true ≡ is_alone profile k notes n c → Some i ≡ first_use profile c is
-    → false ≡ sends_function i.word → alone_finding profile k line notes n first is c ≡ field_finding (k + 1) line (field_of first i) (alone_text n c) ∷ []
-alone_there profile k line notes n first is c i alone first_is plain = rw (← alone, ← first_is, ← plain) refl
+-- of one thing more
+module _ {A : Type 0} (of : A → List Finding) (things : List A) (k : ℕ) (thing : A) (within : k < length things) (is : thing ≡ get_or things k thing) where
+  pub findings_more : flat_map of (take k things) ++ of thing ≡ flat_map of (take (k + 1) things)
+  findings_more = sym (
+      ap (flat_map of) (take_more things k thing within ∙ ap (λ x. take k things ++ x ∷ []) (sym is)) ∙ flat_map-append of (take k things) (thing ∷ [])
+      ∙ ap (λ found. flat_map of (take k things) ++ found) (append-nil (of thing)))
 
-pub alone_with_equipment : (profile : Profile) (k : ℕ) (line : List ℕ) (notes : List Note) (n first : ℕ) (is : List Instruction) (c : ℕ) (i : Instruction) → true ≡ is_alone profile k notes n c → Some i ≡ first_use profile c is
-    → true ≡ sends_function i.word → alone_finding profile k line notes n first is c ≡ []
-alone_with_equipment profile k line notes n first is c i alone first_is sends = rw (← alone, ← first_is, ← sends) refl
+  pub found_one_more : (before here both : Bool) → before ≡ is_something_found (flat_map of (take k things)) → here ≡ is_something_found (of thing) → both ≡ (before || here)
+      → both ≡ is_something_found (flat_map of (take (k + 1) things))
+  found_one_more before here both some found either =
+      either ∙ ap (λ b. b || here) some ∙ ap (λ b. is_something_found (flat_map of (take k things)) || b) found
+      ∙ sym (found_more (flat_map of (take k things)) (of thing)) ∙ ap is_something_found findings_more
 
-pub alone_more : (f : ℕ → List Finding) (c : ℕ) (before found both : Bool) → before ≡ is_something_found (flat_map f (range_with_len 0 c)) → found ≡ is_something_found (f c) → both ≡ (before || found)
-    → both ≡ is_something_found (flat_map f (range_with_len 0 (c + 1)))
-alone_more f c before found both is one either =
-    either ∙ ap (λ b. b || found) is ∙ ap (λ b. is_something_found (flat_map f (range_with_len 0 c)) || b) one
-    ∙ sym (found_more (flat_map f (range_with_len 0 c)) (f c)) ∙ ap is_something_found (range_flat f 0 c c (omega arith))
+pub prints_one_more : {W : Type 0} (contents : W → Option (List ℕ)) (from to out : TextWriter W) {A : Type 0} (of : A → List Finding) (things : List A) (k : ℕ) (thing : A) → k < length things → thing ≡ get_or things k thing
+    → Prints contents from to (flat_map finding_line (flat_map of (take k things))) → Prints contents to out (flat_map finding_line (of thing))
+    → Prints contents from out (flat_map finding_line (flat_map of (take (k + 1) things)))
+prints_one_more contents from to out of things k thing within is before here =
+    subst (λ found. Prints contents from out (flat_map finding_line found)) (findings_more of things k thing within is) (prints_both _ _ _ _ _ _ before here)
 
-pub all_alone : (profile : Profile) (k : ℕ) (line : List ℕ) (notes : List Note) (n first : ℕ) (is : List Instruction) (c : ℕ) → c ≡ 0o34
-    → flat_map (alone_finding profile k line notes n first is) (range_with_len 0 c) ≡ alone_findings profile k line notes n first is
+pub all_of : (k : ℕ) (line : List ℕ) (n first : ℕ) (said : Option Line) (uses : List ChannelUse) (i : ℕ) → length uses ≤ i → flat_map (alone_finding k line n first said) (take i uses) ≡ alone_findings k line n first said uses
 unfolding alone_findings
-all_alone profile k line notes n first is c all = rw all refl
+all_of k line n first said uses i all = ap (flat_map (alone_finding k line n first said)) (take_all i uses all)

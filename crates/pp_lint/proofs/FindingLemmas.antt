@@ -26,7 +26,7 @@ use Rattle.pp_lint.specs.Given.{named_by, notes, said_at, section_at, section_be
 use Rattle.pp_lint.specs.LineFault.{HasFault, after_fields, before_line, fault_after, lone_number, said_after}
 use Rattle.pp_lint.specs.LintText.{finding_line, is_something_found, lint_text}
 use Rattle.pp_lint.specs.StraightLine.{reached_at}
-use Rattle.pp_lint.specs.declared.{line_fault.Before.Before, line_fault.Fault.Fault}
+use Rattle.pp_lint.specs.declared.{channel_use.ChannelUse.ChannelUse, line_fault.Before.Before, line_fault.Fault.Fault}
 use Rattle.pp_lint.proofs.FaultLemmas.{code_is, field_is}
 
 -- ---- a line
@@ -197,15 +197,15 @@ before_next profile lines k line before is within here =
     ap (λ b. after_fields b (fields_of line)) is ∙ ap (after_fields (before_line profile (map fields_of lines) k)) (sym (fields_at lines k within ∙ ap fields_of here))
     ∙ before_more profile (map fields_of lines) k (omega (arith, within, length-map lines fields_of))
 
-pub findings_here : (profile : Profile) (lines : List (List ℕ)) (k : ℕ) (line : List ℕ) (before : Before) (reached : Option ℕ) → before ≡ before_line profile (map fields_of lines) k → reached ≡ reached_at profile (map fields_of lines) k → get_or lines k [] ≡ line
-    → line_findings k line (fault_after before) (found_without_fault before.profile k line (notes profile (map fields_of lines)) reached before.section (said_after before (fields_of line))) ≡ findings_at profile lines k
-findings_here profile lines k line before reached is comes here = rw (is, comes, ← here) refl
+pub findings_here : (profile : Profile) (lines : List (List ℕ)) (k : ℕ) (line : List ℕ) (before : Before) (alone : List ChannelUse) (reached : Option ℕ) → before ≡ before_line profile (map fields_of lines) k → reached ≡ reached_at profile (map fields_of lines) k → get_or lines k [] ≡ line
+    → line_findings k line (fault_after before) (found_without_fault before.profile k line (notes profile (map fields_of lines)) alone reached before.section (said_after before (fields_of line))) ≡ findings_at profile lines alone k
+findings_here profile lines k line before alone reached is comes here = rw (is, comes, ← here) refl
 
-pub found_at : (profile : Profile) (lines : List (List ℕ)) (k : ℕ) (found here : Bool) → found ≡ is_something_found (flat_map (findings_at profile lines) (range_with_len 0 k))
-    → here ≡ is_something_found (findings_at profile lines k)
-    → (found || here) ≡ is_something_found (flat_map (findings_at profile lines) (range_with_len 0 (k + 1)))
-found_at profile lines k found here is also =
-    rw (is, also) (sym (found_more (flat_map (findings_at profile lines) (range_with_len 0 k)) (findings_at profile lines k)) ∙ ap is_something_found (range_flat (findings_at profile lines) 0 k k (omega arith)))
+pub found_at : (profile : Profile) (lines : List (List ℕ)) (alone : List ChannelUse) (k : ℕ) (found here : Bool) → found ≡ is_something_found (flat_map (findings_at profile lines alone) (range_with_len 0 k))
+    → here ≡ is_something_found (findings_at profile lines alone k)
+    → (found || here) ≡ is_something_found (flat_map (findings_at profile lines alone) (range_with_len 0 (k + 1)))
+found_at profile lines alone k found here is also =
+    rw (is, also) (sym (found_more (flat_map (findings_at profile lines alone) (range_with_len 0 k)) (findings_at profile lines alone k)) ∙ ap is_something_found (range_flat (findings_at profile lines alone) 0 k k (omega arith)))
 
 -- ---- a whole deck
 

@@ -89,7 +89,7 @@ clean_at : (profile : Profile) (text : List ℕ) → findings_in profile text �
 unfolding findings_in
 clean_at profile text none k below =
     let lines = slice_split is_line_feed text in
-    clean_by k (get_or lines k []) (fault_as_line profile (map fields_of lines) k) _ _ _ refl refl (nothing_at (findings_at profile lines) (length lines) none k below)
+    clean_by k (get_or lines k []) (fault_as_line profile (map fields_of lines) k) _ _ _ refl refl (nothing_at (findings_at profile lines _) (length lines) none k below)
 
 -- ---- the whole deck
 

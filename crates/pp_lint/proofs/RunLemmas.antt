@@ -11,8 +11,8 @@ use Rattle.pp_lint.specs.InstructionsOfLine.{first_place, instructions_of}
 use Rattle.pp_lint.specs.RunFindings.{run_findings}
 use Rattle.pp_lint.specs.StraightLine.{behind_all, behind_line, fault_findings, reached_at}
 use Rattle.pp_instructions.specs.declared.instruction.Instruction.{Instruction}
-use Rattle.pp_lint.specs.declared.{row.Kind.Kind, row.Row.Row}
-use Rattle.pp_lint.specs.declared.row.Kind.TheVariants.{Central, Channel, Dead, Fault, Name, Start, Target, Word}
+use Rattle.pp_lint.specs.declared.{channel_use.ChannelUse.ChannelUse, row.Kind.Kind, row.Row.Row}
+use Rattle.pp_lint.specs.declared.row.Kind.TheVariants.{Central, Dead, Fault, Name, Start, Target, Word}
 
 -- whether the words of a line are for a processor
 abbrev pub is_word : Kind → Bool
@@ -49,7 +49,6 @@ module _ (profile : Profile) (said : Option Line) where
   none_within number Central word start = refl
   none_within number Dead word start = refl
   none_within number (Target n) word start = refl
-  none_within number (Channel n) word start = refl
 
   pub same_within : (number : ℕ) (kind : Kind) (noted : List Note) → is_word kind ≡ false → is_start kind ≡ false → noted ≡ noted ++ notes_within number profile kind said
   same_within number kind noted word start = sym (ap (λ ns. noted ++ ns) (none_within number kind word start) ∙ append-nil noted)
@@ -72,29 +71,27 @@ module _ (profile : Profile) (noted : List Note) (said : Option Line) (reached :
   behind_other Central word name = refl
   behind_other Dead word name = refl
   behind_other (Target n) word name = refl
-  behind_other (Channel n) word name = refl
 
-  pub run_none : (k : ℕ) (line : List ℕ) (kind : Kind) → is_word kind ≡ false → run_findings profile k line noted reached kind said ≡ []
+  pub run_none : (alone : List ChannelUse) (k : ℕ) (line : List ℕ) (kind : Kind) → is_word kind ≡ false → run_findings profile k line noted alone reached kind said ≡ []
   unfolding run_findings
-  run_none k line Fault word = refl
-  run_none k line (Name n) word = refl
-  run_none k line (Start n) word = refl
-  run_none k line (Word n) word = absurd (cc)
-  run_none k line Central word = refl
-  run_none k line Dead word = refl
-  run_none k line (Target n) word = refl
-  run_none k line (Channel n) word = refl
+  run_none alone k line Fault word = refl
+  run_none alone k line (Name n) word = refl
+  run_none alone k line (Start n) word = refl
+  run_none alone k line (Word n) word = absurd (cc)
+  run_none alone k line Central word = refl
+  run_none alone k line Dead word = refl
+  run_none alone k line (Target n) word = refl
 
 -- by the row that the line gives
-module _ (profile : Profile) (noted : List Note) (said : Option Line) (reached : Option ℕ) (k : ℕ) (line : List ℕ) (s : Option ℕ) (row : Row) where
+module _ (profile : Profile) (noted : List Note) (alone : List ChannelUse) (said : Option Line) (reached : Option ℕ) (k : ℕ) (line : List ℕ) (s : Option ℕ) (row : Row) where
   pub run_words : (n first : ℕ) (is : List Instruction) → row ≡ given s said → row.kind ≡ Word n → first ≡ first_place said → is ≡ instructions_of said
-      → fault_findings profile k line noted n first reached is ++ alone_findings profile k line noted n first (instructions_of said)
-      ≡ run_findings profile k line noted reached (given s said).kind said
+      → fault_findings profile k line noted n first reached is ++ alone_findings k line n first said alone
+      ≡ run_findings profile k line noted alone reached (given s said).kind said
   unfolding run_findings
   run_words n first is value kind from all = rw (sym value) (rw kind (rw from (rw all refl)))
 
-  pub run_nothing : row ≡ given s said → is_word row.kind ≡ false → run_findings profile k line noted reached (given s said).kind said ≡ []
-  run_nothing value word = run_none profile noted said reached k line (given s said).kind (ap (λ (r : Row). is_word r.kind) (sym value) ∙ word)
+  pub run_nothing : row ≡ given s said → is_word row.kind ≡ false → run_findings profile k line noted alone reached (given s said).kind said ≡ []
+  run_nothing value word = run_none profile noted said reached alone k line (given s said).kind (ap (λ (r : Row). is_word r.kind) (sym value) ∙ word)
 
 pub reached_next : (profile : Profile) (lines : List Fields) (k : ℕ) (row : Row) (said : Option Line) (reached now : Option ℕ) → row ≡ given_at profile lines k → said ≡ said_at profile lines k → reached ≡ reached_at profile lines k
     → now ≡ behind_line profile (notes profile lines) row.kind said reached → now ≡ reached_at profile lines (k + 1)

@@ -3,12 +3,13 @@ use Rattle.std.specs.Prelude.{ℕ, ◌+◌, Bool, true, false, List, [], ◌∷�
 use Rattle.std.specs.List.{flat_map, list_any, range_with_len, slice_split}
 use Rattle.pp_numbers.specs.declared.profile.Profile.{Profile}
 use Rattle.pp_deck.specs.DeckLine.{Line, line_after}
-use Rattle.pp_deck.specs.DeckMeaning.{begins_section, has_fields, is_foreign, size_of}
+use Rattle.pp_deck.specs.DeckMeaning.{begins_section, deck_meaning, has_fields, is_foreign, size_of}
 use Rattle.pp_deck.specs.DeckText.{Fields, fields_of, is_line_feed}
 use Rattle.pp_deck.specs.Flaw.{code_of}
 use Rattle.pp_deck.specs.declared.deck_fault.DeckCode.{DeckCode}
 use Rattle.pp_deck.specs.declared.deck_fault.DeckCode.TheVariants.{TooLong, NotAscii}
 use Rattle.pp_instructions.specs.Column.{column_of}
+use Rattle.pp_lint.specs.ChannelUse.{alone_uses_in}
 use Rattle.pp_lint.specs.CommentFindings.{comment_findings}
 use Rattle.pp_lint.specs.FaultWords.{fault_words}
 use Rattle.pp_lint.specs.FieldAtFault.{fault_in, field_at_fault}
@@ -17,6 +18,7 @@ use Rattle.pp_lint.specs.Given.{Note, given, notes, said_as_line, section_at}
 use Rattle.pp_lint.specs.RunFindings.{run_findings}
 use Rattle.pp_lint.specs.StraightLine.{reached_at}
 use Rattle.pp_lint.specs.Warnings.{warnings}
+use Rattle.pp_lint.specs.declared.channel_use.ChannelUse.{ChannelUse}
 
 -- the fault that fields have as line k of these lines, if they say nothing
 abbrev pub fault_as_line : Profile → List Fields → ℕ → Fields → Option DeckCode
@@ -53,26 +55,27 @@ line_findings k line fault_of else_found =
 
 -- what is found in line k if it has no fault: by what all lines give, by its instructions, and in
 -- its comment
-abbrev pub found_without_fault : Profile → ℕ → List ℕ → List Note → Option ℕ → Option ℕ
-    → Option Line → List Finding
-found_without_fault profile k line notes reached processor said =
+abbrev pub found_without_fault : Profile → ℕ → List ℕ → List Note → List ChannelUse → Option ℕ
+    → Option ℕ → Option Line → List Finding
+found_without_fault profile k line notes alone reached processor said =
     warnings k line notes processor said
-    ++ run_findings profile k line notes reached (given processor said).kind said
+    ++ run_findings profile k line notes alone reached (given processor said).kind said
     ++ comment_findings k line said
 
--- what is found in line k of these lines
-abbrev pub findings_at : Profile → List (List ℕ) → ℕ → List Finding
-findings_at profile lines k =
+-- what is found in line k of these lines, of channels that one processor alone uses
+abbrev pub findings_at : Profile → List (List ℕ) → List ChannelUse → ℕ → List Finding
+findings_at profile lines alone k =
     let line = slice_index_or lines k [] in
     let fields = map fields_of lines in
     line_findings k line (fault_as_line profile fields k)
-    (found_without_fault profile k line (notes profile fields) (reached_at profile fields k)
+    (found_without_fault profile k line (notes profile fields) alone (reached_at profile fields k)
     (section_at profile fields k) (said_as_line profile fields k (fields_of line)))
 
 -- what is found in the lines of a text
 unfoldable pub findings_in : Profile → List ℕ → List Finding
 findings_in profile text = let lines = slice_split is_line_feed text in
-    flat_map (findings_at profile lines) (range_with_len 0 (length lines))
+    let alone = alone_uses_in (deck_meaning profile text) in
+    flat_map (findings_at profile lines alone) (range_with_len 0 (length lines))
 
 -- the byte order mark of UTF-8: 357 273 277 in octal
 abbrev pub mark : List ℕ

@@ -7,13 +7,13 @@ use Rattle.pp_lint.specs.Finding.{Finding}
 use Rattle.pp_lint.specs.Given.{Note}
 use Rattle.pp_lint.specs.InstructionsOfLine.{first_place, instructions_of}
 use Rattle.pp_lint.specs.StraightLine.{fault_findings}
-use Rattle.pp_lint.specs.declared.{row.Kind.Kind}
+use Rattle.pp_lint.specs.declared.{channel_use.ChannelUse.ChannelUse, row.Kind.Kind}
 use Rattle.pp_lint.specs.declared.row.Kind.TheVariants.{Word}
 
 -- what is found in line k, if it gives words, and a straight line has reached this place before it
-unfoldable pub run_findings : Profile → ℕ → List ℕ → List Note → Option ℕ → Kind → Option Line
-    → List Finding
-run_findings profile k line notes reached (Word n) said =
+unfoldable pub run_findings : Profile → ℕ → List ℕ → List Note → List ChannelUse → Option ℕ → Kind
+    → Option Line → List Finding
+run_findings profile k line notes alone reached (Word n) said =
     fault_findings profile k line notes n (first_place said) reached (instructions_of said)
-    ++ alone_findings profile k line notes n (first_place said) (instructions_of said)
-run_findings profile k line notes reached kind said = []
+    ++ alone_findings k line n (first_place said) said alone
+run_findings profile k line notes alone reached kind said = []

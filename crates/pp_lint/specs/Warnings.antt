@@ -1,5 +1,5 @@
 -- What is found in a line that has no fault, by what other lines give.
-use Rattle.std.specs.Prelude.{ℕ, ◌+◌, ◌&&◌, Bool, true, false, not, List, [], ◌∷◌, ◌++◌, codes, find, is_some, nat_lt, Option, None, Some, unwrap_or, if◌then◌else◌}
+use Rattle.std.specs.Prelude.{ℕ, ◌+◌, ◌&&◌, ◌||◌, Bool, true, false, not, List, [], ◌∷◌, ◌++◌, codes, find, is_some, nat_lt, Option, None, Some, unwrap_or, if◌then◌else◌}
 use Rattle.std.specs.List.{list_any, range_with_len}
 use Rattle.pp_word.specs.Address.{place_count}
 use Rattle.pp_word.specs.Numeral.{octal, short_decimal, short_octal}
@@ -8,7 +8,7 @@ use Rattle.pp_instructions.specs.Column.{column_of}
 use Rattle.pp_lint.specs.Finding.{Finding}
 use Rattle.pp_lint.specs.Given.{Note, first_line, given}
 use Rattle.pp_lint.specs.declared.{row.Kind.Kind, row.Row.Row}
-use Rattle.pp_lint.specs.declared.row.Kind.TheVariants.{Fault, Name, Start, Word, Central}
+use Rattle.pp_lint.specs.declared.row.Kind.TheVariants.{Fault, Name, Start, Word, Central, Dead}
 
 -- this is said of field i of the line of a number
 abbrev pub field_finding : ℕ → List ℕ → ℕ → List ℕ → Finding
@@ -73,10 +73,11 @@ unfoldable pub has_words : List Note → ℕ → Bool
 has_words notes n =
     list_any (λ place. is_some (first_line notes (Word n) place)) (range_with_len 0 place_count)
 
--- the first line that names a processor, which has words and no start
+-- whether it is the first line that names a processor without a start; one that has no words may
+-- be named so that it does not wait at dead start
 abbrev pub names_without_start : ℕ → List Note → ℕ → Bool
 names_without_start k notes n = not (is_before k (first_line notes (Name n) 0))
-    && is_lacking notes (Start n) 0 && has_words notes n
+    && is_lacking notes (Start n) 0 && (has_words notes n || is_lacking notes Dead 0)
 
 unfoldable pub startless_text : ℕ → List ℕ
 startless_text n = codes "PP " ++ short_octal 2 n ++ codes " has no START"

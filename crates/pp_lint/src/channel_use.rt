@@ -1,169 +1,232 @@
 //! Channels that one processor alone uses.
 
-ghost use Rattle.std.specs.Prelude.{ℕ, ◌≡◌, ◌+◌, List};
+ghost use Rattle.std.specs.Prelude.{ℕ, ◌≡◌, ◌+◌, IfOk, filter_map, option_to_list, slice_get};
 ghost use Rattle.std.specs.List.{flat_map};
 ghost use Rattle.pp_deck.specs.DeckText.{fields_of};
-ghost use Rattle.pp_lint.specs.ChannelUse.{alone_finding, alone_findings, alone_text, first_use, is_alone, is_opened, is_shared, is_used_by_another};
-ghost use Rattle.pp_lint.specs.FirstLines.{Shows};
-ghost use Rattle.pp_lint.specs.Given.{Note};
-ghost use Rattle.pp_lint.specs.InstructionsOfLine.{instructions_of};
+ghost use Rattle.pp_instructions.specs.InstructionEffect.{channel_named};
+ghost use Rattle.pp_lint.specs.ChannelUse.{alone_among, alone_finding, alone_findings, alone_text, alone_use, alone_uses, first_use, is_in_line, use_in};
 ghost use Rattle.pp_lint.specs.LineFault.{said_after};
 ghost use Rattle.pp_lint.specs.LintText.{finding_line, is_something_found};
-ghost use Rattle.pp_instructions.specs.InstructionEffect.{channel_named};
 ghost use Rattle.pp_lint.specs.StraightLine.{is_at};
 ghost use Rattle.pp_lint.specs.Warnings.{field_finding};
 ghost use Rattle.pp_lint.specs.WordsOfLine.{HasNoFault};
 ghost use Rattle.pp_lint.specs.declared.line_fault.Before.{Before};
+ghost use Rattle.pp_numbers.specs.PpNo.{all_processors};
 ghost use Rattle.pp_text.specs.TextWriter.{Prints};
 
-use crate::first_lines::FirstLines;
 use crate::line_findings::print_place;
-use crate::row::Kind;
-use crate::straight_line::field_of;
 use crate::word_line::WordLine;
-use crate::words::instructions_of;
+use crate::words::sets_word;
+use pp_channel::{CHANNELS, ChannelNo, Memory};
+use pp_deck::Deck;
 use pp_instructions::{Columns, Instruction};
+use pp_listing::{ListedInstruction, ListedInstructions};
 use pp_numbers::{PROCESSORS, PpNo, Profile};
 use pp_text::{TextWriter, octal2, print_short_octal};
-use pp_word::Word6;
+use pp_word::Word12;
 use std::alloc::Allocator;
 use std::io::Write;
 
-/// The numbers of channels are below this.
-const CHANNELS_END: u8 = 0o34;
+/// An instruction of processor n for channel c: its place and its word.
+#[derive(Clone, Copy)]
+pub(crate) struct ChannelUse {
+    pub(crate) n: PpNo,
+    pub(crate) c: ChannelNo,
+    pub(crate) place: Word12,
+    pub(crate) word: Word12,
+}
 
-/// Prints the channels that a processor alone uses, and a line of its words as the first, and
-/// returns whether there is one.
-pub(crate) fn print_alone_findings<A: Allocator, W: Write>(
+/// The first instructions for channels that one processor alone uses, in order of channel.
+pub(crate) fn alone_uses<A: Allocator>(
+    alloc: A,
+    deck: &Deck<A>,
+) -> Result<Vec<ChannelUse, A>, Memory>
+    ensures { IfOk result (λ uses. uses.items ≡ alone_uses
+        (record { machine = deck.now.machine; named = deck.now.named })) }
+{
+    let mut uses = Vec::new(alloc);
+    for place in 0..CHANNELS {
+        if let Some(alone) = alone_use(deck, ChannelNo::at(place)) {
+            uses.push(alone)?;
+        }
+    }
+    Ok(uses)
+}
+
+/// The first instruction for a channel, if one processor alone uses it, which first sends no
+/// function code, and no dead start opens it.
+#[tactic(auto, unfolding(crate::specs::ChannelUse::alone_use))]
+fn alone_use<A: Allocator>(deck: &Deck<A>, c: ChannelNo) -> Option<ChannelUse>
+    ensures { result ≡ alone_use
+        (record { machine = deck.now.machine; named = deck.now.named }) c }
+{
+    if deck.machine.opened(c) {
+        return None;
+    }
+    alone_among(deck, c)
+}
+
+/// The first instruction for a channel, if one processor alone uses it, which first sends no
+/// function code.
+fn alone_among<A: Allocator>(deck: &Deck<A>, c: ChannelNo) -> Option<ChannelUse>
+    ensures { result ≡ alone_among (filter_map (first_use
+        (record { machine = deck.now.machine; named = deck.now.named }) c) all_processors) }
+{
+    let mut found = None;
+    for place in 0..PROCESSORS {
+        if let Some(first) = first_use(deck, c, PpNo::at(place)) {
+            if found.is_some() {
+                return None;
+            }
+            found = Some(first);
+        }
+    }
+    unless_function(found)
+}
+
+/// The first instruction of a processor for a channel that a listing of the deck shows.
+fn first_use<A: Allocator>(deck: &Deck<A>, c: ChannelNo, n: PpNo) -> Option<ChannelUse>
+    ensures { result ≡ first_use
+        (record { machine = deck.now.machine; named = deck.now.named }) c n }
+{
+    if !deck.named[n.index()] {
+        return None;
+    }
+    first_of(
+        deck.machine.profile(),
+        c,
+        n,
+        &mut ListedInstructions::of(deck.machine.pp(n)),
+    )
+}
+
+/// The first of these instructions of a processor that is for a channel.
+fn first_of(
+    profile: Profile,
+    c: ChannelNo,
+    n: PpNo,
+    instructions: &mut ListedInstructions,
+) -> Option<ChannelUse>
+    ensures { result ≡ slice_get (filter_map (use_in profile c n) instructions.old) 0 }
+{
+    while let Some(i) = instructions.next_instruction() {
+        if is_for(profile, c, &i) {
+            return Some(ChannelUse {
+                n,
+                c,
+                place: i.place,
+                word: i.word,
+            });
+        }
+    }
+    None
+}
+
+/// Whether an instruction is for a channel.
+fn is_for(profile: Profile, c: ChannelNo, i: &ListedInstruction) -> bool
+    ensures { result ≡ is_at c (channel_named profile i.now.word) }
+{
+    match instruction_of(i.place, i.word).channel_named(profile) {
+        Some(named) => named.get() == c.get(),
+        None => false,
+    }
+}
+
+/// An instruction of which the first word is known.
+fn instruction_of(place: Word12, word: Word12) -> Instruction
+    ensures { result.word ≡ word }
+{
+    Instruction {
+        place,
+        word,
+        second: None,
+    }
+}
+
+/// An instruction, if it sends no function code.
+fn unless_function(found: Option<ChannelUse>) -> Option<ChannelUse>
+    ensures { result ≡ alone_among (option_to_list found) }
+{
+    let found = found?;
+    if instruction_of(found.place, found.word).sends_function() {
+        return None;
+    }
+    Some(found)
+}
+
+/// Prints which of these instructions a line of words sets, and returns whether it sets one.
+pub(crate) fn print_alone_findings<W: Write>(
     text: &mut TextWriter<W>,
-    firsts: &FirstLines<A>,
+    uses: &[ChannelUse],
     words: &WordLine,
 ) -> bool
-    ensures prints { (before : Before) (k : ℕ) (notes : List Note)
-        → HasNoFault before words.now.line.now → Shows firsts.now notes → words.now.number ≡ k + 1
-        → Prints W.contents text.old text.new (flat_map finding_line (alone_findings
-        words.now.profile k words.now.line.now notes words.now.n words.now.first
-        (instructions_of (said_after before (fields_of words.now.line.now))))) }
-    ensures found { (before : Before) (k : ℕ) (notes : List Note)
-        → HasNoFault before words.now.line.now → Shows firsts.now notes → words.now.number ≡ k + 1
-        → result ≡ is_something_found (alone_findings
-        words.now.profile k words.now.line.now notes words.now.n words.now.first
-        (instructions_of (said_after before (fields_of words.now.line.now)))) }
+    ensures prints { (before : Before) (k : ℕ) → HasNoFault before words.now.line.now
+        → words.now.number ≡ k + 1 → Prints W.contents text.old text.new
+        (flat_map finding_line (alone_findings k words.now.line.now words.now.n words.now.first
+        (said_after before (fields_of words.now.line.now)) uses.now)) }
+    ensures found { (before : Before) (k : ℕ) → HasNoFault before words.now.line.now
+        → result ≡ is_something_found (alone_findings k words.now.line.now words.now.n
+        words.now.first (said_after before (fields_of words.now.line.now)) uses.now) }
 {
     let mut is_found = false;
-    for c in 0..CHANNELS_END {
-        let found = print_alone_finding(text, firsts, words, Word6::truncated(c));
+    for alone in uses {
+        let found = print_alone_finding(text, words, alone);
         is_found = is_found || found;
     }
     is_found
 }
 
-/// Whether the line of a number is the first to name a channel that this processor alone names,
-/// and no dead start opens.
-#[tactic(auto, unfolding(crate::specs::ChannelUse::is_alone))]
-fn is_alone<A: Allocator>(
-    firsts: &FirstLines<A>,
-    profile: Profile,
-    n: PpNo,
-    number: u64,
-    c: Word6,
-) -> bool
-    ensures { (k : ℕ) (notes : List Note) → Shows firsts.now notes → number ≡ k + 1
-        → result ≡ is_alone profile k notes n c }
-{
-    u64::from(firsts.line_of(&Kind::Channel(n), usize::from(c.get()))) == number
-        && firsts.line_of(&Kind::Fault, 0) == 0
-        && !is_opened(firsts, profile, c)
-        && !is_shared(firsts, n, c)
-}
-
-/// Whether dead start opens a channel.
-#[tactic(auto, unfolding(crate::specs::ChannelUse::is_opened))]
-fn is_opened<A: Allocator>(firsts: &FirstLines<A>, profile: Profile, c: Word6) -> bool
-    ensures { (notes : List Note) → Shows firsts.now notes → result ≡ is_opened profile notes c }
-{
-    match profile.processor(c.get()) {
-        Some(waiting) => {
-            firsts.line_of(&Kind::Dead, 0) != 0 && firsts.line_of(&Kind::Name(waiting), 0) == 0
-        }
-        None => false,
-    }
-}
-
-/// Whether a processor other than n names a channel.
-fn is_shared<A: Allocator>(firsts: &FirstLines<A>, n: PpNo, c: Word6) -> bool
-    ensures { (notes : List Note) → Shows firsts.now notes → result ≡ is_shared notes n c }
-{
-    for place in 0..PROCESSORS {
-        if is_used_by_another(firsts, n, c, PpNo::at(place)) {
-            return true;
-        }
-    }
-    false
-}
-
-/// Whether processor m, which is not n, names a channel.
-fn is_used_by_another<A: Allocator>(firsts: &FirstLines<A>, n: PpNo, c: Word6, m: PpNo) -> bool
-    ensures { (notes : List Note) → Shows firsts.now notes
-        → result ≡ is_used_by_another notes n c m }
-{
-    m.get() != n.get() && firsts.line_of(&Kind::Channel(m), usize::from(c.get())) != 0
-}
-
-/// Prints that a processor alone uses a channel, at the first instruction of a line that names it,
-/// if that is so, no earlier line does and it sends no function code; and returns whether it is
-/// printed.
-fn print_alone_finding<A: Allocator, W: Write>(
+/// Prints that a processor alone uses a channel, if a line sets its first instruction, and returns
+/// whether that is so.
+fn print_alone_finding<W: Write>(
     text: &mut TextWriter<W>,
-    firsts: &FirstLines<A>,
     words: &WordLine,
-    c: Word6,
+    alone: &ChannelUse,
 ) -> bool
-    ensures prints { (before : Before) (k : ℕ) (notes : List Note)
-        → HasNoFault before words.now.line.now → Shows firsts.now notes → words.now.number ≡ k + 1
-        → Prints W.contents text.old text.new (flat_map finding_line (alone_finding
-        words.now.profile k words.now.line.now notes words.now.n words.now.first
-        (instructions_of (said_after before (fields_of words.now.line.now))) c)) }
-    ensures found { (before : Before) (k : ℕ) (notes : List Note)
-        → HasNoFault before words.now.line.now → Shows firsts.now notes → words.now.number ≡ k + 1
-        → result ≡ is_something_found (alone_finding
-        words.now.profile k words.now.line.now notes words.now.n words.now.first
-        (instructions_of (said_after before (fields_of words.now.line.now))) c) }
+    ensures prints { (before : Before) (k : ℕ) → HasNoFault before words.now.line.now
+        → words.now.number ≡ k + 1 → Prints W.contents text.old text.new
+        (flat_map finding_line (alone_finding k words.now.line.now words.now.n words.now.first
+        (said_after before (fields_of words.now.line.now)) alone.now)) }
+    ensures found { (before : Before) (k : ℕ) → HasNoFault before words.now.line.now
+        → result ≡ is_something_found (alone_finding k words.now.line.now words.now.n
+        words.now.first (said_after before (fields_of words.now.line.now)) alone.now) }
 {
-    if !is_alone(firsts, words.profile, words.n, words.number, c) {
+    if !is_in_line(words, alone) {
         return false;
     }
-    let Some(i) = first_use(words.profile, c, words.line) else {
-        return false;
-    };
-    if i.sends_function() {
-        return false;
-    }
-    let field = field_of(words.first, &i);
-    print_alone(text, words.n, c, words.number, words.line, field);
+    let field = (usize::from(alone.place.get()) + 1).saturating_sub(usize::from(words.first.get()));
+    print_alone(text, alone, words.number, words.line, field);
     true
+}
+
+/// Whether a line of words sets an instruction.
+#[tactic(auto, unfolding(crate::specs::ChannelUse::is_in_line))]
+fn is_in_line(words: &WordLine, alone: &ChannelUse) -> bool
+    ensures { (before : Before) → HasNoFault before words.now.line.now → result
+        ≡ is_in_line words.now.n (said_after before (fields_of words.now.line.now)) alone.now }
+{
+    alone.n.get() == words.n.get() && sets_word(words.line, alone.place, alone.word)
 }
 
 /// Prints `3:6 channel 05 is used by PP 0 alone`, at a field of a line.
 fn print_alone<W: Write>(
     text: &mut TextWriter<W>,
-    n: PpNo,
-    c: Word6,
+    alone: &ChannelUse,
     number: u64,
     line: &[u8],
     field: usize,
 )
-    ensures { Prints W.contents text.old text.new
-        (finding_line (field_finding number line.now field (alone_text n c))) }
+    ensures { Prints W.contents text.old text.new (finding_line
+        (field_finding number line.now field (alone_text alone.now.n alone.now.c))) }
 {
     print_place(text, number, Columns::of(line).column_of(field));
-    print_alone_text(text, n, c);
+    print_alone_text(text, alone.n, alone.c);
     text.print(b"\n");
 }
 
 /// Prints `channel 05 is used by PP 0 alone`.
-#[tactic(auto, using(pp_numbers::proofs::PpNoLemmas::processor_fits))]
-fn print_alone_text<W: Write>(text: &mut TextWriter<W>, n: PpNo, c: Word6)
+#[tactic(auto, using(pp_numbers::proofs::PpNoLemmas::processor_fits, pp_numbers::proofs::ChannelNoLemmas::channel_fits))]
+fn print_alone_text<W: Write>(text: &mut TextWriter<W>, n: PpNo, c: ChannelNo)
     ensures { Prints W.contents text.old text.new (alone_text n c) }
 {
     text.print(b"channel ");
@@ -171,28 +234,4 @@ fn print_alone_text<W: Write>(text: &mut TextWriter<W>, n: PpNo, c: Word6)
     text.print(b" is used by PP ");
     print_short_octal(text, 2, u64::from(n.get()));
     text.print(b" alone");
-}
-
-/// The first instruction of a line that names a channel.
-fn first_use(profile: Profile, c: Word6, line: &[u8]) -> Option<Instruction>
-    ensures { (before : Before) → HasNoFault before line.now → result
-        ≡ first_use profile c (instructions_of (said_after before (fields_of line.now))) }
-{
-    let mut instructions = instructions_of(line);
-    while let Some(i) = instructions.next_instruction() {
-        if names(profile, c, &i) {
-            return Some(i);
-        }
-    }
-    None
-}
-
-/// Whether an instruction names a channel.
-fn names(profile: Profile, c: Word6, i: &Instruction) -> bool
-    ensures { result ≡ is_at c (channel_named profile i.now.word) }
-{
-    match i.channel_named(profile) {
-        Some(named) => named.get() == c.get(),
-        None => false,
-    }
 }

@@ -16,6 +16,7 @@ mod run_findings;
 mod straight_line;
 mod text_lines;
 mod warnings;
+mod whole_deck;
 mod word_line;
 mod words;
 

@@ -16,10 +16,10 @@ ghost use Rattle.pp_text.specs.TextWriter.{Prints};
 
 use crate::comment_findings::print_comment_findings;
 use crate::fault_words::print_fault_words;
-use crate::first_lines::FirstLines;
 use crate::line_fault::{Before, Fault, fault_of};
 use crate::run_findings::print_run_findings;
 use crate::warnings::print_warnings;
+use crate::whole_deck::WholeDeck;
 use pp_deck::{DeckCode, Fields};
 use pp_instructions::Columns;
 use pp_text::{TextWriter, print_short_decimal};
@@ -30,22 +30,24 @@ use std::io::Write;
 /// Prints what is found in a line of this number, and returns whether something is.
 pub(crate) fn print_line_findings<A: Allocator, W: Write>(
     text: &mut TextWriter<W>,
-    firsts: &FirstLines<A>,
+    deck: &WholeDeck<A>,
     before: &Before,
     reached: &Option<Word12>,
     number: u64,
     line: &[u8],
 ) -> bool
     requires { before.now.size ≤ 2 ^ 17 }
-    ensures prints { (k : ℕ) (notes : List Note) → Shows firsts.now notes → number ≡ k + 1
+    ensures prints { (k : ℕ) (notes : List Note) → Shows deck.now.firsts notes → number ≡ k + 1
         → Prints W.contents text.old text.new (flat_map finding_line
         (line_findings k line.now (fault_after before.now)
-        (found_without_fault before.now.profile k line.now notes reached.now before.now.section
+        (found_without_fault before.now.profile k line.now notes deck.now.alone.items
+        reached.now before.now.section
         (said_after before.now (fields_of line.now))))) }
-    ensures found { (k : ℕ) (notes : List Note) → Shows firsts.now notes → number ≡ k + 1
+    ensures found { (k : ℕ) (notes : List Note) → Shows deck.now.firsts notes → number ≡ k + 1
         → result ≡ is_something_found
         (line_findings k line.now (fault_after before.now)
-        (found_without_fault before.now.profile k line.now notes reached.now before.now.section
+        (found_without_fault before.now.profile k line.now notes deck.now.alone.items
+        reached.now before.now.section
         (said_after before.now (fields_of line.now)))) }
 {
     if let Some(place) = first_foreign(line) {
@@ -58,8 +60,8 @@ pub(crate) fn print_line_findings<A: Allocator, W: Write>(
             true
         }
         None => {
-            let is_warned = print_warnings(text, firsts, before, number, line);
-            let is_amiss = print_run_findings(text, firsts, before, reached, number, line);
+            let is_warned = print_warnings(text, &deck.firsts, before, number, line);
+            let is_amiss = print_run_findings(text, deck, before, reached, number, line);
             let is_otherwise = print_comment_findings(text, number, line);
             is_warned | is_amiss | is_otherwise
         }

@@ -5,8 +5,9 @@ ghost use Rattle.std.specs.Io.KnownBytes.{Appends};
 ghost use Rattle.std.specs.List.{flat_map};
 ghost use Rattle.std.specs.Result.{result_ok};
 ghost use Rattle.pp_deck.specs.DeckLine.{central_line, section_line};
-ghost use Rattle.pp_deck.specs.DeckMeaning.{size_of, stated_size};
+ghost use Rattle.pp_deck.specs.DeckMeaning.{deck_meaning, size_of, stated_size};
 ghost use Rattle.pp_deck.specs.DeckText.{fields_of, lines_of};
+ghost use Rattle.pp_lint.specs.ChannelUse.{alone_uses_in};
 ghost use Rattle.pp_lint.specs.Findings.{findings, findings_in};
 ghost use Rattle.pp_lint.specs.FirstLines.{IsRow, Shows};
 ghost use Rattle.pp_lint.specs.Given.{given, named_by, notes};
@@ -16,14 +17,16 @@ ghost use Rattle.pp_lint.specs.RowOfLine.{Gives, text_in};
 ghost use Rattle.pp_text.specs.TextWriter.{Prints};
 ghost use Rattle.pp_text.specs.Written.{IsReportWritten};
 
+use crate::channel_use::{ChannelUse, alone_uses};
 use crate::first_lines::FirstLines;
 use crate::line_fault::{Before, fault_of, is};
 use crate::line_findings::{print_finding, print_line_findings, print_place};
 use crate::row::{Kind, Row, one, processor_in, row_of};
 use crate::straight_line::behind_line;
 use crate::text_lines::TextLines;
+use crate::whole_deck::WholeDeck;
 use pp_channel::Memory;
-use pp_deck::{DEFAULT_SIZE, DeckCode, Fields};
+use pp_deck::{DEFAULT_SIZE, DeckCode, Fields, read_deck};
 use pp_numbers::{PpNo, Profile};
 use pp_text::{ReportFault, TextWriter, print_short_decimal};
 use pp_word::numeral;
@@ -36,7 +39,7 @@ const LONGEST_DECK: usize = 1_048_576;
 /// Writes what is found in a deck for a machine of this profile: a line for each finding, with line
 /// and column (decimal, from 1), or `nothing found`. Returns whether something is found. Memory is
 /// asked for before the first byte is written.
-pub fn write_lint<A: Allocator, W: Write>(
+pub fn write_lint<A: Allocator + Copy, W: Write>(
     alloc: A,
     writer: &mut W,
     profile: Profile,
@@ -49,11 +52,11 @@ pub fn write_lint<A: Allocator, W: Write>(
     ensures fault { IfErr result (λ fault. IsReportWritten (lint_text profile deck.now)
         (Err fault) (W.contents writer.old) (W.contents writer.new)) }
 {
-    let Ok(firsts) = first_lines(alloc, profile, text_in(deck)) else {
+    let Ok(whole) = whole_deck(alloc, profile, text_in(deck)) else {
         return Err(ReportFault::Memory);
     };
     let mut text = TextWriter::new(writer);
-    let is_found = print_text(&mut text, &firsts, profile, deck);
+    let is_found = print_text(&mut text, &whole, profile, deck);
     match text.finish() {
         Ok(()) => Ok(is_found),
         Err(_) => Err(ReportFault::Write),
@@ -69,6 +72,40 @@ fn text_in(deck: &[u8]) -> &[u8]
         return &[];
     }
     deck.strip_prefix(b"\xEF\xBB\xBF").unwrap_or(deck)
+}
+
+/// What is known of all lines of a text together.
+fn whole_deck<A: Allocator + Copy>(
+    alloc: A,
+    profile: Profile,
+    deck: &[u8],
+) -> Result<WholeDeck<A>, Memory>
+    requires { length deck.now ≤ LONGEST_DECK }
+    ensures firsts { IfOk result (λ whole. Shows whole.firsts (notes profile (lines_of deck.now))) }
+    ensures alone { IfOk result (λ whole.
+        whole.alone.items ≡ alone_uses_in (deck_meaning profile deck.now)) }
+{
+    let alone = alone_in(alloc, profile, deck)?;
+    let firsts = first_lines(alloc, profile, deck)?;
+    Ok(WholeDeck { firsts, alone })
+}
+
+/// The first instructions for channels that one processor alone uses; none if the deck has a fault.
+fn alone_in<A: Allocator + Copy>(
+    alloc: A,
+    profile: Profile,
+    deck: &[u8],
+) -> Result<Vec<ChannelUse, A>, Memory>
+    ensures { IfOk result (λ uses.
+        uses.items ≡ alone_uses_in (deck_meaning profile deck.now)) }
+{
+    match read_deck(alloc, profile, deck) {
+        Ok(deck) => alone_uses(alloc, &deck),
+        Err(fault) => match fault.code {
+            DeckCode::Memory => Err(Memory),
+            _ => Ok(Vec::new(alloc)),
+        },
+    }
 }
 
 /// The first line of a text that gives each thing.
@@ -97,16 +134,18 @@ fn first_lines<A: Allocator>(
 /// Prints the text of what is found in a deck, and returns whether something is.
 fn print_text<A: Allocator, W: Write>(
     text: &mut TextWriter<W>,
-    firsts: &FirstLines<A>,
+    whole: &WholeDeck<A>,
     profile: Profile,
     deck: &[u8],
 ) -> bool
-    requires { length deck.now ≤ LONGEST_DECK
-        → Shows firsts.now (notes profile (lines_of (text_in deck.now))) }
+    requires firsts { length deck.now ≤ LONGEST_DECK
+        → Shows whole.now.firsts (notes profile (lines_of (text_in deck.now))) }
+    requires alone { length deck.now ≤ LONGEST_DECK
+        → whole.now.alone.items ≡ alone_uses_in (deck_meaning profile (text_in deck.now)) }
     ensures prints { Prints W.contents text.old text.new (lint_text profile deck.now) }
     ensures found { result ≡ is_something_found (findings profile deck.now) }
 {
-    if print_findings(text, firsts, profile, deck) {
+    if print_findings(text, whole, profile, deck) {
         return true;
     }
     text.print(b"nothing found\n");
@@ -116,12 +155,14 @@ fn print_text<A: Allocator, W: Write>(
 /// Prints a line for each finding of a deck, and returns whether there is one.
 fn print_findings<A: Allocator, W: Write>(
     text: &mut TextWriter<W>,
-    firsts: &FirstLines<A>,
+    whole: &WholeDeck<A>,
     profile: Profile,
     deck: &[u8],
 ) -> bool
-    requires { length deck.now ≤ LONGEST_DECK
-        → Shows firsts.now (notes profile (lines_of (text_in deck.now))) }
+    requires firsts { length deck.now ≤ LONGEST_DECK
+        → Shows whole.now.firsts (notes profile (lines_of (text_in deck.now))) }
+    requires alone { length deck.now ≤ LONGEST_DECK
+        → whole.now.alone.items ≡ alone_uses_in (deck_meaning profile (text_in deck.now)) }
     ensures prints { Prints W.contents text.old text.new
         (flat_map finding_line (findings profile deck.now)) }
     ensures found { result ≡ is_something_found (findings profile deck.now) }
@@ -133,10 +174,10 @@ fn print_findings<A: Allocator, W: Write>(
     match deck.strip_prefix(b"\xEF\xBB\xBF") {
         Some(rest) => {
             print_mark(text);
-            print_lines(text, firsts, profile, rest);
+            print_lines(text, whole, profile, rest);
             true
         }
-        None => print_lines(text, firsts, profile, deck),
+        None => print_lines(text, whole, profile, deck),
     }
 }
 
@@ -153,12 +194,13 @@ fn print_mark<W: Write>(text: &mut TextWriter<W>)
 /// Prints what is found in the lines of a text, and returns whether something is.
 fn print_lines<A: Allocator, W: Write>(
     text: &mut TextWriter<W>,
-    firsts: &FirstLines<A>,
+    whole: &WholeDeck<A>,
     profile: Profile,
     deck: &[u8],
 ) -> bool
     requires short { length deck.now ≤ LONGEST_DECK }
-    requires shows { Shows firsts.now (notes profile (lines_of deck.now)) }
+    requires shows { Shows whole.now.firsts (notes profile (lines_of deck.now)) }
+    requires alone { whole.now.alone.items ≡ alone_uses_in (deck_meaning profile deck.now) }
     ensures prints { Prints W.contents text.old text.new
         (flat_map finding_line (findings_in profile deck.now)) }
     ensures found { result ≡ is_something_found (findings_in profile deck.now) }
@@ -170,10 +212,10 @@ fn print_lines<A: Allocator, W: Write>(
     let mut lines = TextLines::of(deck);
     while let Some(line) = lines.next_line() {
         number += 1;
-        let found = print_line_findings(text, firsts, &before, &reached, number, line);
+        let found = print_line_findings(text, whole, &before, &reached, number, line);
         is_found = is_found || found;
         let row = row_after(&before, line);
-        reached = behind_line(firsts, profile, &row.kind, line, &reached);
+        reached = behind_line(&whole.firsts, profile, &row.kind, line, &reached);
         before = after_line(&before, line);
     }
     is_found

@@ -33,8 +33,6 @@ pub(crate) enum Kind {
     Dead,
     /// A place of a processor that START or a jump leads to.
     Target(PpNo),
-    /// A channel that it uses.
-    Channel(PpNo),
 }
 
 /// Things in a row: how many of a kind, from a place or an address on.

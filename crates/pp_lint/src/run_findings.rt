@@ -12,10 +12,10 @@ ghost use Rattle.pp_lint.specs.WordsOfLine.{HasNoFault};
 ghost use Rattle.pp_text.specs.TextWriter.{Prints};
 
 use crate::channel_use::print_alone_findings;
-use crate::first_lines::FirstLines;
 use crate::line_fault::Before;
 use crate::row::{Kind, row_of};
 use crate::straight_line::print_fault_findings;
+use crate::whole_deck::WholeDeck;
 use crate::word_line::WordLine;
 use crate::words::{first_place, instructions_of};
 use pp_deck::Fields;
@@ -28,7 +28,7 @@ use std::io::Write;
 /// whether something is.
 pub(crate) fn print_run_findings<A: Allocator, W: Write>(
     text: &mut TextWriter<W>,
-    firsts: &FirstLines<A>,
+    deck: &WholeDeck<A>,
     before: &Before,
     reached: &Option<Word12>,
     number: u64,
@@ -36,13 +36,13 @@ pub(crate) fn print_run_findings<A: Allocator, W: Write>(
 ) -> bool
     requires size { before.now.size ≤ 2 ^ 17 }
     requires clean { HasNoFault before.now line.now }
-    ensures prints { (k : ℕ) (notes : List Note) → Shows firsts.now notes → number ≡ k + 1
+    ensures prints { (k : ℕ) (notes : List Note) → Shows deck.now.firsts notes → number ≡ k + 1
         → Prints W.contents text.old text.new (flat_map finding_line
-        (run_findings before.now.profile k line.now notes reached.now
+        (run_findings before.now.profile k line.now notes deck.now.alone.items reached.now
         (given before.now.section (said_after before.now (fields_of line.now))).kind
         (said_after before.now (fields_of line.now)))) }
-    ensures found { (k : ℕ) (notes : List Note) → Shows firsts.now notes → number ≡ k + 1
-        → result ≡ is_something_found (run_findings before.now.profile k line.now notes reached.now
+    ensures found { (k : ℕ) (notes : List Note) → Shows deck.now.firsts notes → number ≡ k + 1
+        → result ≡ is_something_found (run_findings before.now.profile k line.now notes deck.now.alone.items reached.now
         (given before.now.section (said_after before.now (fields_of line.now))).kind
         (said_after before.now (fields_of line.now))) }
 {
@@ -58,7 +58,7 @@ pub(crate) fn print_run_findings<A: Allocator, W: Write>(
         first: first_place(line),
     };
     let mut instructions = instructions_of(line);
-    let is_faulty = print_fault_findings(text, firsts, &words, reached, &mut instructions);
-    let is_alone = print_alone_findings(text, firsts, &words);
+    let is_faulty = print_fault_findings(text, &deck.firsts, &words, reached, &mut instructions);
+    let is_alone = print_alone_findings(text, &deck.alone, &words);
     is_faulty || is_alone
 }

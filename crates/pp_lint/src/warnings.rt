@@ -55,7 +55,6 @@ pub(crate) fn print_warnings<A: Allocator, W: Write>(
         Kind::Central => print_twice(text, firsts, &row, number, line),
         Kind::Dead => false,
         Kind::Target(_) => false,
-        Kind::Channel(_) => false,
     }
 }
 
@@ -208,8 +207,8 @@ fn is_lacking<A: Allocator>(firsts: &FirstLines<A>, kind: &Kind, place: usize) -
     firsts.line_of(kind, place) == 0 && firsts.line_of(&Kind::Fault, 0) == 0
 }
 
-/// Prints at the first line that names a processor that it has words and no start, and returns
-/// whether that is so.
+/// Prints at the first line that names a processor that it has no start, and returns whether that
+/// is so.
 fn print_no_start<A: Allocator, W: Write>(
     text: &mut TextWriter<W>,
     firsts: &FirstLines<A>,
@@ -250,15 +249,15 @@ fn print_startless_text<W: Write>(text: &mut TextWriter<W>, n: PpNo)
     text.print(b" has no START");
 }
 
-/// Whether the line of this number is the first that names a processor, which has words and no
-/// start.
+/// Whether the line of this number is the first that names a processor, which has no start, and has
+/// words or need not be named for dead start.
 fn names_without_start<A: Allocator>(firsts: &FirstLines<A>, n: PpNo, number: u64) -> bool
     ensures { (k : ℕ) (notes : List Note) → Shows firsts.now notes → number ≡ k + 1
         → result ≡ names_without_start k notes n }
 {
     !is_before(firsts, &Kind::Name(n), 0, number)
         && is_lacking(firsts, &Kind::Start(n), 0)
-        && has_words(firsts, n)
+        && (has_words(firsts, n) || is_lacking(firsts, &Kind::Dead, 0))
 }
 
 /// Whether a processor has words.

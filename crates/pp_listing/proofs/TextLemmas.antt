@@ -1,7 +1,8 @@
 -- Steps of what prints a listing.
-use Rattle.std.proofs.Common.{◌≡◌, ◌≢◌, ℕ, ◌+◌, ◌%◌, ◌<◌, ◌≤◌, true, false, List, [], ◌∷◌, ◌++◌, length, drop, get_or, eqb, ◌^◌, codes, refl, sym, ap, ◌∙◌, append_assoc, arith}
+use Rattle.std.proofs.Common.{◌≡◌, ◌≢◌, ℕ, ◌+◌, ◌%◌, ◌<◌, ◌≤◌, Bool, true, false, List, [], ◌∷◌, ◌++◌, length, drop, get_or, eqb, ◌^◌, codes, refl, sym, ap, ◌∙◌, append_assoc, arith}
+use Rattle.std.specs.Prelude.{◌&&◌, nat_lt}
 use Rattle.std.specs.List.{flat_map, range_with_len}
-use Rattle.std.proofs.lemmas.Bool.{eq-eqb, ne_eqb, cond-true, cond-false, cases_lt}
+use Rattle.std.proofs.lemmas.Bool.{and_parts, eq-eqb, lt-ltb, ltb-true, ne_eqb, cond-true, cond-false, cases_lt}
 use Rattle.std.proofs.lemmas.List.{append-nil, drop_all, drop_more, length-drop}
 use Rattle.std.proofs.lemmas.List.Concat.{flat_map-append}
 use Rattle.pp_word.specs.Address.{place_count, next_place}
@@ -37,26 +38,14 @@ unfolding next_of
 next_is memory place long lt = grind (arith, cases_lt, next_of, drop_more, drop_all)
 
 -- the lines from a place on
-lines_from : ℕ → List ℕ → List ListedLine
+unfoldable pub lines_from : ℕ → List ℕ → List ListedLine
 lines_from place memory = instruction_lines (get_or memory 0 0) place (drop place memory)
 
--- the text so far and that of the words from a place on
-pub IsSoFar : List ℕ → List ℕ → ℕ → List ℕ → Type 0
-IsSoFar whole text place memory = text ++ flat_map text_line (lines_from place memory) ≡ whole
+pub none_left : (all : List ListedLine) (memory : List ℕ) (place : ℕ) → length memory ≤ place → all ≡ lines_from place memory → all ≡ []
+unfolding lines_from
+none_left all memory place le are = grind (arith, drop_all)
 
-pub before_first : (memory : List ℕ) → IsSoFar (flat_map text_line (instruction_lines (get_or memory 0 0) 0 memory)) [] 0 memory
-unfolding IsSoFar lines_from
-before_first memory = refl
-
--- a text that goes on by one line
-line_passed : (whole text more : List ℕ) (line : ListedLine) (now behind : List ListedLine) → now ≡ line ∷ behind → more ≡ text ++ text_line line → text ++ flat_map text_line now ≡ whole → more ++ flat_map text_line behind ≡ whole
-line_passed whole text more line now behind are is h = grind (arith, append_assoc)
-
-pub all_passed : (whole text memory : List ℕ) (place : ℕ) → length memory ≤ place → IsSoFar whole text place memory → text ≡ whole
-unfolding IsSoFar lines_from
-all_passed whole text memory place le h = grind (arith, append-nil, drop_all)
-
--- ---- one step of the loop over places
+-- ---- one word more
 
 here : (memory : List ℕ) (place at word : ℕ) → place < place_count → at ≡ place % 2 ^ 12 → word ≡ get_or memory at 0 → word ≡ get_or memory place 0
 here memory place at word lt is_at is_word = let at_is : at ≡ place = omega (arith, is_at, lt) in is_word ∙ ap (λ (i : ℕ). get_or memory i 0) at_is
@@ -64,44 +53,60 @@ here memory place at word lt is_at is_word = let at_is : at ≡ place = omega (a
 behind : (memory : List ℕ) (place at after m : ℕ) → place < place_count → at ≡ place % 2 ^ 12 → after ≡ next_place at → m ≡ get_or memory after 0 → m ≡ get_or memory (next_place place) 0
 behind memory place at after m lt is_at is_after is_m = grind arith
 
-pub zero_step : (whole text memory : List ℕ) (place at word got : ℕ) → length memory ≡ place_count → place < place_count → at ≡ place % 2 ^ 12 → word ≡ get_or memory at 0 → got ≡ word → got ≡ 0 → IsSoFar whole text place memory → IsSoFar whole text (place + 1) memory
-unfolding IsSoFar lines_from
-zero_step whole text memory place at word got long lt is_at is_word is_got none h =
-    sym (ap (λ (ws : List ℕ). text ++ flat_map text_line (instruction_lines (get_or memory 0 0) place ws)) (drop_more memory place 0 (omega (arith, lt, long)))
-    ∙ ap (λ (ls : List ListedLine). text ++ flat_map text_line ls)
-    (zero_first (get_or memory 0 0) place (get_or memory place 0) (drop (place + 1) memory) (sym (here memory place at word lt is_at is_word) ∙ sym is_got ∙ none)))
-    ∙ h
+pub zero_step : (all : List ListedLine) (memory : List ℕ) (place at word : ℕ) → length memory ≡ place_count → place < place_count → at ≡ place % 2 ^ 12 → word ≡ get_or memory at 0 → word ≡ 0
+    → all ≡ lines_from place memory → all ≡ lines_from (place + 1) memory
+unfolding lines_from
+zero_step all memory place at word long lt is_at is_word none are =
+    are ∙ ap (instruction_lines (get_or memory 0 0) place) (drop_more memory place 0 (omega (arith, lt, long)))
+    ∙ zero_first (get_or memory 0 0) place (get_or memory place 0) (drop (place + 1) memory) (sym (here memory place at word lt is_at is_word) ∙ none)
 
-pub one_step : (whole text more memory : List ℕ) (place at after word m got : ℕ) → length memory ≡ place_count → place < place_count → at ≡ place % 2 ^ 12 → after ≡ next_place at → word ≡ get_or memory at 0 → m ≡ get_or memory after 0 → got ≡ word → got ≢ 0 → (place + 1 < place_count → is_long word ≡ false)
-    → more ≡ text ++ text_line (one_word at word m) → IsSoFar whole text place memory → IsSoFar whole more (place + 1) memory
-unfolding IsSoFar lines_from
-one_step whole text more memory place at after word m got long lt is_at is_after is_word is_m is_got some short is h =
+pub one_step : (all : List ListedLine) (memory : List ℕ) (place at after word m : ℕ) → length memory ≡ place_count → place < place_count → at ≡ place % 2 ^ 12 → after ≡ next_place at → word ≡ get_or memory at 0 → m ≡ get_or memory after 0 → word ≢ 0 → (place + 1 < place_count → is_long word ≡ false)
+    → all ≡ lines_from place memory → all ≡ one_word at word m ∷ lines_from (place + 1) memory
+unfolding lines_from
+one_step all memory place at after word m long lt is_at is_after is_word is_m some short are =
     let first = get_or memory 0 0 in
     let at_is : at ≡ place = omega (arith, is_at, lt) in
     let left = drop (place + 1) memory in
-    line_passed whole text more (one_word at word m) (instruction_lines first place (drop place memory)) (instruction_lines first (place + 1) left)
-    (ap (instruction_lines first place) (drop_more memory place 0 (omega (arith, lt, long)) ∙ ap (λ (w : ℕ). w ∷ left) (sym (here memory place at word lt is_at is_word)))
-    ∙ one_first first place word left (λ e. some (is_got ∙ e)) (λ next. short (omega (arith, next, long, length-drop (place + 1) memory)))
+    are ∙ ap (instruction_lines first place) (drop_more memory place 0 (omega (arith, lt, long)) ∙ ap (λ (w : ℕ). w ∷ left) (sym (here memory place at word lt is_at is_word)))
+    ∙ one_first first place word left some (λ next. short (omega (arith, next, long, length-drop (place + 1) memory)))
     ∙ ap (λ (v : ℕ). one_word place word v ∷ instruction_lines first (place + 1) left) (next_is memory place long lt ∙ sym (behind memory place at after m lt is_at is_after is_m))
-    ∙ ap (λ (i : ℕ). one_word i word m ∷ instruction_lines first (place + 1) left) (sym at_is)) is h
+    ∙ ap (λ (i : ℕ). one_word i word m ∷ instruction_lines first (place + 1) left) (sym at_is)
 
-pub two_step : (whole text more memory : List ℕ) (place at after word m got : ℕ) → length memory ≡ place_count → place + 1 < place_count → at ≡ place % 2 ^ 12 → after ≡ next_place at → word ≡ get_or memory at 0 → m ≡ get_or memory after 0 → got ≡ word → got ≢ 0 → is_long word ≡ true
-    → more ≡ text ++ text_line (two_words at word m) → IsSoFar whole text place memory → IsSoFar whole more (place + 1 + 1) memory
-unfolding IsSoFar lines_from
-two_step whole text more memory place at after word m got long lt is_at is_after is_word is_m is_got some two is h =
+pub two_step : (all : List ListedLine) (memory : List ℕ) (place at after word m : ℕ) → length memory ≡ place_count → place + 1 < place_count → at ≡ place % 2 ^ 12 → after ≡ next_place at → word ≡ get_or memory at 0 → m ≡ get_or memory after 0 → word ≢ 0 → is_long word ≡ true
+    → all ≡ lines_from place memory → all ≡ two_words at word m ∷ lines_from (place + 1 + 1) memory
+unfolding lines_from
+two_step all memory place at after word m long lt is_at is_after is_word is_m some two are =
     let first = get_or memory 0 0 in
     let at_is : at ≡ place = omega (arith, is_at, lt) in
     let next : next_place place ≡ place + 1 = omega (arith, lt) in
     let on : place + 2 ≡ place + 1 + 1 = omega arith in
     let left = drop (place + 1 + 1) memory in
     let m_is : m ≡ get_or memory (place + 1) 0 = behind memory place at after m (omega (arith, lt)) is_at is_after is_m ∙ ap (λ (i : ℕ). get_or memory i 0) next in
-    line_passed whole text more (two_words at word m) (instruction_lines first place (drop place memory)) (instruction_lines first (place + 1 + 1) left)
-    (ap (instruction_lines first place)
+    are ∙ ap (instruction_lines first place)
     (drop_more memory place 0 (omega (arith, lt, long)) ∙ ap (λ (ws : List ℕ). get_or memory place 0 ∷ ws) (drop_more memory (place + 1) 0 (omega (arith, lt, long)))
     ∙ ap (λ (w : ℕ). w ∷ get_or memory (place + 1) 0 ∷ left) (sym (here memory place at word (omega (arith, lt)) is_at is_word)) ∙ ap (λ (v : ℕ). word ∷ v ∷ left) (sym m_is))
-    ∙ cond-false (eqb word 0) _ _ (ne_eqb word 0 (λ e. some (is_got ∙ e))) ∙ cond-true (is_long word) _ _ two
+    ∙ cond-false (eqb word 0) _ _ (ne_eqb word 0 some) ∙ cond-true (is_long word) _ _ two
     ∙ ap (λ (i : ℕ). two_words place word m ∷ instruction_lines first i left) on
-    ∙ ap (λ (i : ℕ). two_words i word m ∷ instruction_lines first (place + 1 + 1) left) (sym at_is)) is h
+    ∙ ap (λ (i : ℕ). two_words i word m ∷ instruction_lines first (place + 1 + 1) left) (sym at_is)
+
+-- by whether the word has a second one, at a place that there is
+pub one_line : (all : List ListedLine) (memory : List ℕ) (place at after word m : ℕ) → length memory ≡ place_count → place < place_count → at ≡ place % 2 ^ 12 → after ≡ next_place at → word ≡ get_or memory at 0 → m ≡ get_or memory after 0 → word ≢ 0
+    → (is_long word && nat_lt (place + 1) place_count) ≡ false → all ≡ lines_from place memory → all ≡ one_word at word m ∷ lines_from (place + 1) memory
+one_line all memory place at after word m long lt is_at is_after is_word is_m some lone =
+    one_step all memory place at after word m long lt is_at is_after is_word is_m some (λ below. short (is_long word) (nat_lt (place + 1) place_count) (lt-ltb (place + 1) place_count below) lone)
+  where
+    short : (a b : Bool) → b ≡ true → (a && b) ≡ false → a ≡ false
+    short true true is none = absurd (cc)
+    short true false is none = absurd (cc)
+    short false b is none = refl
+
+pub two_lines : (all : List ListedLine) (memory : List ℕ) (place at after word m : ℕ) → length memory ≡ place_count → place < place_count → at ≡ place % 2 ^ 12 → after ≡ next_place at → word ≡ get_or memory at 0 → m ≡ get_or memory after 0 → word ≢ 0
+    → (is_long word && nat_lt (place + 1) place_count) ≡ true → all ≡ lines_from place memory → all ≡ two_words at word m ∷ lines_from (place + 1 + 1) memory
+two_lines all memory place at after word m long lt is_at is_after is_word is_m some two =
+    two_step all memory place at after word m long (ltb-true (place + 1) place_count (both.1)) is_at is_after is_word is_m some both.0
+  where
+    both : (is_long word ≡ true) × (nat_lt (place + 1) place_count ≡ true)
+    both = and_parts _ _ two
 
 -- ---- the line of a central word
 

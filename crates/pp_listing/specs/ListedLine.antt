@@ -1,11 +1,12 @@
 -- A line of a listing: a line of a deck as it is printed, with the instruction that its words are
 -- as a comment. Characters are ASCII codes: LF is 10, a space is 32 (decimal).
-use Rattle.std.specs.Prelude.{ℕ, List, [], ◌∷◌, ◌++◌, codes}
+use Rattle.std.specs.Prelude.{ℕ, List, [], ◌∷◌, ◌++◌, codes, if◌then◌else◌}
 use Rattle.std.specs.List.{flat_map}
 use Rattle.pp_deck.specs.DeckLine.{Line, nothing, central_size, central_words, section, start, words, dead_start}
 use Rattle.pp_text.specs.InstructionText.{instruction_text}
 use Rattle.pp_word.specs.Numeral.{octal, short_octal}
 use Rattle.pp_text.specs.PrintedText.{line_end, padded}
+use Rattle.pp_listing.specs.declared.listed_instructions.ListedInstruction.{ListedInstruction}
 
 -- a number in exactly `width` digits, after a blank
 abbrev pub after_blank : ℕ → ℕ → List ℕ
@@ -31,6 +32,10 @@ pub data ListedLine : Type 0 where
   bare : Line → ListedLine
   one_word : ℕ → ℕ → ℕ → ListedLine
   two_words : ℕ → ℕ → ℕ → ListedLine
+
+-- an instruction as a line
+abbrev pub listed_line : ListedInstruction → ListedLine
+listed_line i = if i.has_second then two_words i.place i.word i.next else one_word i.place i.word i.next
 
 -- what it says as a line of a deck
 abbrev pub says : ListedLine → Line

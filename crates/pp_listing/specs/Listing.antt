@@ -22,6 +22,10 @@ instruction_lines first place (w ∷ m ∷ ws) =
     else if is_long w then two_words place w m ∷ instruction_lines first (place + 2) ws
     else one_word place w m ∷ instruction_lines first (place + 1) (m ∷ ws)
 
+-- all those of a processor
+abbrev pub instructions_listed : Processor → List ListedLine
+instructions_listed pp = instruction_lines (word_at pp 0) 0 pp.memory
+
 -- `START p a`, if a processor is running
 abbrev pub start_line : PpState → ℕ → ℕ → List ListedLine
 start_line Running p a = bare (start p a) ∷ []
@@ -29,7 +33,7 @@ start_line state p a = []
 
 abbrev pub section_lines : ℕ → Processor → List ListedLine
 section_lines n pp =
-    bare (section n) ∷ instruction_lines (word_at pp 0) 0 pp.memory ++ start_line pp.state pp.p pp.a
+    bare (section n) ∷ instructions_listed pp ++ start_line pp.state pp.p pp.a
 
 -- the section of processor n, if it is named
 abbrev pub named_section : List Bool → MachineState → ℕ → List ListedLine

@@ -1,35 +1,34 @@
 //! The lines of a processor's words, one for each instruction.
 
-ghost use Rattle.pp_processor.specs.Processor.{word_at};
-ghost use Rattle.pp_text.specs.InstructionText.{is_long};
+ghost use Rattle.std.specs.Prelude.{◌≡◌, true, false};
 ghost use Rattle.pp_text.specs.TextWriter.{Prints};
-ghost use Rattle.pp_listing.specs.ListedLine.{one_word, text_line, text_of, two_words};
-ghost use Rattle.pp_listing.specs.Listing.{instruction_lines};
+ghost use Rattle.pp_listing.specs.ListedLine.{listed_line, one_word, text_line, text_of, two_words};
+ghost use Rattle.pp_listing.specs.Listing.{instructions_listed};
 
+use crate::listed_instructions::{ListedInstruction, ListedInstructions};
 use pp_machine::Pp;
 use pp_text::{TextWriter, octal4, print_running};
-use pp_word::{PLACES, Word12, decode, next};
+use pp_word::Word12;
 use std::io::Write;
 
 /// Prints the lines of all words that are not 0.
 pub(crate) fn print_instructions<W: Write>(text: &mut TextWriter<W>, pp: &Pp)
-    ensures { Prints W.contents text.old text.new
-        (text_of (instruction_lines (word_at pp.now 0) 0 pp.now.memory)) }
+    ensures { Prints W.contents text.old text.new (text_of (instructions_listed pp.now)) }
 {
-    let mut place = 0;
-    while place < PLACES {
-        let at = Word12::truncated(place);
-        let word = pp.get(at);
-        place += 1;
-        if word.get() != 0 {
-            let m = pp.get(next(at));
-            if decode(word).0.is_long() && place < PLACES {
-                print_two_words(text, at, word, m);
-                place += 1;
-            } else {
-                print_one_word(text, at, word, m);
-            }
-        }
+    let mut instructions = ListedInstructions::of(pp);
+    while let Some(i) = instructions.next_instruction() {
+        print_instruction(text, &i);
+    }
+}
+
+/// Prints the line of an instruction.
+fn print_instruction<W: Write>(text: &mut TextWriter<W>, i: &ListedInstruction)
+    ensures { Prints W.contents text.old text.new (text_line (listed_line i.now)) }
+{
+    if i.has_second {
+        print_two_words(text, i.place, i.word, i.next);
+    } else {
+        print_one_word(text, i.place, i.word, i.next);
     }
 }
 

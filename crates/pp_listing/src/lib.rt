@@ -8,6 +8,7 @@ mod going_on;
 mod instruction_lines;
 mod laws;
 mod listed_deck;
+mod listed_instructions;
 mod rest_of_order;
 mod sections;
 
@@ -16,4 +17,5 @@ pub use dumped_deck::{DumpFault, write_dump};
 pub use going_on::Busy;
 pub use laws::{dump_law, listing_law};
 pub use listed_deck::write_listing;
+pub use listed_instructions::{ListedInstruction, ListedInstructions};
 pub use rest_of_order::order_left;

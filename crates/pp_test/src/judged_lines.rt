@@ -37,7 +37,7 @@ pub fn lines_to_judge<A: Allocator + Copy>(
 }
 
 /// Writes what is found in a deck.
-pub(crate) fn write_findings<A: Allocator, W: Write>(
+pub(crate) fn write_findings<A: Allocator + Copy, W: Write>(
     alloc: A,
     writer: &mut W,
     profile: Profile,

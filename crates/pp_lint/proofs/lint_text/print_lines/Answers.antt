@@ -36,8 +36,8 @@ loop-line-preserved g c =
     let lines = slice_split is_line_feed c.args.deck.now in
     let next = next_is _ _ _ c.loop-line.number c.in-Some.line.now c.loop-line.invariant.left c.in-Some.ensures.taken in
     let shows = rw (lines_are c.args.deck.now) at c.requires.shows in
-    let here = findings_here c.args.profile lines c.loop-line.number c.in-Some.line.now c.loop-line.before c.loop-line.reached c.loop-line.invariant.before c.loop-line.invariant.reached next.here in
-    let also : c.print_line_findings-found.result ≡ is_something_found (findings_at c.args.profile lines c.loop-line.number) = c.print_line_findings-found.ensures.found c.loop-line.number _ shows refl ∙ ap is_something_found here in
+    let here = findings_here c.args.profile lines c.loop-line.number c.in-Some.line.now c.loop-line.before c.args.whole.now.alone.items c.loop-line.reached c.loop-line.invariant.before c.loop-line.invariant.reached next.here in
+    let also : c.print_line_findings-found.result ≡ is_something_found (findings_at c.args.profile lines c.args.whole.now.alone.items c.loop-line.number) = c.print_line_findings-found.ensures.found c.loop-line.number _ shows refl ∙ ap is_something_found here in
     let either : c.if-is_found.is_found ≡ (c.loop-line.is_found || c.print_line_findings-found.result) = elim c.if-is_found.branch [
       | then-is_found w ↦ rw w.if-is_found.true (w.is_found-is ∙ w.if-is_found.true)
       | else-is_found w ↦ rw w.if-is_found.false w.is_found-is
@@ -49,21 +49,21 @@ loop-line-preserved g c =
       reached = reached_next c.args.profile (map fields_of lines) c.loop-line.number _ _ c.loop-line.reached _ (c.row_after-row.ensures.value ∙ given_here c.args.profile lines c.loop-line.number c.in-Some.line.now c.loop-line.before c.loop-line.invariant.before next.within next.here)
           (said_here c.args.profile lines c.loop-line.number c.in-Some.line.now c.loop-line.before c.loop-line.invariant.before next.within next.here) c.loop-line.invariant.reached
           (c.behind_line-reached.ensures _ c.loop-line.before shows c.row_after-row.ensures.gives);
-      printed = prints_more _ _ _ _ finding_line (findings_at c.args.profile lines) c.loop-line.number c.loop-line.invariant.printed (rw here at (c.print_line_findings-found.ensures.prints c.loop-line.number _ shows refl));
-      found = either ∙ found_at c.args.profile lines c.loop-line.number c.loop-line.is_found c.print_line_findings-found.result c.loop-line.invariant.found also;
+      printed = prints_more _ _ _ _ finding_line (findings_at c.args.profile lines c.args.whole.now.alone.items) c.loop-line.number c.loop-line.invariant.printed (rw here at (c.print_line_findings-found.ensures.prints c.loop-line.number _ shows refl));
+      found = either ∙ found_at c.args.profile lines c.args.whole.now.alone.items c.loop-line.number c.loop-line.is_found c.print_line_findings-found.result c.loop-line.invariant.found also;
     }
 
 pub returns-clause-prints : goal.returns-clause-prints
 unfolding findings_in
 returns-clause-prints g c =
     let all = none_left _ _ c.loop-line.number c.loop-line.invariant.left c.in_default.ensures.none c.loop-line.invariant.most in
-    prints_all _ _ _ finding_line (findings_at c.args.profile (slice_split is_line_feed c.args.deck.now)) c.loop-line.number _ all c.loop-line.invariant.printed
+    rw (← c.requires.alone) (prints_all _ _ _ finding_line (findings_at c.args.profile (slice_split is_line_feed c.args.deck.now) c.args.whole.now.alone.items) c.loop-line.number _ all c.loop-line.invariant.printed)
 
 pub returns-clause-found : goal.returns-clause-found
 unfolding findings_in
 returns-clause-found g c =
     let all = none_left _ _ c.loop-line.number c.loop-line.invariant.left c.in_default.ensures.none c.loop-line.invariant.most in
-    rw all at c.loop-line.invariant.found
+    rw (← c.requires.alone) (rw all at c.loop-line.invariant.found)
 
 pub row_after-row-requires : goal.row_after-row-requires
 row_after-row-requires g c = small_size c.args.profile _ c.loop-line.number c.loop-line.before c.loop-line.invariant.before

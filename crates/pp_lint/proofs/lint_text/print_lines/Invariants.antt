@@ -14,8 +14,8 @@ invariant-loop-line g l = let lines = slice_split is_line_feed l.deck in record 
   left : l.lines ≡ drop l.number lines;
   before : l.before ≡ before_line l.fn.profile (map fields_of lines) l.number;
   reached : l.reached ≡ reached_at l.fn.profile (map fields_of lines) l.number;
-  printed : Prints g.W.Write.contents l.fn.text l.text (flat_map finding_line (flat_map (findings_at l.fn.profile lines) (range_with_len 0 l.number)));
-  found : l.is_found ≡ is_something_found (flat_map (findings_at l.fn.profile lines) (range_with_len 0 l.number));
+  printed : Prints g.W.Write.contents l.fn.text l.text (flat_map finding_line (flat_map (findings_at l.fn.profile lines l.whole.alone.items) (range_with_len 0 l.number)));
+  found : l.is_found ≡ is_something_found (flat_map (findings_at l.fn.profile lines l.whole.alone.items) (range_with_len 0 l.number));
 }
 
 abbrev pub decreases-loop-line : goal.decreases-loop-line

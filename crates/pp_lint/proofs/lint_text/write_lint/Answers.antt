@@ -2,7 +2,10 @@ use Rattle.std.proofs.Common.{[], rules}
 use Rattle.pp_lint.proofs.lint_text.write_lint.Goals as goal
 
 pub print_text-is_found-requires : goal.print_text-is_found-requires
-print_text-is_found-requires g c = λ short. rw (c.text_in.ensures.value short) at c.in-Ok.ensures
+print_text-is_found-requires g c = record {
+  firsts = λ short. rw (c.text_in.ensures.value short) at c.in-Ok.ensures.firsts;
+  alone = λ short. rw (c.text_in.ensures.value short) at c.in-Ok.ensures.alone;
+}
 
 pub returns-in-Ok-finish-clause-written : goal.returns-in-Ok-finish-clause-written
 returns-in-Ok-finish-clause-written g c =

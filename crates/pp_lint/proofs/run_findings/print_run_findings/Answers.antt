@@ -14,33 +14,33 @@ row_of-row-requires-clause-fields g c = omega (arith, ap length c.of.ensures, fe
 pub returns-in_default-clause-prints : goal.returns-in_default-clause-prints
 returns-in_default-clause-prints g c = λ k notes shows number.
     let value = rw c.of.ensures at (c.row_of-row.ensures.value (rw c.of.ensures c.requires.clean.none)) in
-    prints_none _ _ _ (run_nothing c.args.before.now.profile notes _ c.args.reached.now k c.args.line.now _ c.row_of-row.result value (no_word _ c.in_default.not-Word))
+    prints_none _ _ _ (run_nothing c.args.before.now.profile notes c.args.deck.now.alone.items _ c.args.reached.now k c.args.line.now _ c.row_of-row.result value (no_word _ c.in_default.not-Word))
 
 pub returns-in_default-clause-found : goal.returns-in_default-clause-found
 returns-in_default-clause-found g c = λ k notes shows number.
     let value = rw c.of.ensures at (c.row_of-row.ensures.value (rw c.of.ensures c.requires.clean.none)) in
-    none_found _ (run_nothing c.args.before.now.profile notes _ c.args.reached.now k c.args.line.now _ c.row_of-row.result value (no_word _ c.in_default.not-Word))
+    none_found _ (run_nothing c.args.before.now.profile notes c.args.deck.now.alone.items _ c.args.reached.now k c.args.line.now _ c.row_of-row.result value (no_word _ c.in_default.not-Word))
 
 pub returns-then-is_faulty-clause-prints : goal.returns-then-is_faulty-clause-prints
 returns-then-is_faulty-clause-prints g c = λ k notes shows number.
     let value = rw c.of.ensures at (c.row_of-row.ensures.value (rw c.of.ensures c.requires.clean.none)) in
-    subst (λ found. Prints g.W.Write.contents c.args.text.now c.print_alone_findings-is_alone.new.text (flat_map finding_line found)) (run_words c.args.before.now.profile notes _ c.args.reached.now k c.args.line.now _ c.row_of-row.result c.in-Word.n _ _ value c.in-Word.is (c.first_place.ensures c.args.before.now c.requires.clean) (c.instructions_of-instructions.ensures c.args.before.now c.requires.clean))
-    (prints_both _ _ _ _ _ _ (c.print_fault_findings-is_faulty.ensures.prints k notes shows number) (c.print_alone_findings-is_alone.ensures.prints c.args.before.now k notes c.requires.clean shows number))
+    subst (λ found. Prints g.W.Write.contents c.args.text.now c.print_alone_findings-is_alone.new.text (flat_map finding_line found)) (run_words c.args.before.now.profile notes c.args.deck.now.alone.items _ c.args.reached.now k c.args.line.now _ c.row_of-row.result c.in-Word.n _ _ value c.in-Word.is (c.first_place.ensures c.args.before.now c.requires.clean) (c.instructions_of-instructions.ensures c.args.before.now c.requires.clean))
+    (prints_both _ _ _ _ _ _ (c.print_fault_findings-is_faulty.ensures.prints k notes shows number) (rw c.deref.ensures.value at (c.print_alone_findings-is_alone.ensures.prints c.args.before.now k c.requires.clean number)))
 
 pub returns-then-is_faulty-clause-found : goal.returns-then-is_faulty-clause-found
 returns-then-is_faulty-clause-found g c = λ k notes shows number.
     let value = rw c.of.ensures at (c.row_of-row.ensures.value (rw c.of.ensures c.requires.clean.none)) in
-    found_both _ _ c.print_fault_findings-is_faulty.result c.print_alone_findings-is_alone.result _ (c.print_fault_findings-is_faulty.ensures.found k notes shows number) (c.print_alone_findings-is_alone.ensures.found c.args.before.now k notes c.requires.clean shows number) (rw c.if-is_faulty.true refl)
-    ∙ ap is_something_found (run_words c.args.before.now.profile notes _ c.args.reached.now k c.args.line.now _ c.row_of-row.result c.in-Word.n _ _ value c.in-Word.is (c.first_place.ensures c.args.before.now c.requires.clean) (c.instructions_of-instructions.ensures c.args.before.now c.requires.clean))
+    found_both _ _ c.print_fault_findings-is_faulty.result c.print_alone_findings-is_alone.result _ (c.print_fault_findings-is_faulty.ensures.found k notes shows number) (rw c.deref.ensures.value at (c.print_alone_findings-is_alone.ensures.found c.args.before.now k c.requires.clean)) (rw c.if-is_faulty.true refl)
+    ∙ ap is_something_found (run_words c.args.before.now.profile notes c.args.deck.now.alone.items _ c.args.reached.now k c.args.line.now _ c.row_of-row.result c.in-Word.n _ _ value c.in-Word.is (c.first_place.ensures c.args.before.now c.requires.clean) (c.instructions_of-instructions.ensures c.args.before.now c.requires.clean))
 
 pub returns-else-is_faulty-clause-prints : goal.returns-else-is_faulty-clause-prints
 returns-else-is_faulty-clause-prints g c = λ k notes shows number.
     let value = rw c.of.ensures at (c.row_of-row.ensures.value (rw c.of.ensures c.requires.clean.none)) in
-    subst (λ found. Prints g.W.Write.contents c.args.text.now c.print_alone_findings-is_alone.new.text (flat_map finding_line found)) (run_words c.args.before.now.profile notes _ c.args.reached.now k c.args.line.now _ c.row_of-row.result c.in-Word.n _ _ value c.in-Word.is (c.first_place.ensures c.args.before.now c.requires.clean) (c.instructions_of-instructions.ensures c.args.before.now c.requires.clean))
-    (prints_both _ _ _ _ _ _ (c.print_fault_findings-is_faulty.ensures.prints k notes shows number) (c.print_alone_findings-is_alone.ensures.prints c.args.before.now k notes c.requires.clean shows number))
+    subst (λ found. Prints g.W.Write.contents c.args.text.now c.print_alone_findings-is_alone.new.text (flat_map finding_line found)) (run_words c.args.before.now.profile notes c.args.deck.now.alone.items _ c.args.reached.now k c.args.line.now _ c.row_of-row.result c.in-Word.n _ _ value c.in-Word.is (c.first_place.ensures c.args.before.now c.requires.clean) (c.instructions_of-instructions.ensures c.args.before.now c.requires.clean))
+    (prints_both _ _ _ _ _ _ (c.print_fault_findings-is_faulty.ensures.prints k notes shows number) (rw c.deref.ensures.value at (c.print_alone_findings-is_alone.ensures.prints c.args.before.now k c.requires.clean number)))
 
 pub returns-else-is_faulty-clause-found : goal.returns-else-is_faulty-clause-found
 returns-else-is_faulty-clause-found g c = λ k notes shows number.
     let value = rw c.of.ensures at (c.row_of-row.ensures.value (rw c.of.ensures c.requires.clean.none)) in
-    found_both _ _ c.print_fault_findings-is_faulty.result c.print_alone_findings-is_alone.result _ (c.print_fault_findings-is_faulty.ensures.found k notes shows number) (c.print_alone_findings-is_alone.ensures.found c.args.before.now k notes c.requires.clean shows number) (rw c.if-is_faulty.false refl)
-    ∙ ap is_something_found (run_words c.args.before.now.profile notes _ c.args.reached.now k c.args.line.now _ c.row_of-row.result c.in-Word.n _ _ value c.in-Word.is (c.first_place.ensures c.args.before.now c.requires.clean) (c.instructions_of-instructions.ensures c.args.before.now c.requires.clean))
+    found_both _ _ c.print_fault_findings-is_faulty.result c.print_alone_findings-is_alone.result _ (c.print_fault_findings-is_faulty.ensures.found k notes shows number) (rw c.deref.ensures.value at (c.print_alone_findings-is_alone.ensures.found c.args.before.now k c.requires.clean)) (rw c.if-is_faulty.false refl)
+    ∙ ap is_something_found (run_words c.args.before.now.profile notes c.args.deck.now.alone.items _ c.args.reached.now k c.args.line.now _ c.row_of-row.result c.in-Word.n _ _ value c.in-Word.is (c.first_place.ensures c.args.before.now c.requires.clean) (c.instructions_of-instructions.ensures c.args.before.now c.requires.clean))
