@@ -76,7 +76,7 @@ number_trimmed before after column width n here small =
     ∙ (ap (number_in column (suc width)) (trim_keeps (before ++ front) after (48 + n % 8) (omega arith) ∙ sym (regrouped before front (trimmed after) (48 + n % 8)))
     ∙ number_after before (trimmed after) column (suc width) n here small)
 
--- what cuts a plain text is plain
+-- what is taken from the front of a plain text is plain
 plain_take : (n : ℕ) (text : List ℕ) → IsPlain text → IsPlain (take n text)
 plain_take zero text plain = refl
 plain_take (suc n) [] plain = refl
