@@ -58,18 +58,15 @@ some_asks lines e = some_line is_dead_start dead_start lines is_request e
 
 pub each_history : (b : Bool) (deck : LoadedDeck) → length deck.machine.histories ≡ channel_count → length (with_dead_start b deck).machine.histories ≡ channel_count
 unfolding histories_started
-each_history true deck e = length-map-range_with_len (λ place. history_started (waits (unnamed_in deck.machine.profile deck.named)) deck.machine (channel_number place)) 0 channel_count
-each_history false deck e = e
+each_history b deck e = grind (arith, length-map-range_with_len)
 
 pub all_processors : (b : Bool) (deck : LoadedDeck) → length deck.machine.processors ≡ processor_count → length (with_dead_start b deck).machine.processors ≡ processor_count
 unfolding processors_started
-all_processors true deck e = length-map-range_with_len (λ place. processor_started (waits (unnamed_in deck.machine.profile deck.named)) deck.machine (processor_number place)) 0 processor_count
-all_processors false deck e = e
+all_processors b deck e = grind (arith, length-map-range_with_len)
 
 -- what dead start leaves as it is
 pub stays : {A : Type 0} (f : LoadedDeck → A) (b : Bool) (deck : LoadedDeck) → f (with_dead_start true deck) ≡ f deck → f (with_dead_start b deck) ≡ f deck
-stays f true deck same = same
-stays f false deck same = refl
+stays f b deck same = grind arith
 
 -- ---- the processors that are not named
 

@@ -12,7 +12,7 @@ use Rattle.pp_numbers.proofs.ProfileLemmas.{processor_named}
 use Rattle.pp_deck.specs.DeckLaw.{NamesWithin, SetsWord, SetsCentralWord, Starts, registers_of, at_rest, HoldsLast, WaitsAtDeadStart, KeepsDeckLaw, line_of}
 use Rattle.pp_deck.specs.DeckLine.{Line}
 use Rattle.pp_deck.specs.DeckLoad.{word_for, central_word_for, start_in, asks_dead_start, central_loaded, processor_loaded, is_named}
-use Rattle.pp_deck.specs.DeckMeaning.{LoadedDeck, set_by, loaded, size_of, parsed_deck, faults_in, unless_faulty, meaning_of_lines, is_foreign, unless_foreign, deck_meaning}
+use Rattle.pp_deck.specs.DeckMeaning.{LoadedDeck, set_by, loaded, size_of, parsed_deck, unless_faulty, meaning_of_lines, is_foreign, unless_foreign, deck_meaning}
 use Rattle.pp_deck.specs.DeckText.{lines_of}
 use Rattle.pp_deck.specs.declared.deck_fault.DeckFault.{DeckFault}
 use Rattle.pp_deck.proofs.DeadStartLemmas.{is_waiting, waiting, waiting_where, not_waiting, processor_is, opened_is, history_is, all_processors, each_history, stays}
@@ -28,8 +28,7 @@ use Rattle.pp_machine.specs.Headline.{HoldsOnEachChannel, events_on, opening_his
 module _ (profile : Profile) where
   -- a processor that waits keeps its memory
   word_either : (b : Bool) (n place : ℕ) (pp : Processor) → word_at (if b then waiting_on n pp else pp) place ≡ word_at pp place
-  word_either true n place pp = refl
-  word_either false n place pp = refl
+  word_either b n place pp = grind arith
 
   here : (size : ℕ) (lines : List Line) (n : ℕ) → IsTrue (names_processor n) → processor_of n (loaded profile size lines).machine ≡ (if is_waiting profile lines n then waiting_on n (processor_of n (set_by profile size lines).machine) else processor_of n (set_by profile size lines).machine)
   here size lines n named = processor_is profile size lines (asks_dead_start lines) n refl named
@@ -82,17 +81,14 @@ module _ (profile : Profile) where
   -- ---- a deck that has a meaning
 
   of_faults : (faults : List DeckFault) (set deck : LoadedDeck) → unless_faulty faults set ≡ Ok deck → set ≡ deck
-  of_faults [] set deck e = cc
-  of_faults (fault ∷ faults) set deck e = absurd (cc)
+  of_faults faults set deck e = grind arith
 
   of_ascii : (text : List ℕ) (o : Option ℕ) (deck : LoadedDeck) → unless_foreign profile text o ≡ Ok deck → loaded profile (size_of (lines_of text)) (parsed_deck profile (lines_of text)) ≡ deck
   unfolding meaning_of_lines
-  of_ascii text None deck e = of_faults (faults_in profile (lines_of text)) _ deck e
-  of_ascii text (Some i) deck e = absurd (cc)
+  of_ascii text o deck e = grind (arith, of_faults)
 
   of_short : (text : List ℕ) (b : Bool) (fault : DeckFault) (deck : LoadedDeck) → cond b (Err fault) (unless_foreign profile text (position is_foreign text)) ≡ Ok deck → loaded profile (size_of (lines_of text)) (parsed_deck profile (lines_of text)) ≡ deck
-  of_short text true fault deck e = absurd (cc)
-  of_short text false fault deck e = of_ascii text (position is_foreign text) deck e
+  of_short text b fault deck e = grind (arith, of_ascii)
 
   -- it is what its lines load
   pub loaded_is : (text : List ℕ) (deck : LoadedDeck) → deck_meaning profile text ≡ Ok deck → loaded profile (size_of (lines_of text)) (parsed_deck profile (lines_of text)) ≡ deck

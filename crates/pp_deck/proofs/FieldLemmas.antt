@@ -1,20 +1,19 @@
 -- The fields of a text, and its lines, taken off one by one.
 use Rattle.std.proofs.Common.{◌≡◌, ℕ, suc, ◌+◌, ◌<◌, ◌≤◌, Bool, true, false, not, cond, List, [], ◌∷◌, length, take, drop, get_or, Option, Some, None, refl, sym, ap, ◌∙◌, arith, add-zero, map}
 use Rattle.std.specs.Prelude.{position, unwrap_or, nat_lt, filter, slice_index, ◌==◌}
-use Rattle.std.specs.List.{position_or_len, slice_split, onto_first, take_while}
+use Rattle.std.specs.List.{position_or_len, slice_split, onto_first}
 use Rattle.std.proofs.lemmas.List.{drop_all, length-drop, get_or-drop, drop_more, length-map}
 use Rattle.std.proofs.lemmas.List.Sums.{prefix_len-le-length, take_while-cons, count_by-le-length}
 use Rattle.std.proofs.lemmas.List.Splits.{slice_split-cons_yes, slice_split-cons_no, length-slice_split}
 use Rattle.std.proofs.lemmas.List.Quantifiers.{position-Some}
 use Rattle.std.proofs.lemmas.Bool.{ltb-false, cond-true, cond-false, eq-eqb, ne_eqb, not-true}
 use Rattle.pp_numbers.proofs.Pieces.{at_position, no_position, split_first, split_last}
-use Rattle.pp_deck.specs.DeckText.{is_blank, is_comment, is_nonempty, fields_in, is_line_feed, fields_of, lines_of}
+use Rattle.pp_deck.specs.DeckText.{is_blank, is_nonempty, fields_in, is_line_feed, fields_of, lines_of}
 
 -- ---- the first element that passes
 
 or_length : (p : ℕ → Bool) (xs : List ℕ) (b : Bool) → nat_lt (position_or_len p xs) (length xs) ≡ b → unwrap_or (cond b (Some (position_or_len p xs)) None) (length xs) ≡ position_or_len p xs
-or_length p xs true e = refl
-or_length p xs false e = grind (arith, ltb-false, prefix_len-le-length)
+or_length p xs b e = grind (arith, ltb-false, prefix_len-le-length)
 
 -- where it stands, or the length
 pub unwrap_or_position : (p : ℕ → Bool) (xs : List ℕ) → unwrap_or (position p xs) (length xs) ≡ position_or_len p xs
@@ -30,8 +29,7 @@ unfolding fields_in
 blank_first x xs e = grind (arith, slice_split-cons_yes)
 
 after_blank : (x n : ℕ) (xs : List ℕ) (b : Bool) → is_blank x ≡ b → fields_in (drop n xs) ≡ fields_in xs → fields_in (drop (cond (not (not b)) (1 + n) 0) (x ∷ xs)) ≡ fields_in (x ∷ xs)
-after_blank x n xs true e h = ap (λ (i : ℕ). fields_in (drop i (x ∷ xs))) (one_more n) ∙ h ∙ sym (blank_first x xs e)
-after_blank x n xs false e h = refl
+after_blank x n xs b e h = grind (arith, one_more, blank_first)
 
 -- blanks before a field say nothing
 behind_blanks : (xs : List ℕ) → fields_in (drop (position_or_len (λ byte. not (is_blank byte)) xs) xs) ≡ fields_in xs
@@ -80,22 +78,15 @@ first_piece [] = ([], record { pieces = refl; behind = refl })
 first_piece (x ∷ xs) = let h = first_piece xs in piece_more x (position_or_len is_blank xs) xs (is_blank x) refl h.0 h.1
 
 unless_comment : (b : Bool) (field : List ℕ) (fields : List (List ℕ)) → cond (not b) (field ∷ fields) [] ≡ cond b [] (field ∷ fields)
-unless_comment true field fields = refl
-unless_comment false field fields = refl
+unless_comment b field fields = grind arith
 
 -- a piece that is not empty is a field or begins a comment
 piece_named : (x : ℕ) (xs : List ℕ) (text rest : List ℕ) (more : List (List ℕ)) → slice_split is_blank text ≡ (x ∷ xs) ∷ more → filter is_nonempty (slice_split is_blank rest) ≡ filter is_nonempty more → fields_in text ≡ cond (x == 42) [] ((x ∷ xs) ∷ fields_in rest)
 unfolding fields_in
-piece_named x xs text rest more h k =
-    let p : List ℕ → Bool = λ field. not (is_comment field) in
-    ap (λ (pieces : List (List ℕ)). take_while p (filter is_nonempty pieces)) h
-    ∙ take_while-cons p (x ∷ xs) (filter is_nonempty more)
-    ∙ unless_comment (x == 42) (x ∷ xs) (take_while p (filter is_nonempty more))
-    ∙ ap (λ (pieces : List (List ℕ)). cond (x == 42) [] ((x ∷ xs) ∷ take_while p pieces)) (sym k)
+piece_named x xs text rest more h k = grind (arith, take_while-cons, unless_comment)
 
 piece_at : (x n : ℕ) (xs : List ℕ) (b : Bool) → b ≡ false → (more : List (List ℕ)) → TakesPiece (x ∷ xs) (cond (not b) (1 + n) 0) more → fields_in (x ∷ xs) ≡ cond (x == 42) [] (take (cond (not b) (1 + n) 0) (x ∷ xs) ∷ fields_in (drop (cond (not b) (1 + n) 0) (x ∷ xs)))
-piece_at x n xs true e more h = absurd (cc)
-piece_at x n xs false e more h = grind (arith, one_more, piece_named)
+piece_at x n xs b e more h = grind (arith, one_more, piece_named)
 
 first_field : (xs : List ℕ) → 0 < length xs → is_blank (slice_index xs 0) ≡ false → fields_in xs ≡ cond (slice_index xs 0 == 42) [] (take (position_or_len is_blank xs) xs ∷ fields_in (drop (position_or_len is_blank xs) xs))
 first_field [] lt e = absurd (omega (arith, lt))
@@ -108,13 +99,7 @@ record BeginsField (text rest : List ℕ) : Type 0 where
   first : is_blank (slice_index rest 0) ≡ false
 
 begins_field : (text rest : List ℕ) (start : ℕ) → Some start ≡ position (λ byte. not (is_blank byte)) text → rest ≡ drop start text → BeginsField text rest
-begins_field text rest start e h =
-    let there = position-Some (λ byte. not (is_blank byte)) text start 0 (sym e) in
-    record {
-      same = fields_from start text e ∙ ap fields_in (sym h);
-      some = omega (arith, there.0, ap length h, length-drop start text);
-      first = ap (λ (l : List ℕ). is_blank (slice_index l 0)) h ∙ ap is_blank (get_or-drop start text 0 0 ∙ ap (λ (i : ℕ). get_or text i 0) (add-zero start)) ∙ not-true (is_blank (get_or text start 0)) there.1;
-    }
+begins_field text rest start e h = grind (arith, position-Some, fields_from, length-drop, get_or-drop, add-zero, not-true)
 
 pub comment_first : (text rest : List ℕ) (start : ℕ) → Some start ≡ position (λ byte. not (is_blank byte)) text → rest ≡ drop start text → slice_index rest 0 ≡ 42 → fields_in text ≡ []
 comment_first text rest start e h star =

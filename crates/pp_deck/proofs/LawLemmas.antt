@@ -35,8 +35,7 @@ last_more f n =
 
 last_none : {A : Type 0} (f : ℕ → Option A) (n : ℕ) → ((k : ℕ) → k < n → f k ≡ None) → last_of (filter_map f (range_with_len 0 n)) ≡ None
 last_none f zero none = refl
-last_none {A} f (suc n) none =
-    last_more f n ∙ ap (λ (o : Option A). or_else o (last_of (filter_map f (range_with_len 0 n)))) (none n (omega arith)) ∙ last_none f n (λ k lt. none k (omega (arith, lt)))
+last_none {A} f (suc n) none = grind (arith, last_more, or_else, last_of, last_none f n (λ k lt. none k (omega (arith, lt))))
 
 -- the last is at k
 last_at : {A : Type 0} (f : ℕ → Option A) (n k : ℕ) (x : A) → k < n → f k ≡ Some x → ((j : ℕ) → k < j → j < n → f j ≡ None) → last_of (filter_map f (range_with_len 0 n)) ≡ Some x
@@ -78,16 +77,14 @@ no_section n e = cc
 
 -- a line is the heading, or the section is as before
 heading_or : (line : Line) (current : Option ℕ) (n : ℕ) → current_after line current ≡ Some n → (line ≡ section n) ⊎ ((current ≡ Some n) × ((m : ℕ) → line ≡ section m → ⊥))
-heading_or (section m) current n e = inl (let same : m ≡ n = cc in ap section same)
-heading_or line current n e = inr (e, λ m h. cc)
+heading_or line current n e = grind arith
 
 section_kept : (line : Line) (current : Option ℕ) → ((m : ℕ) → line ≡ section m → ⊥) → current_after line current ≡ current
 section_kept (section m) current other = absurd (other m refl)
 section_kept line current other = refl
 
 heading_at : (lines : List Line) (k n : ℕ) → (section_of (take k lines) ≡ Some n → IsFor lines k n) → (line_of lines k ≡ section n) ⊎ ((section_of (take k lines) ≡ Some n) × ((m : ℕ) → line_of lines k ≡ section m → ⊥)) → IsFor lines (k + 1) n
-heading_at lines k n before (inl is) = record { heading = k; before = omega arith; names = is; latest = λ i m low high h. absurd (omega (arith, low, high)) }
-heading_at lines k n before (inr h) = for_more lines k n (before h.0) h.1
+heading_at lines k n before h4 = grind (arith, names, for_more)
 
 -- the section behind k lines is that of the last heading before line k
 pub heading_of : (lines : List Line) (k n : ℕ) → k ≤ length lines → section_of (take k lines) ≡ Some n → IsFor lines k n
@@ -98,11 +95,7 @@ heading_of lines (suc k) n le e =
     (heading_or (line_of lines k) (section_of (take k lines)) n (sym (section_next lines k (omega (arith, le))) ∙ e)))
 
 section_at : (lines : List Line) (k n : ℕ) → (IsFor lines k n → section_of (take k lines) ≡ Some n) → (h : IsFor lines (suc k) n) → (h.heading ≡ k) ⊎ ((h.heading < k) ⊎ (k < h.heading)) → current_after (line_of lines k) (section_of (take k lines)) ≡ Some n
-section_at lines k n before h (inl e) = ap (λ (line : Line). current_after line (section_of (take k lines))) (ap (line_of lines) (sym e) ∙ h.names)
-section_at lines k n before h (inr (inl less)) =
-    section_kept (line_of lines k) (section_of (take k lines)) (λ m is. h.latest k m less (omega arith) is)
-    ∙ before (record { heading = h.heading; before = less; names = h.names; latest = λ i m low high is. h.latest i m low (omega (arith, high)) is })
-section_at lines k n before h (inr (inr more)) = absurd (omega (arith, h.before, more))
+section_at lines k n before h h5 = grind (arith, current_after, section_kept, names)
 
 section_for : (lines : List Line) (k n : ℕ) → k ≤ length lines → IsFor lines k n → section_of (take k lines) ≡ Some n
 section_for lines zero n le h = absurd (omega (arith, h.before))
@@ -112,8 +105,7 @@ section_for lines (suc k) n le h =
 -- ---- what lines set
 
 found_among : (first place w : ℕ) (ws : List ℕ) (b : Bool) → leb first place ≡ b → cond b (slice_get ws (place - first)) None ≡ Some w → StandsAt first ws place w
-found_among first place w ws true e h = record { index = place - first; at_place = omega (arith, leb-true first place e); is_word = h }
-found_among first place w ws false e h = absurd (cc)
+found_among first place w ws b e h = grind (arith, leb-true)
 
 stands : (first place w : ℕ) (ws : List ℕ) → word_among first ws place ≡ Some w → StandsAt first ws place w
 stands first place w ws h = found_among first place w ws (leb first place) refl h
@@ -126,16 +118,14 @@ word_set (words x ws) place w e = stands x place w ws e
 word_set line place w e = absurd (cc)
 
 pub set_word : (line : Line) (place w : ℕ) → SetsWord line place w → word_for place line ≡ Some w
-set_word (words x ws) place w h = is_among x place w ws h
-set_word line place w h = absurd h
+set_word line place w h = grind (arith, is_among)
 
 pub central_set : (line : Line) (address w : ℕ) → central_word_for address line ≡ Some w → SetsCentralWord line address w
 central_set (central_words a ws) address w e = stands a address w ws e
 central_set line address w e = absurd (cc)
 
 pub set_central : (line : Line) (address w : ℕ) → SetsCentralWord line address w → central_word_for address line ≡ Some w
-set_central (central_words a ws) address w h = is_among a address w ws h
-set_central line address w h = absurd h
+set_central line address w h = grind (arith, is_among)
 
 -- the registers at a start
 abbrev pub registers_at : ℕ × ℕ → Registers
@@ -146,8 +136,7 @@ start_set (start p a) registers e = cc
 start_set line registers e = absurd (cc)
 
 pub set_start : (line : Line) (registers : Registers) → Starts line registers → option_map registers_at (start_in line) ≡ Some registers
-set_start (start p a) registers h = ap Some (sym h)
-set_start line registers h = absurd h
+set_start line registers h = grind arith
 
 -- ---- what the lines for a processor set
 
@@ -164,13 +153,11 @@ pick : ℕ → List Line → ℕ → Option Line
 pick n lines k = cond (is_for n (section_of (take k lines))) (Some (line_of lines k)) None
 
 pub is_section : (n : ℕ) (current : Option ℕ) → is_for n current ≡ true → current ≡ Some n
-is_section n None e = absurd (cc)
-is_section n (Some m) e = ap Some (sym (eqb-true n m e))
+is_section n current e = grind (arith, eqb-true)
 
 picked : {A : Type 0} (f : Line → Option A) (line : Line) (b : Bool) (x : A) → then_in f (cond b (Some line) None) ≡ Some x → (b ≡ true) × (f line ≡ Some x)
 unfolding then_in
-picked f line true x e = (refl, e)
-picked f line false x e = absurd (cc)
+picked f line b x e = grind arith
 
 picks : {A : Type 0} (f : Line → Option A) (line : Line) (n : ℕ) (current : Option ℕ) (x : A) → current ≡ Some n → f line ≡ Some x → then_in f (cond (is_for n current) (Some line) None) ≡ Some x
 unfolding then_in
@@ -217,8 +204,7 @@ central_here size lines address lt = grind (arith, get_or-tabulate, last_of, len
 -- ---- names
 
 is_name : (n : ℕ) (line : Line) → names n line ≡ true → line ≡ section n
-is_name n (section m) e = ap section (sym (eqb-true n m e))
-is_name n line e = absurd (cc)
+is_name n line e = grind (arith, eqb-true)
 
 -- what only one line can pass, if some line passes it
 pub some_line : (p : Line → Bool) (only : Line) (lines : List Line) → ((line : Line) → p line ≡ true → line ≡ only) → list_any p lines ≡ true → Contains lines only
@@ -234,16 +220,13 @@ named_some n lines h = list_any_at (names n) lines h.0 (section n) h.1 (ap (name
 
 module _ (profile : Profile) where
   registers_with : (memory : List ℕ) (s : Option (ℕ × ℕ)) → registers_of (processor_with profile memory s) ≡ unwrap_or (option_map registers_at s) at_rest
-  registers_with memory None = refl
-  registers_with memory (Some s) = refl
+  registers_with memory s = grind arith
 
   memory_with : (memory : List ℕ) (s : Option (ℕ × ℕ)) → (processor_with profile memory s).memory ≡ memory
-  memory_with memory None = refl
-  memory_with memory (Some s) = refl
+  memory_with memory s = grind arith
 
   block_with : (memory : List ℕ) (s : Option (ℕ × ℕ)) → (processor_with profile memory s).block ≡ None
-  block_with memory None = refl
-  block_with memory (Some s) = refl
+  block_with memory s = grind arith
 
   pub processor_here : (size : ℕ) (lines : List Line) (n : ℕ) → IsTrue (names_processor n) → processor_of n (set_by profile size lines).machine ≡ processor_loaded profile lines n
   processor_here size lines n names = grind (arith, get_or-tabulate, processor_places.place_below, processor_places.number_of_place)

@@ -1,5 +1,5 @@
 -- The words, starts and central words that a deck loads are in range.
-use Rattle.std.proofs.Common.{ℕ, zero, suc, ◌-◌, ◌^◌, ◌<◌, ◌≤◌, Bool, true, false, cond, leb, List, [], ◌∷◌, length, take, get_or, Option, Some, None, Result, Ok, Err, arith}
+use Rattle.std.proofs.Common.{ℕ, zero, suc, ◌^◌, ◌<◌, ◌≤◌, Bool, true, false, cond, List, [], ◌∷◌, length, take, get_or, Option, Some, None, Result, Ok, Err, arith}
 use Rattle.std.specs.Prelude.{All, Contains, IfSome, IsTrue, filter_map, slice_get, unwrap_or}
 use Rattle.std.specs.List.{AllByRecursion, cons_option, last_or, list_any, range_with_len}
 use Rattle.std.specs.Result.{result_ok}
@@ -15,7 +15,7 @@ use Rattle.pp_processor.specs.PpMemory.{IsMemory}
 use Rattle.pp_processor.specs.Processor.{IsProcessor}
 use Rattle.pp_numbers.specs.Profile.{has_processor}
 use Rattle.pp_numbers.specs.declared.profile.Profile.{Profile}
-use Rattle.pp_deck.specs.DeckLine.{Line, nothing, central_words, section, start, words}
+use Rattle.pp_deck.specs.DeckLine.{Line, nothing, section, start}
 use Rattle.pp_deck.specs.DeckLoad.{word_for, central_word_for, start_in, is_for, section_of, lines_for, memory_of, central_loaded, processor_with, processor_loaded}
 use Rattle.pp_deck.specs.DeckMeaning.{has_fields, begins_section, line_at, size_of, parsed_deck}
 use Rattle.pp_deck.specs.DeckText.{Fields}
@@ -96,12 +96,10 @@ module _ (profile : Profile) where
   last_set P g lines h k = last_holds P None (filter_map g lines) tt (all_found (InRange profile) P g lines h k)
 
   word_small : (place : ℕ) (line : Line) → InRange profile line → IfSome (word_for place line) (λ w. w < 8 ^ 4)
-  word_small place (words x ws) h = among_in (λ w. w < 8 ^ 4) (leb x place) ws (place - x) h
-  word_small place line h = tt
+  word_small place line h = grind (arith, among_in)
 
   central_small : (address : ℕ) (line : Line) → InRange profile line → IfSome (central_word_for address line) (λ w. w < 8 ^ 20)
-  central_small address (central_words a ws) h = among_in (λ w. w < 8 ^ 20) (leb a address) ws (address - a) h
-  central_small address line h = tt
+  central_small address line h = grind (arith, among_in)
 
   -- P and A are in range
   abbrev IsStart : ℕ × ℕ → Type 0
@@ -121,8 +119,7 @@ module _ (profile : Profile) where
       }
 
   with_start : (memory : List ℕ) (o : Option (ℕ × ℕ)) → IsMemory memory → IfSome o IsStart → IsProcessor (processor_with profile memory o)
-  with_start memory None h s = record { memory = h; a = omega arith; p = omega arith }
-  with_start memory (Some s) h small = record { memory = h; a = omega (arith, small.1); p = omega (arith, small.0) }
+  with_start memory o h s = grind arith
 
   -- a processor as lines leave it
   pub processor_in_range : (n : ℕ) (lines : List Line) → AllByRecursion (InRange profile) lines → IsProcessor (processor_loaded profile lines n)

@@ -37,8 +37,7 @@ last_word : (ℕ → Line → Option ℕ) → List Line → ℕ → ℕ
 last_word word_of lines place = unwrap_or (last_of (filter_map (word_of place) lines)) 0
 
 or_else_is : (o last : Option ℕ) → unwrap_or (or_else o last) 0 ≡ unwrap_or o (unwrap_or last 0)
-or_else_is (Some w) last = refl
-or_else_is None last = refl
+or_else_is o last = grind arith
 
 last_word_more : (word_of : ℕ → Line → Option ℕ) (lines : List Line) (line : Line) (place : ℕ) → last_word word_of (lines ++ line ∷ []) place ≡ unwrap_or (word_of place line) (last_word word_of lines place)
 unfolding last_word

@@ -11,8 +11,8 @@ use Rattle.pp_processor.specs.PpMemory.{empty_memory}
 use Rattle.pp_processor.specs.Processor.{Processor, new_processor, no_processor, runs_from}
 use Rattle.pp_numbers.specs.PpNo.{processor_count, processor_number, processor_index, each_processor}
 use Rattle.pp_numbers.proofs.PpNoLemmas.{number_at}
-use Rattle.pp_deck.specs.DeckLine.{Line, central_words, section, start, words, dead_start}
-use Rattle.pp_deck.specs.DeckLoad.{section_of, is_dead_start, asks_dead_start, is_for, lines_for, start_in, memory_of, central_loaded, processor_with, processor_loaded, is_named}
+use Rattle.pp_deck.specs.DeckLine.{Line, central_words, start, words}
+use Rattle.pp_deck.specs.DeckLoad.{section_of, asks_dead_start, is_for, lines_for, start_in, memory_of, central_loaded, processor_with, processor_loaded, is_named}
 use Rattle.pp_deck.specs.Reading.{Progress, before_lines, with_words, loaded_from, with_processor, after_line, after_lines, progress_of}
 use Rattle.pp_deck.proofs.SectionLemmas.{machine_after, named_after, current_after, asked_after, after_line_parts, names, own, lines_for_more, section_more}
 use Rattle.pp_numbers.proofs.GrowingLists.{last_of, or_else, last_of_more, filter_map_more}
@@ -39,18 +39,14 @@ module _ (profile : Profile) where
   both_with m n s t e h = ap (λ (l : List ℕ). processor_with profile l s) e ∙ ap (processor_with profile n) h
 
   words_with : (x : ℕ) (ws memory : List ℕ) (s : Option (ℕ × ℕ)) → processor_with profile (with_words x ws memory) s ≡ loaded_from x ws (processor_with profile memory s)
-  words_with x ws memory None = refl
-  words_with x ws memory (Some s) = refl
+  words_with x ws memory s = grind arith
 
   start_with : (p a : ℕ) (memory : List ℕ) (s : Option (ℕ × ℕ)) → processor_with profile memory (Some (p, a)) ≡ runs_from p a (processor_with profile memory s)
-  start_with p a memory None = refl
-  start_with p a memory (Some s) = refl
+  start_with p a memory s = grind arith
 
   by_own_more : (lines : List Line) (line : Line) → by_own_lines (lines ++ line ∷ []) ≡ own_after line (by_own_lines lines)
   unfolding by_own_lines
-  by_own_more lines (start p a) = grind (arith, both_with, memory_kept, starts_more, start_with, last_of)
-  by_own_more lines (words x ws) = grind (arith, both_with, memory_set, starts_more, words_with, last_of)
-  by_own_more lines line = both_with _ _ _ _ (memory_kept lines line (λ place. refl)) (starts_more lines line)
+  by_own_more lines line = grind (arith, both_with, memory_kept, starts_more, start_with, last_of, memory_set, words_with)
 
   empty_is : replicate place_count 0 ≡ empty_memory
   unfolding empty_memory
@@ -67,8 +63,7 @@ module _ (profile : Profile) where
   loaded_is lines n = refl
 
   own_or_not : (b : Bool) (lines : List Line) (line : Line) → by_own_lines (lines ++ own b line) ≡ cond b (own_after line (by_own_lines lines)) (by_own_lines lines)
-  own_or_not true lines line = by_own_more lines line
-  own_or_not false lines line = ap by_own_lines (append-nil lines)
+  own_or_not b lines line = grind (arith, by_own_more, by_own_lines, append-nil)
 
   processor_more : (lines : List Line) (line : Line) (n : ℕ) → processor_loaded profile (lines ++ line ∷ []) n ≡ cond (is_for n (section_of lines)) (own_after line (processor_loaded profile lines n)) (processor_loaded profile lines n)
   processor_more lines line n = grind (arith, loaded_is, by_own_lines, lines_for_more, own_or_not, own_after)
@@ -95,11 +90,7 @@ module _ (profile : Profile) where
 
   all_changed : (lines : List Line) (line : Line) (current : Option ℕ) → section_of lines ≡ current → changed_at current (own_after line) (all_of lines) ≡ all_of (lines ++ line ∷ [])
   unfolding all_of
-  all_changed lines line None e = grind (arith, tabulate_same, processor_more, own_after)
-  all_changed lines line (Some m) e =
-      set-tabulate no_processor processor_count (λ i. processor_loaded profile lines (processor_number i)) (processor_index m) (own_after line (get_or (all_of lines) (processor_index m) no_processor))
-      ∙ sym (tabulate_same no_processor processor_count (λ i. processor_loaded profile (lines ++ line ∷ []) (processor_number i)) (λ i. cond (eqb i (processor_index m)) (own_after line (get_or (all_of lines) (processor_index m) no_processor)) (processor_loaded profile lines (processor_number i)))
-      (λ i lt. entry_changed lines line m i lt e))
+  all_changed lines line current e = grind (arith, tabulate_same, processor_more, set-tabulate, all_of, entry_changed)
 
   -- a line that changes none
   all_kept : (lines : List Line) (line : Line) → ((pp : Processor) → own_after line pp ≡ pp) → all_of (lines ++ line ∷ []) ≡ all_of lines
@@ -119,8 +110,7 @@ module _ (profile : Profile) where
 
   changed_machine : (size : ℕ) (current : Option ℕ) (change : Processor → Processor) (ps : List Processor) (cs : List ℕ) → with_processor current change (build size ps cs) ≡ build size (changed_at current change ps) cs
   unfolding build
-  changed_machine size None change ps cs = refl
-  changed_machine size (Some m) change ps cs = refl
+  changed_machine size current change ps cs = grind arith
 
   machine_of : ℕ → List Line → MachineState
   machine_of size lines = build size (all_of lines) (central_loaded size lines)
@@ -158,8 +148,7 @@ module _ (profile : Profile) where
 
   named_more : (lines : List Line) (line : Line) → named_after line (named_of lines) ≡ named_of (lines ++ line ∷ [])
   unfolding named_of
-  named_more lines (section m) = grind (arith, set-tabulate, tabulate_same, any_more, names, number_at)
-  named_more lines line = named_kept lines line (λ n. refl)
+  named_more lines line = grind (arith, set-tabulate, tabulate_same, any_more, names, number_at, named_kept)
 
   named_none : replicate processor_count false ≡ named_of []
   unfolding named_of
@@ -168,8 +157,7 @@ module _ (profile : Profile) where
   -- ---- whether dead start was asked for
 
   asked_more : (lines : List Line) (line : Line) → asked_after line (asks_dead_start lines) ≡ asks_dead_start (lines ++ line ∷ [])
-  asked_more lines dead_start = sym (any_more is_dead_start lines dead_start)
-  asked_more lines line = sym (any_more is_dead_start lines line)
+  asked_more lines line = grind (arith, any_more)
 
   -- ---- the progress
 

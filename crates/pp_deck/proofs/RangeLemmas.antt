@@ -1,5 +1,5 @@
 -- What is known of each line that a deck says: its numbers are in range, and only one with the keyword `PP` begins a section.
-use Rattle.std.proofs.Common.{◌≡◌, ◌∙◌, sym, ap, IsTrue, if◌then◌else◌, ℕ, ◌+◌, ◌-◌, ◌*◌, ◌^◌, ◌<◌, ◌≤◌, Bool, true, false, cond, List, [], ◌∷◌, length, fold, Option, Some, None, Result, Ok, Err, refl, arith, lit<}
+use Rattle.std.proofs.Common.{◌≡◌, IsTrue, if◌then◌else◌, ℕ, ◌+◌, ◌-◌, ◌*◌, ◌^◌, ◌<◌, ◌≤◌, Bool, true, false, cond, List, [], ◌∷◌, length, fold, Option, Some, None, Result, Ok, Err, refl, arith, lit<}
 use Rattle.std.specs.Prelude.{nat_le, nat_lt, ◌&&◌, ◌||◌, All, find, is_some}
 use Rattle.std.specs.List.{list_all}
 use Rattle.std.specs.Option.{ok_or}
@@ -11,7 +11,7 @@ use Rattle.pp_numbers.specs.Profile.{has_processor}
 use Rattle.pp_numbers.specs.declared.profile.Profile.{Profile}
 use Rattle.pp_numbers.specs.declared.profile.Profile.TheVariants.{Ten}
 use Rattle.pp_deck.specs.OctalNumber.{number}
-use Rattle.pp_deck.specs.DeckLine.{Line, central_size, central_words, section, start, words, dead_start, keyword_of, line_by, number_then, ends_with, start_from, words_in, central_line, central_words_line, section_line, start_line, words_line, ◌>>=◌, line_after}
+use Rattle.pp_deck.specs.DeckLine.{Line, central_size, central_words, section, start, words, line_by, number_then, ends_with, start_from, words_in, central_line, central_words_line, section_line, start_line, words_line, ◌>>=◌, line_after}
 use Rattle.pp_deck.specs.DeckMeaning.{begins_section, has_fields, is_processor_keyword, stated_size, size_by, size_in, size_of}
 use Rattle.pp_deck.specs.DeckText.{Fields}
 use Rattle.pp_deck.specs.declared.{flaw.Flaw.Flaw, keyword.Keyword.Keyword}
@@ -107,8 +107,7 @@ module _ (profile : Profile) where
   section_holds fields = then_holds 2 fields _ (IsKnown true) (λ n more small. holds_if (IsKnown true) _ (ends_with (section n) more) _ (λ has. end_holds (IsKnown true) (section n) more (refl, has)))
 
   start_from_holds : (p : ℕ) (more : Fields) → p < 8 ^ 4 → Holds (IsKnown false) (start_from p more)
-  start_from_holds p [] small = (refl, (small, omega arith))
-  start_from_holds p (field ∷ more) small = holds_bind (λ a. a < 8 ^ 6) (IsKnown false) (number 6 field) (λ a. ends_with (start p a) more) (number_holds 6 field) (λ a low. end_holds (IsKnown false) (start p a) more (refl, (small, low)))
+  start_from_holds p more small = grind (arith, holds_bind, number_holds, end_holds)
 
   start_holds : (fields : Fields) → Holds (IsKnown false) (start_line fields)
   unfolding start_line
@@ -119,36 +118,22 @@ module _ (profile : Profile) where
   words_line_holds field fields = grind (arith, holds_bind, number_holds, words_hold)
 
   by_keyword : (size : ℕ) (b s : Bool) (keyword : Keyword) (field : List ℕ) (fields : Fields) → Holds (IsKnown (is_processor_keyword keyword)) (line_by profile size b s keyword field fields)
-  by_keyword size b s keywords.Central field fields = unless_holds (IsKnown false) b _ _ (central_holds fields)
-  by_keyword size b s keywords.CentralWords field fields = central_words_hold size fields
-  by_keyword size b s keywords.Processor field fields = section_holds fields
-  by_keyword size b s keywords.Start field fields = holds_if (IsKnown false) s _ _ (λ is. start_holds fields)
-  by_keyword size b s keywords.DeadStart field fields = end_holds (IsKnown false) dead_start fields (refl, tt)
-  by_keyword size b s keywords.Words field fields = holds_if (IsKnown false) s _ _ (λ is. words_line_holds field fields)
-  by_keyword size b s keywords.Unknown field fields = tt
+  by_keyword size b s keyword field fields = grind (arith, unless_holds, central_holds, central_words_hold, section_holds, holds_if, start_holds, end_holds, words_line_holds)
 
   pub line_holds : (size : ℕ) (b s : Bool) (fields : Fields) → Holds (IsKnown (begins_section fields)) (line_after profile size b s fields)
   unfolding line_after
-  line_holds size b s [] = (refl, tt)
-  line_holds size b s (field ∷ fields) = by_keyword size b s (keyword_of field) field fields
+  line_holds size b s fields = grind (arith, by_keyword)
 
   -- ---- the section behind a line
 
   or_else : (b t : Bool) → b ≡ t → (c : Bool) → (if b then true else c) ≡ (c || t)
-  or_else true true e true = refl
-  or_else true true e false = refl
-  or_else false false e true = refl
-  or_else false false e false = refl
-  or_else true false e c = absurd (cc)
-  or_else false true e c = absurd (cc)
+  or_else b t e c = grind arith
 
   current_is_some : (line : Line) (current : Option ℕ) → is_some (current_after line current) ≡ (if is_section line then true else is_some current)
-  current_is_some (section n) current = refl
-  current_is_some line current = refl
+  current_is_some line current = grind arith
 
   known : (r : Result Line Flaw) (begins : Bool) (line : Line) → Holds (IsKnown begins) r → r ≡ Ok line → is_section line ≡ begins
-  known (Ok l) begins line h e = let same : l ≡ line = cc in ap is_section (sym same) ∙ h.0
-  known (Err flaw) begins line h e = absurd (cc)
+  known r begins line h e = grind arith
 
   -- there is a current processor where there was one, or where the line begins with `PP`
   pub section_after : (size : ℕ) (b s : Bool) (fields : Fields) (line : Line) (current : Option ℕ) → line_after profile size b s fields ≡ Ok line → is_some (current_after line current) ≡ (is_some current || begins_section fields)
@@ -165,16 +150,14 @@ default_size = (omega arith, omega arith)
 
 stated : (r : Result Line _) → Holds (IsKnown Ten false) r → IsSize (stated_size r)
 unfolding IsSize
-stated (Ok (central_size n)) h = h.1
-stated r h = default_size
+stated r h = grind (arith, default_size)
 
 size_by_range : (keyword : Keyword) (fields : Fields) → IsSize (size_by keyword fields)
 size_by_range keywords.Central fields = stated (central_line fields) (central_holds Ten fields)
 size_by_range keyword fields = default_size
 
 size_is : (o : Option Fields) → IsSize (size_in o)
-size_is (Some (field ∷ fields)) = size_by_range (keyword_of field) fields
-size_is o = default_size
+size_is o = grind (arith, size_by_range, default_size)
 
 pub size_in_range : (lines : List Fields) → (1 ≤ size_of lines) × (size_of lines ≤ 0o400000)
 unfolding size_of IsSize

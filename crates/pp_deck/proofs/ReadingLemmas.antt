@@ -97,10 +97,7 @@ module _ (profile : Profile) where
 
   -- what a line says, with the profile of the machine and the size that central memory has
   line_here : (lines : List (List (List ℕ))) (k : ℕ) (progress : Progress) (b : Bool) (line fields : List (List ℕ)) → ReadTo lines k progress b → line ≡ fields → line_after profile (size_of lines) b (is_some progress.current) line ≡ line_after progress.machine.profile (length progress.machine.central) b (is_some progress.current) fields
-  line_here lines k progress b line fields h e =
-      ap (line_after profile (size_of lines) b (is_some progress.current)) e
-      ∙ ap (λ (size : ℕ). line_after profile size b (is_some progress.current) fields) (sym (central_length lines k progress b h))
-      ∙ ap (λ p. line_after p (length progress.machine.central) b (is_some progress.current) fields) (sym (keeps_profile lines k progress b h))
+  line_here lines k progress b line fields h e = grind (arith, central_length, keeps_profile)
 
   read_as : (lines : List (List (List ℕ))) (k : ℕ) (progress new : Progress) (b : Bool) (r : Result Line Flaw) → ReadTo lines k progress b → k < length lines → has_fields (get_or lines k []) ≡ true → line_after profile (size_of lines) b (is_some progress.current) (get_or lines k []) ≡ r → on_read (after_line progress) r ≡ Ok new → ReadTo lines (k + 1) new true
   read_as lines k progress new b (Ok line) h lt some is e =
@@ -122,8 +119,7 @@ module _ (profile : Profile) where
       (ap (on_read (after_line progress)) (line_here lines k progress b (get_or lines k []) (first ∷ fields) h e) ∙ read)
 
   flaw_of : {A : Type 0} (use_of : Line → A) (r : Result Line Flaw) (flaw : Flaw) → on_read use_of r ≡ Err flaw → r ≡ Err flaw
-  flaw_of use_of (Ok line) flaw e = absurd (cc)
-  flaw_of use_of (Err other) flaw e = cc
+  flaw_of use_of r flaw e = grind arith
 
   -- a faulty line is the first one
   pub read_flaw : (lines : List (List (List ℕ))) (k : ℕ) (progress : Progress) (b : Bool) (first : List ℕ) (fields : List (List ℕ)) (flaw : Flaw) → ReadTo lines k progress b → k < length lines → get_or lines k [] ≡ first ∷ fields → on_read (after_line progress) (line_after progress.machine.profile (length progress.machine.central) b (is_some progress.current) (first ∷ fields)) ≡ Err flaw → meaning_of_lines profile lines ≡ Err (record { line = k + 1; code = code_of flaw })

@@ -36,16 +36,14 @@ asked_after line asked = asked
 -- what one line more leaves, told by its parts
 pub after_line_parts : (progress : Progress) (line : Line) → after_line progress line ≡ record { machine = machine_after progress.current line progress.machine; named = named_after line progress.named; current = current_after line progress.current; asks_dead_start = asked_after line progress.asks_dead_start }
 unfolding after_line
-after_line_parts progress nothing = refl
-after_line_parts progress line = refl
+after_line_parts progress line = grind arith
 
 -- whether a line names processor n
 abbrev pub names : ℕ → Line → Bool
 names n line = is_for n (processor_in line)
 
 current_is : (line : Line) (current : Option ℕ) → or_else (processor_in line) current ≡ current_after line current
-current_is nothing current = refl
-current_is line current = refl
+current_is line current = grind arith
 
 -- the section after one line more
 pub section_more : (lines : List Line) (line : Line) → section_of (lines ++ line ∷ []) ≡ current_after line (section_of lines)
@@ -70,8 +68,7 @@ own true line = line ∷ []
 own false line = []
 
 picked_is : (b : Bool) (line : Line) → option_to_list (cond b (Some line) None) ≡ own b line
-picked_is true line = refl
-picked_is false line = refl
+picked_is b line = grind arith
 
 picks : ℕ → List Line → List Line
 picks n lines = filter_map (pick n lines) (range_with_len 0 (length lines))

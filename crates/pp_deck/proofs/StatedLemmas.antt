@@ -1,32 +1,28 @@
 -- The size of central memory that a deck states.
-use Rattle.std.proofs.Common.{◌≡◌, ℕ, zero, suc, ◌<◌, ◌≤◌, ◌^◌, Bool, true, false, cond, List, [], ◌∷◌, length, take, get_or, Option, Some, Result, Ok, Err, sym, ap, ◌∙◌, subst, arith, lt-ltb}
+use Rattle.std.proofs.Common.{◌≡◌, ℕ, zero, suc, ◌<◌, ◌≤◌, ◌^◌, Bool, true, false, cond, List, [], ◌∷◌, length, take, get_or, Option, Some, Result, ap, arith, lt-ltb}
 use Rattle.std.specs.Prelude.{find, IfOk, ◌||◌}
 use Rattle.std.specs.List.{list_any}
 use Rattle.std.specs.Result.{result_unwrap_or}
 use Rattle.pp_machine.specs.Central.{IsCentralSize}
 use Rattle.pp_deck.specs.DeckLine.{central_line, central_size, keyword_of}
-use Rattle.pp_deck.specs.DeckMeaning.{has_fields, size_by, size_in, size_of, stated_size}
+use Rattle.pp_deck.specs.DeckMeaning.{has_fields, size_by, size_in, size_of}
 use Rattle.pp_deck.specs.DeckText.{Fields}
 use Rattle.pp_deck.specs.Reading.{IsStated, IsStatedBy, on_read}
 use Rattle.pp_deck.specs.declared.{flaw.Flaw.Flaw, keyword.Keyword.Keyword}
 use Rattle.pp_deck.specs.declared.keyword.Keyword.TheVariants as keyword
 
 by_word : (stated : Result ℕ Flaw) (word : Keyword) (fields : Fields) → IsStatedBy stated word fields → result_unwrap_or stated 0o10000 ≡ size_by word fields
-by_word (Ok n) keyword.Central fields is = sym (ap stated_size is)
-by_word (Err flaw) keyword.Central fields is = sym (ap stated_size is)
-by_word stated other fields is = ap (λ (s : Result ℕ Flaw). result_unwrap_or s 0o10000) is
+by_word stated word fields is = grind arith
 
 by_line : (stated : Result ℕ Flaw) (line : Option Fields) → IsStated stated line → result_unwrap_or stated 0o10000 ≡ size_in line
-by_line stated (Some (first ∷ fields)) is = by_word stated (keyword_of first) fields is
-by_line stated other is = ap (λ (s : Result ℕ Flaw). result_unwrap_or s 0o10000) is
+by_line stated line is = grind (arith, by_word)
 
 pub size_is : (stated : Result ℕ Flaw) (lines : List Fields) → IsStated stated (find has_fields lines) → result_unwrap_or stated 0o10000 ≡ size_of lines
 unfolding size_of
 size_is stated lines is = by_line stated (find has_fields lines) is
 
 pub size_most : (stated : Result ℕ Flaw) → IfOk stated IsCentralSize → result_unwrap_or stated 0o10000 ≤ 2 ^ 17
-size_most (Ok n) range = omega (arith, range)
-size_most (Err flaw) range = omega arith
+size_most stated range = grind arith
 
 first_with : (lines : List Fields) (k : ℕ) → list_any has_fields (take k lines) ≡ false → k < length lines → has_fields (get_or lines k []) ≡ true → find has_fields lines ≡ Some (get_or lines k [])
 first_with [] k none lt some = absurd (omega (arith, lt))
@@ -40,6 +36,4 @@ first_with (line ∷ more) (suc k) none lt some = by_test (has_fields line) none
 -- the line that it is read off
 pub stated_here : (stated : Result ℕ Flaw) (lines : List Fields) (k : ℕ) (first : List ℕ) (fields : Fields) → IsStated stated (find has_fields lines) → list_any has_fields (take k lines) ≡ false → k < length lines
     → get_or lines k [] ≡ first ∷ fields → keyword_of first ≡ keyword.Central → central_line fields ≡ on_read central_size stated
-stated_here stated lines k first fields is none lt here central =
-    let found : find has_fields lines ≡ Some (first ∷ fields) = first_with lines k none lt (ap has_fields here ∙ lt-ltb 0 (suc (length fields)) (omega arith)) ∙ ap (λ (line : Fields). Some line) here in
-    subst (λ (word : Keyword). IsStatedBy stated word fields) central (subst (IsStated stated) found is)
+stated_here stated lines k first fields is none lt here central = grind (arith, first_with, lt-ltb)

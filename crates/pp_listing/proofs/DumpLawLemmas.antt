@@ -6,24 +6,24 @@ use Rattle.std.proofs.lemmas.List.{get_or-replicate, length-map, append-nil, app
 use Rattle.std.proofs.Math.ListN.{get_or-map}
 use Rattle.pp_numbers.specs.ChannelNo.{all_channels, channel_count, channel_index, names_channel, channel_places}
 use Rattle.pp_machine.specs.MachineState.{MachineState, processor_of, is_opened}
-use Rattle.pp_processor.specs.Processor.{Processor, IsProcessor, new_processor, no_processor, word_at}
+use Rattle.pp_processor.specs.Processor.{Processor, IsProcessor, new_processor, no_processor}
 use Rattle.pp_numbers.specs.PpNo.{all_processors, names_processor, processor_count, processor_index, processor_number, processor_places}
 use Rattle.pp_machine.specs.Run.{run}
 use Rattle.pp_processor.specs.declared.{block.Block.Block, pp_state.PpState.PpState}
-use Rattle.pp_processor.specs.declared.pp_state.PpState.TheVariants.{Running, Stopped, Fault}
+use Rattle.pp_processor.specs.declared.pp_state.PpState.TheVariants.{Running}
 use Rattle.pp_numbers.specs.declared.profile.Profile.{Profile}
 use Rattle.pp_deck.specs.DeckLoad.{processor_with}
 use Rattle.pp_deck.specs.DeckMeaning.{LoadedDeck, deck_meaning, with_dead_start}
 use Rattle.pp_numbers.proofs.TableLemmas.{length-tabulate, get_or-tabulate}
 use Rattle.pp_deck.specs.InUse.{is_in_use, in_use}
 use Rattle.pp_listing.specs.Dump.{in_processor, busy_processor, busy_channel, all_busy, first_busy, left_of, deck_to_go_on, dump, after, order_comment, GoesOnFrom}
-use Rattle.pp_listing.specs.Listing.{listing, central_word_line, dead_start_line, instruction_lines, named_section, section_lines, start_line}
+use Rattle.pp_listing.specs.Listing.{listing, central_word_line, dead_start_line, named_section, section_lines}
 use Rattle.pp_listing.proofs.GoingOnLemmas.{none_given}
 use Rattle.pp_listing.proofs.ListingLemmas.{IsSet, comment_loads, dead_of, listing_loads, names_of, none_opened, numbered, processors_of}
 use Rattle.pp_text.specs.OrderText.{order_text}
 use Rattle.pp_listing.proofs.OrderCommentLemmas.{comment_plain}
 use Rattle.pp_listing.proofs.RunDeckLemmas.{IsDeckFor, deck_after, processor_here}
-use Rattle.pp_deck.specs.DeckLine.{central_size, section, dead_start}
+use Rattle.pp_deck.specs.DeckLine.{central_size, dead_start}
 use Rattle.pp_listing.specs.ListedLine.{ListedLine, bare, deck_line, text_line}
 use Rattle.pp_listing.proofs.TextLemmas.{listing_in_parts}
 
@@ -42,8 +42,7 @@ named_there deck n named = ap (λ (b : Bool). b && get_or (deck_to_go_on deck).n
 -- ---- between programs no processor is in a block
 
 in_no_block : (n : ℕ) (block : Option Block) (state : PpState) → in_processor n block state ≡ None → block ≡ None
-in_no_block n (Some block) state e = absurd (cc)
-in_no_block n None state e = refl
+in_no_block n block state e = grind arith
 
 no_block : (m : MachineState) (n : ℕ) → IsTrue (names_processor n) → first_busy m ≡ None → (processor_of n m).block ≡ None
 unfolding all_busy all_processors
@@ -57,8 +56,7 @@ no_block m n named e =
 
 module _ (profile : Profile) where
   left_widths : (state : PpState) (pp : Processor) → IsProcessor pp → IsProcessor (left_of state pp)
-  left_widths Running pp h = h
-  left_widths state pp h = record { memory = h.memory; a = omega arith; p = omega arith }
+  left_widths state pp h = grind arith
 
   -- from its start, where it is running
   start_left : PpState → Processor → Option (ℕ × ℕ)
@@ -67,9 +65,7 @@ module _ (profile : Profile) where
 
   left_set : (state : PpState) (pp : Processor) → pp.state ≡ state → pp.profile ≡ profile → pp.block ≡ None → left_of state pp ≡ processor_with profile (left_of state pp).memory (start_left state pp)
   unfolding start_left
-  left_set Running pp e its none = grind arith
-  left_set Stopped pp e its none = ap (λ p. record (new_processor p) { memory = pp.memory }) its
-  left_set (Fault number) pp e its none = ap (λ p. record (new_processor p) { memory = pp.memory }) its
+  left_set state pp e its none = grind arith
 
   left_new : (pp : Processor) → pp ≡ new_processor profile → left_of pp.state pp ≡ new_processor profile
   left_new pp e = ap (λ (q : Processor). left_of q.state q) e
@@ -148,8 +144,7 @@ dump_law_of profile text deck steps order meant between short =
 -- ---- the lines, printed from the machine as it stands
 
 lines_left : (n : ℕ) (state : PpState) (pp : Processor) → pp.state ≡ state → section_lines n pp ≡ section_lines n (left_of state pp)
-lines_left n Running pp e = refl
-lines_left n other pp e = ap (λ (state : PpState). bare (section n) ∷ instruction_lines (word_at pp 0) 0 pp.memory ++ start_line state pp.p pp.a) e
+lines_left n state pp e = grind arith
 
 section_left : (deck : LoadedDeck) (n : ℕ) → named_section (deck_to_go_on deck).named deck.machine n ≡ named_section (deck_to_go_on deck).named (deck_to_go_on deck).machine n
 section_left deck n = grind (arith, lines_left, left_there)

@@ -6,7 +6,6 @@ use Rattle.std.proofs.lemmas.Bool.{le-leb, lt-leb, eqb-true}
 use Rattle.std.proofs.lemmas.List.Elements.{All-head, All-tail, All-cons, All-nil}
 use Rattle.pp_word.specs.Address.{place_count}
 use Rattle.pp_processor.specs.declared.pp_state.PpState.{PpState}
-use Rattle.pp_processor.specs.declared.pp_state.PpState.TheVariants.{Running}
 use Rattle.pp_numbers.specs.declared.profile.Profile.{Profile}
 use Rattle.pp_deck.specs.DeckLine.{Line, start, words, line_after}
 use Rattle.pp_deck.specs.DeckLoad.{word_among, word_for}
@@ -18,22 +17,16 @@ use Rattle.pp_listing.proofs.ListedLineLemmas.{fields_said, words_line_read}
 use Rattle.pp_deck.proofs.SectionLinesLemmas.{all_unset}
 
 all_if : (P : Line → Type 0) (b : Bool) (xs ys : List ListedLine) → AllByRecursion P (map says xs) → AllByRecursion P (map says ys) → AllByRecursion P (map says (cond b xs ys))
-all_if P true xs ys h k = h
-all_if P false xs ys h k = k
+all_if P b xs ys h k = grind arith
 
 -- what holds of each line of words from a place on holds of the lines of the instructions there
 pub instructions_all : (P : Line → Type 0) (first x : ℕ) (ws : List ℕ) → ((y : ℕ) (us : List ℕ) → x ≤ y → P (words y us)) → AllByRecursion P (map says (instruction_lines first x ws))
 instructions_all P first x [] each = tt
 instructions_all P first x (w ∷ []) each = all_if P (eqb w 0) [] (one_word x w first ∷ []) tt (each x (w ∷ []) (omega arith), tt)
-instructions_all P first x (w ∷ m ∷ ws) each =
-    let next = instructions_all P first (x + 1) (m ∷ ws) (λ y us le. each y us (omega (arith, le))) in
-    all_if P (eqb w 0) (instruction_lines first (x + 1) (m ∷ ws)) _ next
-    (all_if P (is_long w) (two_words x w m ∷ instruction_lines first (x + 2) ws) (one_word x w m ∷ instruction_lines first (x + 1) (m ∷ ws))
-    (each x (w ∷ m ∷ []) (omega arith), instructions_all P first (x + 2) ws (λ y us le. each y us (omega (arith, le)))) (each x (w ∷ []) (omega arith), next))
+instructions_all P first x (w ∷ m ∷ ws) each = grind (arith, all_if, instructions_all P first (x + 1) (m ∷ ws) (λ y us le. each y us (omega (arith, le))), instructions_all P first (x + 2) ws (λ y us le. each y us (omega (arith, le))))
 
 pub start_all : (P : Line → Type 0) (state : PpState) (p a : ℕ) → P (start p a) → AllByRecursion P (map says (start_line state p a))
-start_all P Running p a h = (h, tt)
-start_all P state p a h = tt
+start_all P state p a h = grind arith
 
 -- ---- reading the lines
 
@@ -81,8 +74,7 @@ abbrev pub value_at : ℕ → List ListedLine → ℕ
 value_at place lines = unwrap_or (last_of (filter_map (word_for place) (map says lines))) 0
 
 value_if : (place v : ℕ) (b : Bool) (xs ys : List ListedLine) → (b ≡ true → value_at place xs ≡ v) → (b ≡ false → value_at place ys ≡ v) → value_at place (cond b xs ys) ≡ v
-value_if place v true xs ys h k = h refl
-value_if place v false xs ys h k = k refl
+value_if place v b xs ys h k = grind arith
 
 value_here : (place v : ℕ) (line : ListedLine) (lines : List ListedLine) → word_for place (says line) ≡ Some v → filter_map (word_for place) (map says lines) ≡ [] → value_at place (line ∷ lines) ≡ v
 value_here place v line lines e h = grind (arith, last_of)

@@ -1,8 +1,8 @@
 -- The lines of a listing, taken all together, load the deck that they list.
 use mathlib.Core.Bool.{and-false, and-true, or-false}
-use Rattle.std.proofs.Common.{◌≡◌, ℕ, suc, ◌-◌, ◌<◌, ◌⊎◌, Bool, true, false, cond, eqb, List, [], ◌∷◌, ◌++◌, length, get_or, Option, Some, None, refl, sym, ap, ◌∙◌, map, subst, arith, append-nil, inl, inr}
+use Rattle.std.proofs.Common.{◌≡◌, ℕ, ◌<◌, ◌⊎◌, Bool, true, false, cond, eqb, List, [], ◌∷◌, ◌++◌, length, get_or, Option, None, refl, sym, ap, ◌∙◌, map, subst, arith, append-nil}
 use Rattle.std.specs.Prelude.{filter_map, unwrap_or, ◌&&◌, ◌||◌, IsTrue}
-use Rattle.std.specs.List.{AllByRecursion, flat_map, list_any, range_with_len, cons_option}
+use Rattle.std.specs.List.{AllByRecursion, flat_map, list_any, range_with_len}
 use Rattle.std.proofs.lemmas.Bool.{eqb-true, cases_order}
 use Rattle.std.proofs.lemmas.List.Elements.{All-from_recursion, filter_map-append}
 use Rattle.std.proofs.lemmas.List.Folds.{list_any-append, list_any_none}
@@ -72,21 +72,16 @@ lines_of_parts central dead named pp = head_of central dead ++ flat_map (section
 -- ---- central words
 
 word_if : (a w : ℕ) (b : Bool) → eqb w 0 ≡ b → unwrap_or (last_of (filter_map (central_word_for a) (cond b [] (central_words a (w ∷ []) ∷ [])))) 0 ≡ w
-word_if a w true e = sym (eqb-true w 0 e)
-word_if a w false e = ap (λ (o : Option ℕ). unwrap_or (last_of (cons_option o [])) 0) (among_at a 0 a (w ∷ []) (omega arith))
+word_if a w b e = grind (arith, eqb-true, last_of, among_at)
 
 other_word : (n m w : ℕ) → (n ≡ m → ⊥) → (n ≡ m) ⊎ ((n < m) ⊎ (m < n)) → word_among m (w ∷ []) n ≡ None
-other_word n m w ne (inl e) = absurd (ne e)
-other_word n m w ne (inr (inl less)) = among_before m n (w ∷ []) less
-other_word n m w ne (inr (inr more)) = among_at m (suc (n - m - 1)) n (w ∷ []) (omega (arith, more))
+other_word n m w ne h4 = grind (arith, among_before, among_at)
 
 no_word_if : (n m w : ℕ) (b : Bool) → (n ≡ m → ⊥) → filter_map (central_word_for n) (cond b [] (central_words m (w ∷ []) ∷ [])) ≡ []
-no_word_if n m w true ne = refl
-no_word_if n m w false ne = ap (λ (o : Option ℕ). cons_option o []) (other_word n m w ne (cases_order n m))
+no_word_if n m w b ne = grind (arith, other_word, cases_order)
 
 head_words : (central : List ℕ) (dead : Bool) (a : ℕ) → filter_map (central_word_for a) (head_of central dead) ≡ filter_map (central_word_for a) (central_lines central)
-head_words central true a = grind (arith, filter_map-append, central_lines, append-nil)
-head_words central false a = ap (filter_map (central_word_for a)) (append-nil (central_size (length central) ∷ central_lines central))
+head_words central dead a = grind (arith, filter_map-append, append-nil)
 
 pub central_held : (central : List ℕ) (dead : Bool) (named : ℕ → Bool) (pp : ℕ → Processor) (a : ℕ) → a < length central → unwrap_or (last_of (filter_map (central_word_for a) (lines_of_parts central dead named pp))) 0 ≡ get_or central a 0
 central_held central dead named pp a lt =
@@ -100,12 +95,10 @@ central_held central dead named pp a lt =
 -- ---- the lines before the sections
 
 line_keeps : (a w : ℕ) (b : Bool) → AllByRecursion KeepsCurrent (cond b [] (central_words a (w ∷ []) ∷ []))
-line_keeps a w true = tt
-line_keeps a w false = (λ c. refl, tt)
+line_keeps a w b = grind arith
 
 dead_keeps : (dead : Bool) → AllByRecursion KeepsCurrent (dead_line dead)
-dead_keeps true = (λ c. refl, tt)
-dead_keeps false = tt
+dead_keeps dead = grind arith
 
 head_keeps : (central : List ℕ) (dead : Bool) → AllByRecursion KeepsCurrent (head_of central dead)
 head_keeps central dead =
@@ -118,12 +111,10 @@ untrue p lines h = list_any_none p lines (All-from_recursion (λ line. p line �
 
 -- whether a line of the head has a trait that only a line DEAD may have
 line_without : (p : Line → Bool) (a w : ℕ) (b : Bool) → p (central_words a (w ∷ [])) ≡ false → list_any p (cond b [] (central_words a (w ∷ []) ∷ [])) ≡ false
-line_without p a w true e = refl
-line_without p a w false e = ap (λ (b : Bool). b || false) e
+line_without p a w b e = grind arith
 
 dead_if : (p : Line → Bool) (dead : Bool) → list_any p (dead_line dead) ≡ (dead && p dead_start)
-dead_if p true = or-false (p dead_start)
-dead_if p false = refl
+dead_if p dead = grind (arith, or-false)
 
 any_head : (p : Line → Bool) (central : List ℕ) (dead : Bool) → p (central_size (length central)) ≡ false → ((a w : ℕ) → p (central_words a (w ∷ [])) ≡ false) → list_any p (head_of central dead) ≡ (dead && p dead_start)
 any_head p central dead no_size no_word = grind (arith, list_any-append, central_lines, dead_line, any_flat, word_line, any_none, line_without, dead_if)
@@ -152,8 +143,7 @@ asked_held central dead named pp =
 -- ---- processors
 
 own_held : {A : Type 0} (f : Line → Option A) (central : List ℕ) (dead : Bool) (named : ℕ → Bool) (pp : ℕ → Processor) (n : ℕ) → ((m : ℕ) → f (section m) ≡ None) → n < number_count → filter_map f (lines_for n (lines_of_parts central dead named pp)) ≡ cond (named n) (filter_map f (body_of (pp n))) []
-own_held f central dead named pp n none lt =
-    held_by_sections f named (λ m. body_of (pp m)) n number_count (head_of central dead) none (λ m. each_of_body KeepsCurrent (λ x ws c. refl) (λ p a c. refl) (pp m)) (head_keeps central dead) lt
+own_held f central dead named pp n none lt = search (held_by_sections, number_count, each_of_body, head_keeps)
 
 pub memory_is : (lines : List Line) → memory_of lines ≡ tabulate place_count (λ place. unwrap_or (last_of (filter_map (word_for place) lines)) 0)
 unfolding memory_of
@@ -178,16 +168,11 @@ memory_held central dead named pp n lt here long =
 
 -- and its start
 body_start : (pp : Processor) → filter_map start_in (body_of pp) ≡ filter_map start_in (map says (start_line pp.state pp.p pp.a))
-body_start pp =
-    ap (filter_map start_in) (body_parts pp)
-    ∙ filter_map-append start_in (map says (instruction_lines (word_at pp 0) 0 pp.memory)) (map says (start_line pp.state pp.p pp.a))
-    ∙ ap (λ (xs : List (ℕ × ℕ)). xs ++ filter_map start_in (map says (start_line pp.state pp.p pp.a)))
-    (all_unset start_in _ (instructions_all (λ line. start_in line ≡ None) (word_at pp 0) 0 pp.memory (λ y us le. refl)))
+body_start pp = search (body_parts, filter_map-append, all_unset, instructions_all)
 
 module _ (profile : Profile) where
   starts_of : (memory : List ℕ) (o : Option (ℕ × ℕ)) → (let pp = processor_with profile memory o in last_of (filter_map start_in (map says (start_line pp.state pp.p pp.a))) ≡ o)
-  starts_of memory None = refl
-  starts_of memory (Some s) = refl
+  starts_of memory o = grind arith
 
   pub start_held : (central : List ℕ) (dead : Bool) (named : ℕ → Bool) (pp : ℕ → Processor) (n : ℕ) → n < number_count → named n ≡ true → (memory : List ℕ) (o : Option (ℕ × ℕ)) → pp n ≡ processor_with profile memory o → last_of (filter_map start_in (lines_for n (lines_of_parts central dead named pp))) ≡ o
   start_held central dead named pp n lt here memory o is = grind (arith, last_of, own_held, body_of, body_start, starts_of)
@@ -199,8 +184,7 @@ module _ (profile : Profile) where
   processor_is lines n = refl
 
   pub memory_with : (memory : List ℕ) (o : Option (ℕ × ℕ)) → (processor_with profile memory o).memory ≡ memory
-  memory_with memory None = refl
-  memory_with memory (Some s) = refl
+  memory_with memory o = grind arith
 
   pub central_is : (size : ℕ) (lines : List Line) → central_loaded size lines ≡ tabulate size (λ address. unwrap_or (last_of (filter_map (central_word_for address) lines)) 0)
   unfolding central_loaded

@@ -29,7 +29,6 @@ use Rattle.pp_numbers.proofs.PpNoLemmas.{processor_fits}
 use Rattle.pp_text.specs.InstructionText.{instruction_text, index_text, operands_text}
 use Rattle.pp_word.specs.Opcode.{row_of}
 use Rattle.pp_word.specs.declared.opcode.Opcode.{Opcode}
-use Rattle.pp_word.specs.declared.opcode.Opcode.TheVariants.{PSN}
 use Rattle.pp_word.specs.declared.operands.Operands.{Operands}
 use Rattle.pp_word.specs.declared.operands.Operands.TheVariants.{IndexedPlace}
 
@@ -46,12 +45,10 @@ no_line_feed text plain = λ k d lt.
     ne_eqb (get_or text k d) 10 (λ e. absurd (omega (arith, least, e)))
 
 mnemonic_plain : (op : Opcode) → IsPlain ((row_of op).mnemonic)
-mnemonic_plain PSN = refl
-mnemonic_plain op = refl
+mnemonic_plain op = grind arith
 
 pub plain_if : (b : Bool) (xs ys : List ℕ) → IsPlain xs → IsPlain ys → IsPlain (cond b xs ys)
-plain_if true xs ys h k = h
-plain_if false xs ys h k = k
+plain_if b xs ys h k = grind arith
 
 index_plain : (d : ℕ) → IsPlain (index_text d)
 index_plain d = plain_if (eqb d 0) [] (codes "," ++ octal 2 d) refl (plain_append (codes ",") (octal 2 d) refl (octal_plain 2 d))
@@ -209,9 +206,7 @@ is_ascii c = nat_le c 127
 plain_ascii : (text : List ℕ) → list_all is_plain text ≡ true → list_all is_ascii text ≡ true
 unfolding is_ascii
 plain_ascii [] e = refl
-plain_ascii (c ∷ text) e =
-    let most = plain_most c (and_parts (is_plain c) (list_all is_plain text) e).0 in
-    and_from (nat_le c 127) (list_all is_ascii text) (le-leb c 127 (omega (arith, most))) (plain_ascii text (and_parts (is_plain c) (list_all is_plain text) e).1)
+plain_ascii (c ∷ text) e = grind (arith, plain_most, and_parts, is_plain, and_from, is_ascii, le-leb, plain_ascii text (and_parts (is_plain c) (list_all is_plain text) e).1)
 
 ascii_append : (xs ys : List ℕ) → list_all is_ascii xs ≡ true → list_all is_ascii ys ≡ true → list_all is_ascii (xs ++ ys) ≡ true
 ascii_append xs ys h k = list_all-append is_ascii xs ys ∙ and_from (list_all is_ascii xs) (list_all is_ascii ys) h k

@@ -9,10 +9,10 @@ use Rattle.std.proofs.lemmas.List.Folds.{list_any_at, list_any_none}
 use Rattle.pp_numbers.specs.Tables.{tabulate}
 use Rattle.pp_numbers.proofs.TableLemmas.{length-tabulate, get_or-tabulate, tabulate_const, tabulate_is}
 use Rattle.pp_numbers.specs.ChannelNo.{all_channels, channel_count, channel_index, channel_number, names_channel, channel_places}
-use Rattle.pp_machine.specs.MachineState.{MachineState, new_machine, processor_of, is_opened}
+use Rattle.pp_machine.specs.MachineState.{new_machine, processor_of, is_opened}
 use Rattle.pp_machine.specs.Central.{IsCentral}
 use Rattle.pp_processor.specs.PpMemory.{empty_memory}
-use Rattle.pp_processor.specs.Processor.{Processor, IsProcessor, new_processor, no_processor, word_at, waiting_on}
+use Rattle.pp_processor.specs.Processor.{Processor, IsProcessor, new_processor, no_processor, word_at}
 use Rattle.pp_numbers.specs.PpNo.{processor_places, all_processors, names_processor, processor_count, processor_index, processor_number, each_processor, is_named}
 use Rattle.pp_word.specs.Address.{place_count}
 use Rattle.pp_numbers.proofs.GrowingLists.{last_of}
@@ -70,8 +70,7 @@ module _ (profile : Profile) where
       (λ b. central_words_read profile size a (w ∷ []) b (is_some c) (omega (arith, most, lt)) (All-cons (λ v. v < 8 ^ 20) w [] small (All-nil (λ v. v < 8 ^ 20))) (omega (arith, lt)), tt)
 
   ready_dead : (size : ℕ) (dead : Bool) (c : Option ℕ) → IsReady profile size c (dead_line dead)
-  ready_dead size true c = (λ b. dead_start_read profile size b (is_some c), tt)
-  ready_dead size false c = tt
+  ready_dead size dead c = grind (arith, dead_start_read)
 
   parts_ready : (central : List ℕ) (dead : Bool) (named : ℕ → Bool) (pp : ℕ → Processor) → IsCentral central → ((n : ℕ) → named n ≡ true → IsTrue (has_processor profile n)) → ((n : ℕ) → named n ≡ true → IsProcessor (pp n))
       → IsReady profile (length central) None ((central_lines central ++ dead_line dead) ++ flat_map (section_if named (λ n. body_of (pp n))) (range_with_len 0 number_count))
@@ -92,16 +91,13 @@ says_each f g [] same = refl
 says_each f g (n ∷ ns) same = grind (arith, map-append, says_each f g ns same)
 
 says_central : (a w : ℕ) (b : Bool) → map says (cond b [] (bare (central_words a (w ∷ [])) ∷ [])) ≡ cond b [] (central_words a (w ∷ []) ∷ [])
-says_central a w true = refl
-says_central a w false = refl
+says_central a w b = grind arith
 
 says_dead : (b : Bool) → map says (cond b (bare dead_start ∷ []) []) ≡ dead_line b
-says_dead true = refl
-says_dead false = refl
+says_dead b = grind arith
 
 says_section : (n : ℕ) (pp : Processor) (b : Bool) → map says (cond b (section_lines n pp) []) ≡ cond b (section n ∷ body_of pp) []
-says_section n pp true = refl
-says_section n pp false = refl
+says_section n pp b = grind arith
 
 unfoldable pub dead_of : LoadedDeck → Bool
 dead_of deck = list_any (λ c. is_opened c deck.machine) all_channels
@@ -140,9 +136,7 @@ unfolding names_of
 numbered deck n e = (and_parts (names_processor n) (get_or deck.named (processor_index n) false) e).0
 
 awake_if : (asked number named : Bool) → named ≡ true → (asked && (number && not named)) ≡ false
-awake_if true true named e = ap not e
-awake_if true false named e = refl
-awake_if false number named e = refl
+awake_if asked number named e = grind arith
 
 pub none_opened : (deck : LoadedDeck) → ((c : ℕ) → IsTrue (names_channel c) → is_opened c deck.machine ≡ false) → dead_of deck ≡ false
 unfolding dead_of all_channels
@@ -188,8 +182,7 @@ module _ (profile : Profile) (deck set : LoadedDeck) (h : IsSet profile deck set
 
   processor_again : (n : ℕ) → IsTrue (names_processor n) → (b : Bool) → names_of deck n ≡ b → processor_loaded profile parts n ≡ processor_of n set.machine
   unfolding parts
-  processor_again n named true is = grind (arith, processor_is, last_of, lines_of_parts, memory_held, processor_counts, start_held)
-  processor_again n named false is = grind (arith, unnamed_new, named_held, processor_counts)
+  processor_again n named b is = grind (arith, processor_is, last_of, lines_of_parts, memory_held, processor_counts, start_held, unnamed_new, named_held)
 
   processors_again : each_processor (processor_loaded profile parts) ≡ set.machine.processors
   processors_again =
@@ -247,10 +240,7 @@ module _ (profile : Profile) where
   -- a processor that is named does not wait
   set_here : (size : ℕ) (lines : List Line) (n : ℕ) → IsTrue (names_processor n) → names_of (loaded profile size lines) n ≡ true → processors_of (loaded profile size lines) n ≡ processor_of n (set_by profile size lines).machine
   unfolding processors_of
-  set_here size lines n named is =
-      let set : MachineState = (set_by profile size lines).machine in
-      dead.processor_is profile size lines (asks_dead_start lines) n refl named
-      ∙ ap (λ (b : Bool). cond b (waiting_on n (processor_of n set)) (processor_of n set)) (awake_if (asks_dead_start lines) (has_processor profile n) (load.is_named lines n) (sym (name_here size lines n named) ∙ is))
+  set_here size lines n named is = grind (arith, dead.processor_is, awake_if, name_here)
 
   -- what holds of all that lines load whose numbers are in range
   abbrev pub HoldsOfLoaded : (LoadedDeck → Type 0) → Type 0

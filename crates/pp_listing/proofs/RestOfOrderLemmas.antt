@@ -1,11 +1,10 @@
 -- What is left of an order, and the steps in its order.
-use Rattle.std.proofs.Common.{◌≡◌, ℕ, suc, ◌+◌, ◌-◌, ◌%◌, ◌≤◌, List, [], ◌∷◌, ◌++◌, append-nil, append_assoc, drop, length, take, refl, sym, ap, ◌∙◌, inl, inr, arith}
+use Rattle.std.proofs.Common.{◌≡◌, ℕ, suc, ◌+◌, ◌-◌, ◌%◌, ◌≤◌, List, [], ◌∷◌, ◌++◌, append-nil, append_assoc, drop, length, take, sym, ap, ◌∙◌, inl, inr, arith}
 use Rattle.std.specs.Prelude.{min}
 use Rattle.std.proofs.lemmas.Bool.{cases_lt}
 use Rattle.std.proofs.lemmas.List.{drop_all, drop-append-le, drop-take, length-append, take-append-drop, take-append-le, take-take}
 use Rattle.pp_numbers.specs.Profile.{processor_in_turn, processors_in}
 use Rattle.pp_numbers.specs.declared.profile.Profile.{Profile}
-use Rattle.pp_numbers.specs.declared.profile.Profile.TheVariants.{Ten, Twenty}
 use Rattle.pp_machine.specs.MachineState.{MachineState}
 use Rattle.pp_machine.specs.Run.{barrel, run, run_order}
 use Rattle.pp_machine.proofs.OrderLemmas.{take_barrel}
@@ -34,16 +33,13 @@ take_both n m xs =
 -- ---- rounds of the barrel
 
 pub rounds_reach : (p : Profile) (turns : ℕ) → turns ≤ turns_of_rounds p turns
-rounds_reach Ten turns = omega arith
-rounds_reach Twenty turns = omega arith
+rounds_reach p turns = grind arith
 
 no_round : (p : Profile) → turns_of_rounds p 0 ≡ 0
-no_round Ten = refl
-no_round Twenty = refl
+no_round p = grind arith
 
 are_whole : (p : Profile) (turns : ℕ) → turns_of_rounds p turns % processors_in p ≡ 0
-are_whole Ten turns = omega arith
-are_whole Twenty turns = omega arith
+are_whole p turns = grind arith
 
 -- ---- an order, however many turns of the barrel follow its list
 
@@ -85,17 +81,11 @@ run_goes_on first p steps more m = ap (λ ns. run ns m) (goes_on first p steps m
 -- ---- one turn of it after another
 
 pub none_so_far : (first : List ℕ) (p : Profile) (made turns : ℕ) → drop made first ≡ drop made first ++ drop turns (barrel p turns)
-none_so_far first p made turns =
-    sym (append-nil (drop made first)) ∙ ap (λ ns. drop made first ++ ns) (sym (drop_all turns (barrel p turns) (omega (arith, length-barrel p turns))))
+none_so_far first p made turns = grind (arith, append-nil, drop_all, length-barrel)
 
 pub one_more : (p : Profile) (left more rest : List ℕ) (turns turn n : ℕ) → turns ≤ turn → left ≡ rest ++ drop turns (barrel p turn) → n ≡ processor_in_turn p turn → more ≡ left ++ n ∷ []
     → more ≡ rest ++ drop turns (barrel p (turn + 1))
-one_more p left more rest turns turn n within so_far is pushed =
-    let next : turn + 1 ≡ suc turn = omega arith in
-    pushed ∙ ap (λ ns. ns ++ n ∷ []) so_far ∙ append_assoc rest (drop turns (barrel p turn)) (n ∷ [])
-    ∙ ap (λ k. rest ++ (drop turns (barrel p turn) ++ k ∷ [])) is
-    ∙ ap (λ ns. rest ++ ns) (sym (drop-append-le turns (barrel p turn) (processor_in_turn p turn ∷ []) (omega (arith, within, length-barrel p turn))))
-    ∙ ap (λ k. rest ++ drop turns (barrel p k)) (sym next)
+one_more p left more rest turns turn n within so_far is pushed = grind (arith, append_assoc, drop-append-le, length-barrel)
 
 pub all_left : (first : List ℕ) (p : Profile) (steps made turns : ℕ) → made ≡ min (length first) steps → turns ≡ steps - made
     → drop made first ++ drop turns (barrel p (turns_of_rounds p turns)) ≡ order_left first p steps

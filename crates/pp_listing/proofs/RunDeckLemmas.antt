@@ -5,18 +5,17 @@ use Rattle.std.specs.Option.{option_to_list}
 use Rattle.std.proofs.lemmas.Bool.{cases_lt, or_parts}
 use Rattle.std.proofs.lemmas.Bool.Decides.{eqb_tells}
 use Rattle.std.proofs.lemmas.List.{get_or_past, length-set, set_past}
-use Rattle.std.proofs.lemmas.List.Elements.{All-cons, All-nil, All-push, All-replicate, All-same, All-set}
+use Rattle.std.proofs.lemmas.List.Elements.{All-nil, All-push, All-replicate, All-same, All-set}
 use Rattle.pp_numbers.proofs.GrowingLists.{last_of}
 use Rattle.pp_numbers.specs.Tables.{tabulate}
 use Rattle.pp_numbers.proofs.TableLemmas.{length-tabulate}
-use Rattle.pp_channel.specs.Answer.{event_of, event_with, flags_of, flags_shown, history_after, ready_at, reply_by, reply_shown}
+use Rattle.pp_channel.specs.Answer.{event_of, event_with, flags_of, flags_shown, history_after, ready_at, reply_by}
 use Rattle.pp_channel.proofs.AnswerLemmas.{shows_flags}
 use Rattle.pp_numbers.specs.ChannelNo.{channel_count, channel_index, channel_number}
 use Rattle.pp_channel.specs.History.{HasTwelveBitWord, HasTwelveBitWords, waiting}
 use Rattle.pp_channel.specs.declared.{chan_op.ChanOp.ChanOp, channel_state.ChannelState.ChannelState, event.Event.Event, flags.Flags.Flags, reply.Reply.Reply}
 use Rattle.pp_channel.specs.declared.chan_op.ChanOp.TheVariants as operations
 use Rattle.pp_channel.specs.declared.event.Event.TheVariants as events
-use Rattle.pp_channel.specs.declared.reply.Reply.TheVariants as replies
 use Rattle.pp_channel.proofs.EachHistory.{bits_on}
 use Rattle.pp_channel.proofs.HistoryLemmas.{waiting_small}
 use Rattle.pp_machine.specs.Central.{IsCentral}
@@ -29,10 +28,9 @@ use Rattle.pp_numbers.specs.PpNo.{names_processor, processor_count, processor_in
 use Rattle.pp_processor.specs.Processor.{Processor, IsAtRest, new_processor, no_processor, waiting_on}
 use Rattle.pp_numbers.proofs.PpNoLemmas.{channel_of_processor}
 use Rattle.pp_numbers.specs.Profile.{has_processor}
-use Rattle.pp_processor.specs.Step.{Step, need_of, does, writes}
+use Rattle.pp_processor.specs.Step.{Step, need_of}
 use Rattle.pp_processor.specs.declared.{need.Need.Need, pp_state.PpState.PpState}
 use Rattle.pp_processor.specs.declared.need.Need.TheVariants.{Nothing, Channel, Write}
-use Rattle.pp_processor.specs.declared.pp_state.PpState.TheVariants.{Running}
 use Rattle.pp_numbers.specs.declared.profile.Profile.{Profile}
 use Rattle.pp_numbers.specs.declared.profile.Profile.TheVariants.{Ten}
 use Rattle.pp_machine.proofs.MachineStepLemmas.{stepped_at_rest}
@@ -77,13 +75,10 @@ IsSmallNeed (Write a w) = w < 2 ^ 60
 IsSmallNeed x = Unit {0}
 
 step_need : (profile : Profile) (step : Step) → StepKeeps profile step → IsSmallNeed (need_of step)
-step_need profile (does channel op left) k = k.0
-step_need profile (writes address word left) k = k.0
-step_need profile step k = tt
+step_need profile step k = grind arith
 
 if_running_small : (profile : Profile) (state : PpState) (pp : Processor) → IsOf profile pp → IsSmallNeed (if_running state (need_of (next_step pp)) Nothing)
-if_running_small profile Running pp h = step_need profile (next_step pp) (next_keeps profile pp h)
-if_running_small profile state pp h = tt
+if_running_small profile state pp h = grind (arith, step_need, next_keeps)
 
 need_small : (profile : Profile) (pp : Processor) → IsOf profile pp → IsSmallNeed (need pp)
 unfolding need
@@ -109,13 +104,10 @@ event_small : (op : ChanOp) (h : List Event) → IsSmallOperation op → HasTwel
 event_small op h small words = if_made (ready_at op (flags_of h)) (event_with op (waiting h)) (made_small op (waiting h) small (waiting_small h words))
 
 shown_small : (reply : Reply) (f : Flags) → flags_shown reply ≡ Some f → IsSmallReply reply
-shown_small (replies.Word w) f shows = absurd cc
-shown_small reply f shows = tt
+shown_small reply f shows = grind arith
 
 reply_small : (op : ChanOp) (state : ChannelState) (o : Option Event) → OnEvent o → IsSmallReply (reply_by op state o)
-reply_small op state None small = shown_small (reply_shown op state) state.flags (shows_flags op state)
-reply_small op state (Some (events.Take w)) small = small
-reply_small op state o small = tt
+reply_small op state o small = grind (arith, shown_small, shows_flags)
 
 grown : (h : List Event) (o : Option Event) → HasTwelveBitWords h → OnEvent o → HasTwelveBitWords (h ++ option_to_list o)
 grown h None words small = subst HasTwelveBitWords (sym (append-nil h)) words
@@ -130,12 +122,10 @@ module _ (m : MachineState) where
   histories_keep x small all = all
 
   central_keeps : (x : Need) → IsSmallNeed x → IsCentral m.central → IsCentral (central_after x m)
-  central_keeps (Write a w) small central = grind (arith, length-set, each_set)
-  central_keeps x small central = central
+  central_keeps x small central = grind (arith, length-set, each_set)
 
   answer_small : (x : Need) → IsSmallNeed x → All HasTwelveBitWords m.histories → IsSmallAnswer (answer_to x m)
-  answer_small (Channel c op) small all = grind (arith, reply_small, event_small, bits_on)
-  answer_small x small all = tt
+  answer_small x small all = grind (arith, reply_small, event_small, bits_on)
 
 -- ---- one step
 
@@ -190,12 +180,10 @@ module _ (profile : Profile) where
 
 module _ (profile : Profile) where
   its_profile : (memory : List ℕ) (o : Option (ℕ × ℕ)) → (processor_with profile memory o).profile ≡ profile
-  its_profile memory None = refl
-  its_profile memory (Some s) = refl
+  its_profile memory o = grind arith
 
   waits_with : (b : Bool) (n : ℕ) (pp : Processor) → IsOf profile pp → IsOf profile (cond b (waiting_on n pp) pp)
-  waits_with true n pp h = record { widths = record { memory = h.widths.memory; a = omega arith; p = omega arith }; its_profile = h.its_profile }
-  waits_with false n pp h = h
+  waits_with b n pp h = grind (arith, its_profile)
 
   started_processors : (b : Bool) (deck : LoadedDeck) → length deck.machine.processors ≡ processor_count → All (IsOf profile) deck.machine.processors → All (IsOf profile) (with_dead_start b deck).machine.processors
   unfolding processors_started tabulate
@@ -206,8 +194,7 @@ module _ (profile : Profile) where
   started_processors false deck long all = all
 
   opened_words : (b : Bool) (h : List Event) → HasTwelveBitWords h → HasTwelveBitWords (cond b (events.Activate ∷ []) h)
-  opened_words true h words = All-cons HasTwelveBitWord events.Activate [] tt (All-nil HasTwelveBitWord)
-  opened_words false h words = words
+  opened_words b h words = grind arith
 
   started_histories : (b : Bool) (deck : LoadedDeck) → All HasTwelveBitWords deck.machine.histories → All HasTwelveBitWords (with_dead_start b deck).machine.histories
   unfolding histories_started tabulate

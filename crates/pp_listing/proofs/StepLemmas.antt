@@ -24,7 +24,7 @@ use Rattle.pp_processor.specs.declared.{answer.Answer.Answer, block.Block.Block,
 use Rattle.pp_processor.specs.declared.answer.Answer.TheVariants as answers
 use Rattle.pp_processor.specs.declared.block.BlockKind.TheVariants.{CentralIn, CentralOut, Input, Output}
 use Rattle.pp_numbers.specs.declared.profile.Profile.{Profile}
-use Rattle.pp_processor.specs.declared.pp_state.PpState.TheVariants.{Running, Stopped, Fault}
+use Rattle.pp_processor.specs.declared.pp_state.PpState.TheVariants.{Stopped, Fault}
 use Rattle.std.proofs.Math.Nat.{pow-le-pow_right, pow-suc, pow-zero}
 use Rattle.std.proofs.lemmas.Slice.Zip.{length-zip}
 use Rattle.std.proofs.lemmas.Bool.{ltb-true}
@@ -62,8 +62,7 @@ pub complemented_small : (a : ℕ) → complement a < 2 ^ 18
 complemented_small a = number_fits (map not (bits_of a)) (omega (arith, length-map (bits_of a) not, length-lowest_bits 18 a))
 
 pub one_of : (b : Bool) (x y most : ℕ) → x < most → y < most → (if b then x else y) < most
-one_of true x y most h k = h
-one_of false x y most h k = k
+one_of b x y most h k = grind arith
 
 pub shifted_small : (a d : ℕ) → shift a d < 2 ^ 18
 shifted_small a d = grind (arith, one_of, number_fits, length-lowest_bits, length-append, length-drop, length-take, length-replicate)
@@ -152,8 +151,7 @@ module _ (profile : Profile) where
     loaded value n small = with_all pp.memory value (place_after pp.p n) pp.state pp.block h.widths.memory small (omega arith)
 
     either : (b : Bool) (one other : Processor) → IsOf profile one → IsOf profile other → IsOf profile (if b then one else other)
-    either true one other k l = k
-    either false one other k l = l
+    either b one other k l = grind arith
 
     jumped : (test : Bool) (d : ℕ) → IsOf profile (jumps_where test pp d 1)
     jumped test d = either test _ _ (either (leads_to_itself d) pp _ h (at_p (relative_to pp.p d) (relative_small pp.p d))) (on 1)
@@ -201,10 +199,7 @@ module _ (profile : Profile) where
     ended = with_all pp.memory pp.a (next_place (word_at pp 0)) pp.state None h.widths.memory h.widths.a (next_small (word_at pp 0))
 
     central_small : (place : ℕ) → central_from pp place < 2 ^ 60
-    central_small place = five (word_at pp place) _ _ _ _ (word_small place) (word_small ((place + 1) % place_count)) (word_small ((place + 2) % place_count)) (word_small ((place + 3) % place_count)) (word_small ((place + 4) % place_count))
-      where
-        five : (a b c d e : ℕ) → a < 2 ^ 12 → b < 2 ^ 12 → c < 2 ^ 12 → d < 2 ^ 12 → e < 2 ^ 12 → ((((0 * 2 ^ 12 + a) * 2 ^ 12 + b) * 2 ^ 12 + c) * 2 ^ 12 + d) * 2 ^ 12 + e < 2 ^ 60
-        five a b c d e h1 h2 h3 h4 h5 = omega (arith, h1, h2, h3, h4, h5)
+    central_small place = grind (arith, word_small)
 
   -- a block that ends, or is in progress
   ended_or_on : (test : Bool) (pp : Processor) (block : Block) → IsOf profile pp → IsOf profile (if test then ends pp else record pp { block = Some block })
@@ -316,8 +311,7 @@ module _ (profile : Profile) where
   answered_keeps step pp answer h k small = h
 
   if_running_keeps : (state : PpState) (pp : Processor) (answer : Answer) → IsOf profile pp → IsSmallAnswer answer → IsOf profile (if_running state (answered (next_step pp) pp answer) pp)
-  if_running_keeps Running pp answer h small = answered_keeps (next_step pp) pp answer h (next_keeps pp h) small
-  if_running_keeps state pp answer h small = h
+  if_running_keeps state pp answer h small = grind (arith, answered_keeps, next_keeps)
 
   pub kept_after : (pp : Processor) (answer : Answer) → IsOf profile pp → IsSmallAnswer answer → IsOf profile (processor_after pp answer)
   unfolding processor_after

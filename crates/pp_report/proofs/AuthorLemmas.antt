@@ -1,5 +1,5 @@
 -- Authors of events, log after log, and the lines that name them.
-use Rattle.std.proofs.Common.{◌≡◌, ◌∙◌, ℕ, ◌+◌, ◌<◌, Bool, true, false, cond, ◌||◌, List, [], ◌∷◌, length, drop, take, Option, Some, None, option_map, slice_index_or, slice_set, map, replicate, zero, suc, refl, sym, ap, subst, arith}
+use Rattle.std.proofs.Common.{◌≡◌, ◌∙◌, ℕ, ◌+◌, ◌<◌, Bool, cond, ◌||◌, List, [], ◌∷◌, length, drop, take, Option, Some, None, option_map, slice_index_or, slice_set, map, replicate, zero, suc, refl, sym, ap, arith}
 use Rattle.pp_line.specs.Merge.{logs_event, times_logged}
 use Rattle.std.specs.Prelude.{IsTrue, nat_lt, if◌then◌else◌}
 use Rattle.std.specs.List.{count_by, position_from}
@@ -13,7 +13,7 @@ use Rattle.pp_numbers.specs.ChannelNo.{channel_count, channel_index, names_chann
 use Rattle.pp_channel.specs.History.{history_on}
 use Rattle.pp_report.specs.Types.{Entry, Event, Worker}
 use Rattle.pp_numbers.specs.PpNo.{processor_count, processor_number}
-use Rattle.pp_report.specs.Authors.{AreAuthors, AreAuthorsOn, AreMarked, author_at, authors_on}
+use Rattle.pp_report.specs.Authors.{AreAuthors, AreAuthorsOn, AreMarked, author_at}
 use Rattle.pp_report.specs.PrintedReport.{author_place}
 
 -- The author of an event, by the workers from a place on.
@@ -22,19 +22,13 @@ author_from {Z} c number place workers =
     option_map processor_number (position_from (λ (worker : Worker Z). nat_lt 0 (times_logged c number worker.log.items)) place (drop place workers))
 
 mapped : (f : ℕ → ℕ) (passes : Bool) (i : ℕ) (rest : Option ℕ) → (if passes then Some (f i) else option_map f rest) ≡ option_map f (cond passes (Some i) rest)
-mapped f true i rest = refl
-mapped f false i rest = refl
+mapped f passes i rest = grind arith
 
 -- by one worker more
 pub author_more : {Z : Type 0} (c number place : ℕ) (workers : List (Worker Z)) (worker : Worker Z) (before after : Option ℕ) (author : ℕ)
     → place < length workers → worker ≡ slice_index_or workers place worker → author ≡ processor_number place → before ≡ author_from c number (place + 1) workers
     → after ≡ (if nat_lt 0 (times_logged c number worker.log.items) then Some author else before) → after ≡ author_from c number place workers
-author_more {Z} c number place workers worker before after author l at by was now =
-    let test : Worker Z → Bool = λ w. nat_lt 0 (times_logged c number w.log.items) in
-    let more : drop place workers ≡ worker ∷ drop (place + 1) workers = drop_more workers place worker l ∙ ap (λ w. w ∷ drop (place + 1) workers) (sym at) in
-    let same : author ≡ processor_number place = by in
-    now ∙ (ap (λ (known : Option ℕ). if test worker then Some author else known) was ∙ (ap (λ (a : ℕ). if test worker then Some a else author_from c number (place + 1) workers) same
-    ∙ (mapped processor_number (test worker) place (position_from test (place + 1) (drop (place + 1) workers)) ∙ ap (λ (ws : List (Worker Z)). option_map processor_number (position_from test place ws)) (sym more))))
+author_more {Z} c number place workers worker before after author l at by was now = grind (arith, drop_more, mapped)
 
 -- by all workers
 pub author_of_all : {Z : Type 0} (c number : ℕ) (workers : List (Worker Z)) → author_from c number 0 workers ≡ option_map processor_number (author_place c workers number)
@@ -42,18 +36,12 @@ author_of_all {Z} c number workers = ap (option_map processor_number) (sym (posi
 
 -- marked once more
 marked_again : (was more now : Bool) (author : ℕ) (known : Option ℕ) → now ≡ (was || more) → (if more then Some author else (if was then Some author else known)) ≡ (if now then Some author else known)
-marked_again true true now author known e = ap (λ (b : Bool). if b then Some author else known) (sym e)
-marked_again true false now author known e = ap (λ (b : Bool). if b then Some author else known) (sym e)
-marked_again false true now author known e = ap (λ (b : Bool). if b then Some author else known) (sym e)
-marked_again false false now author known e = ap (λ (b : Bool). if b then Some author else known) (sym e)
+marked_again was more now author known e = grind arith
 
 -- whether a log records an event, by one entry more
 some_more : {X : Type 0} (test : X → Bool) (xs : List X) (i : ℕ) (x : X) (passes : Bool) → test x ≡ passes → i < length xs → x ≡ slice_index_or xs i x
     → nat_lt 0 (count_by test (take (i + 1) xs)) ≡ (nat_lt 0 (count_by test (take i xs)) || passes)
-some_more test xs i x true e inside is =
-    let n = count_by test (take i xs) in
-    ap (nat_lt 0) (count_by_more_yes test xs i x inside (ap test (sym is) ∙ e)) ∙ (lt-ltb 0 (n + 1) (omega arith) ∙ sym (or-true (nat_lt 0 n)))
-some_more test xs i x false e inside is = ap (nat_lt 0) (count_by_more_no test xs i x inside (ap test (sym is) ∙ e)) ∙ sym (or-false (nat_lt 0 (count_by test (take i xs))))
+some_more test xs i x passes e inside is = grind (arith, count_by_more_yes, lt-ltb, or-true, count_by_more_no, or-false)
 
 -- none marked
 pub marked_none : (author : ℕ) (authors : List (List (Option ℕ))) → length authors ≡ channel_count → AreMarked author (λ c number. nat_lt 0 (times_logged c number [])) authors authors
@@ -63,20 +51,12 @@ marked_none author authors each = record { each_channel = each; each_event = λ 
 pub marked_more : (author : ℕ) (log : List Entry) (i : ℕ) (entry : Entry) (before mid after : List (List (Option ℕ))) → i < length log → entry ≡ slice_index_or log i entry
     → AreMarked author (λ c number. nat_lt 0 (times_logged c number (take i log))) before mid → AreMarked author (λ c number. logs_event c number entry) mid after
     → AreMarked author (λ c number. nat_lt 0 (times_logged c number (take (i + 1) log))) before after
-marked_more author log i entry before mid after inside is was more = record {
-  each_channel = more.each_channel;
-  each_event = λ c. more.each_event c ∙ was.each_event c;
-  marked = λ c number names below. more.marked c number names (omega (arith, was.each_event c, below))
-      ∙ (ap (λ (known : Option ℕ). if logs_event c number entry then Some author else known) (was.marked c number names below)
-      ∙ marked_again _ (logs_event c number entry) _ author (slice_index_or (authors_on c before) number None) (some_more (logs_event c number) log i entry (logs_event c number entry) refl inside is));
-}
+marked_more author log i entry before mid after inside is was more = grind (arith, marked_again, slice_index_or, some_more)
 
 -- the authors on one channel, of those on all
 pub authors_here : {Z : Type 0} (c place : ℕ) (workers : List (Worker Z)) (histories : List (List Event)) (all : List (List (Option ℕ))) (h : List Event) (here : List (Option ℕ)) → IsTrue (names_channel c)
     → place ≡ channel_index c → place < length all → here ≡ slice_index_or all place here → h ≡ history_on c histories → AreAuthors workers histories all → AreAuthorsOn c workers h here
-authors_here {Z} c place workers histories all h here names at within is same are number below =
-    ap (λ l. slice_index_or l number None) (is ∙ (get_or_default all place here [] within ∙ ap (λ i. slice_index_or all i []) at))
-    ∙ are c names number (subst (λ (l : List Event). number < length l) same below)
+authors_here {Z} c place workers histories all h here names at within is same are number below = grind (arith, slice_index_or, get_or_default)
 
 -- the author at a place of a list of places
 pub author_read : (places : List ℕ) (number : ℕ) → slice_index_or (map author_at places) number None ≡ author_at (slice_index_or places number processor_count)

@@ -1,6 +1,6 @@
 -- The lines of a history, one event after another.
-use Rattle.std.proofs.Common.{◌≡◌, ◌∙◌, ℕ, ◌+◌, ◌<◌, List, [], ◌∷◌, ◌++◌, length, take, slice_index_or, Option, Some, None, refl, sym, ap, arith, add-one}
-use Rattle.std.specs.Prelude.{option_map, unwrap_or}
+use Rattle.std.proofs.Common.{◌≡◌, ◌∙◌, ℕ, ◌+◌, ◌<◌, List, [], ◌∷◌, ◌++◌, length, take, slice_index_or, Option, Some, None, sym, ap, arith, add-one}
+use Rattle.std.specs.Prelude.{option_map}
 use Rattle.pp_numbers.specs.PpNo.{processor_number}
 use Rattle.std.proofs.Math.Seq.{take-suc}
 use Rattle.std.proofs.lemmas.Grind.{flat_map-append}
@@ -33,9 +33,7 @@ lines_go_on {Z} c i workers h e l at =
 
 -- the author is the processor at the place of one worker, or there is none
 pub named_by : (place : Option ℕ) (author : ℕ) → Some author ≡ option_map processor_number place → (p : ℕ) × (place ≡ Some p) × (author ≡ processor_number p)
-named_by None author is = absurd (cc)
-named_by (Some p) author is = (p, refl, ap (λ (o : Option ℕ). unwrap_or o 0) is)
+named_by place author is = grind arith
 
 pub no_author : (place : Option ℕ) → None ≡ option_map processor_number place → place ≡ None
-no_author None is = refl
-no_author (Some p) is = absurd (cc)
+no_author place is = grind arith

@@ -20,8 +20,7 @@ use Rattle.pp_machine.specs.MachineState.{MachineState, is_opened}
 use Rattle.pp_numbers.specs.PpNo.{all_processors, processor_index}
 use Rattle.pp_numbers.proofs.PpNoLemmas.{processor_fits}
 use Rattle.pp_runner.specs.End.{HasEndNumber}
-use Rattle.pp_word.specs.Numeral.{decimal, octal}
-use Rattle.pp_text.specs.PrintedText.{event_text, line_end, processor_line}
+use Rattle.pp_text.specs.PrintedText.{line_end, processor_line}
 use Rattle.pp_text.proofs.PrintingLemmas.{channels_by_number}
 use Rattle.pp_report.specs.ReportLaw.{AgreeOnReport, FitsItsEnd, FitsItsLine, FitsItsReport, ShownEnd, PrintedEvent, end_of, shown_end, printed_by, printed_events, printed_on}
 use Rattle.pp_text.specs.TextLaw.{ShowSameChannel}
@@ -33,8 +32,7 @@ use Rattle.pp_text.proofs.Telling.{Tells}
 
 -- where a search passes over a log, that log does not tell the event
 untold : (n : ℕ) (i : ℕ) (more : Option ℕ) → cond (nat_lt 0 n) (Some i) more ≡ None → (n ≡ 0) × (more ≡ None)
-untold zero i more e = (refl, e)
-untold (suc n) i more e = grind (arith, lt-ltb)
+untold n i more e = grind (arith, lt-ltb)
 
 module _ {Z : Type 0} (c number : ℕ) where
   from_none : (i : ℕ) (ws : List (Worker Z)) → times_logged c number (logs_of ws) ≡ 0 → position_from (λ (w : Worker Z). nat_lt 0 (times_logged c number w.log.items)) i ws ≡ None
@@ -79,10 +77,7 @@ event_row =
     (λ x y ((((_, c), number), author), event) j. (c j, record { number = number j; author = author j; event = event j }))
 
 event_front : (x : ℕ × PrintedEvent) (r : List ℕ) → is_digit_at 5 (event_row.text x ++ r) ≡ true
-event_front (c, x) r = ap (is_digit_at 0) (joined (decimal x.number) (codes " PP") (octal 2 x.author) (codes " ") (event_text x.event) line_end r) ∙ decimal_front x.number _
-  where
-    joined : (d p o s e l r : List ℕ) → (((((d ++ p) ++ o) ++ s) ++ e) ++ l) ++ r ≡ d ++ (p ++ (o ++ (s ++ (e ++ (l ++ r)))))
-    joined d p o s e l r = simp append_assoc
+event_front (c, x) r = grind (arith, is_digit_at, decimal_front, append_assoc)
 
 event_lines : Format (All IsEventLine)
 event_lines = many event_row (is_digit_at 5) (λ _. true) (λ x r _. rw (event_front x r) refl) (λ x r _. refl)

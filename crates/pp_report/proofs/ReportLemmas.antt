@@ -15,7 +15,7 @@ use Rattle.pp_channel.specs.History.{IsLawful, history_on}
 use Rattle.pp_line.specs.LineLog.{is_event}
 use Rattle.pp_channel.specs.Law.{IsPrefix}
 use Rattle.pp_line.specs.Order.{entries_among, times, writes_among}
-use Rattle.pp_report.specs.Types.{Access, Answer, ChanOp, Did, Entry, Event, Moved, OnChannel, Profile, Read, Reply, Report, Saw, Seen, Worker, Write}
+use Rattle.pp_report.specs.Types.{Access, Answer, ChanOp, Entry, Event, Moved, OnChannel, Profile, Read, Reply, Report, Seen, Worker, Write}
 use Rattle.pp_line.proofs.OrderLemmas.{entries_more}
 use Rattle.pp_line.specs.Merge.{logs_event, times_logged}
 use Rattle.pp_channel.proofs.EachHistory.{lawful_on}
@@ -81,8 +81,7 @@ weight : Entry → ℕ
 weight entry = cond (is_event entry.what) 1 0
 
 weighed : (c : ℕ) (what : Seen) (more : List (OfChannel Event)) → length (cons_option (event_in c what) more) ≡ cond (is_event what) 1 0 + length more
-weighed c (Did e) more = omega arith
-weighed c (Saw f) more = omega arith
+weighed c what more = grind arith
 
 count_events : (log : List Entry) → length (events_in log) ≡ sum_by weight log
 unfolding weight
@@ -94,8 +93,7 @@ one_if b = cond b 1 0
 
 light : (c number d n : ℕ) (what : Seen) → one_if (is_event what) ≡ 0 → one_if (is_event what && (d == c) && (n == number)) ≡ 0
 unfolding one_if
-light c number d n (Did e) none = absurd (omega (arith, none))
-light c number d n (Saw f) none = refl
+light c number d n what none = grind arith
 
 told_weight : (c number : ℕ) (entry : Entry) → weight entry ≡ 0 → told_by c number entry ≡ 0
 unfolding weight one_if

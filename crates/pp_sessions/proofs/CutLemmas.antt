@@ -1,5 +1,5 @@
 -- Where a list is cut.
-use Rattle.std.proofs.Common.{◌≡◌, Bool, true, false, cond, List, [], ◌∷◌, ◌++◌, map, refl, ap, ◌∙◌, arith}
+use Rattle.std.proofs.Common.{◌≡◌, Bool, true, false, cond, List, [], ◌∷◌, ◌++◌, map, refl, ap, arith}
 use Rattle.std.specs.Prelude.{fold}
 use Rattle.std.specs.List.{flat_map, onto_first}
 use Rattle.pp_sessions.specs.OpenStretch.{IsUncut}
@@ -27,12 +27,10 @@ uncut-push test x (next ∷ xs) y whole apart = (whole.0, uncut-push test next x
 
 -- all parts together
 onto_first-together : {X : Type 0} (x : X) (parts : List (List X)) → flat_map (λ part. part) (onto_first x parts) ≡ x ∷ flat_map (λ part. part) parts
-onto_first-together x [] = refl
-onto_first-together x (part ∷ parts) = refl
+onto_first-together x parts = grind arith
 
 by_test : {X : Type 0} (b : Bool) (x : X) (parts : List (List X)) (xs : List X) → flat_map (λ part. part) parts ≡ xs → flat_map (λ part. part) (cond b ((x ∷ []) ∷ parts) (onto_first x parts)) ≡ x ∷ xs
-by_test true x parts xs is = ap (λ (ys : List _). x ∷ ys) is
-by_test false x parts xs is = onto_first-together x parts ∙ ap (λ (ys : List _). x ∷ ys) is
+by_test b x parts xs is = grind (arith, onto_first-together)
 
 pub cut_together : {X : Type 0} (test : X → X → Bool) (xs : List X) → flat_map (λ part. part) (cut_between test xs) ≡ xs
 cut_together test [] = refl
@@ -41,12 +39,10 @@ cut_together test (x ∷ next ∷ xs) = by_test (test x next) x (cut_between tes
 
 -- a list whose elements are mapped is cut alike
 onto_first-map : {X Y : Type 0} (f : X → Y) (x : X) (parts : List (List X)) → map (map f) (onto_first x parts) ≡ onto_first (f x) (map (map f) parts)
-onto_first-map f x [] = refl
-onto_first-map f x (part ∷ parts) = refl
+onto_first-map f x parts = grind arith
 
 mapped : {X Y : Type 0} (f : X → Y) (b : Bool) (x : X) (parts : List (List X)) (others : List (List Y)) → map (map f) parts ≡ others → map (map f) (cond b ((x ∷ []) ∷ parts) (onto_first x parts)) ≡ cond b ((f x ∷ []) ∷ others) (onto_first (f x) others)
-mapped f true x parts others is = ap (λ (ps : List (List _)). (f x ∷ []) ∷ ps) is
-mapped f false x parts others is = onto_first-map f x parts ∙ ap (onto_first (f x)) is
+mapped f b x parts others is = grind (arith, onto_first-map)
 
 pub cut-map : {X Y : Type 0} (f : X → Y) (test : Y → Y → Bool) (xs : List X) → map (map f) (cut_between (λ x y. test (f x) (f y)) xs) ≡ cut_between test (map f xs)
 cut-map f test [] = refl

@@ -1,5 +1,5 @@
 -- The timed events of a channel are its history.
-use Rattle.std.proofs.Common.{◌≡◌, ℕ, Bool, true, false, cond, eqb, List, [], ◌∷◌, ◌++◌, Some, None, refl, sym, ap, ◌∙◌, arith}
+use Rattle.std.proofs.Common.{◌≡◌, ℕ, Bool, cond, eqb, List, [], ◌∷◌, ◌++◌, Some, None, refl, sym, ap, ◌∙◌, arith}
 use Rattle.std.specs.Prelude.{IsTrue}
 use Rattle.std.specs.List.{cons_option}
 use Rattle.std.proofs.lemmas.List.{map-append}
@@ -16,12 +16,10 @@ use Rattle.pp_sessions.specs.declared.tally.TimedEvent.{TimedEvent}
 use Rattle.pp_sessions.proofs.TakeInLemmas.{dead_start_event}
 
 opening : (b : Bool) → events_in (cond b (dead_start_event ∷ []) []) ≡ cond b (Activate ∷ []) []
-opening true = refl
-opening false = refl
+opening b = grind arith
 
 entry : (b : Bool) (e : Trace) (timed : List TimedEvent) → events_in (cons_option (cond b (Some (timed_event e)) None) timed) ≡ cons_option (cond b (Some e.event) None) (events_in timed)
-entry true e timed = refl
-entry false e timed = refl
+entry b e timed = grind arith
 
 traced : (c : ℕ) (trace : List Trace) → events_in (timed_on c trace) ≡ events_on c trace
 traced c [] = refl

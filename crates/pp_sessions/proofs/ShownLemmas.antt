@@ -15,7 +15,7 @@ use Rattle.pp_run.specs.declared.step_counts.StepCounts.{StepCounts}
 use Rattle.pp_sessions.specs.SessionsText.{channel_lines, counts_line, idle_line, lines_from, moment_text, next_number, session_line, sessions_text, shown_counts_line, tally_line, word_text, words_from}
 use Rattle.pp_sessions.specs.ShownStretch.{FitsItsCounts, FitsItsStretch, FitsMoment, ShownCounts, ShownStretch, counts_of, counts_shown, shown_from, stretches_shown, tally_shown}
 use Rattle.pp_sessions.specs.ShownStretch.ShownStretch.{Idle, InSession}
-use Rattle.pp_sessions.specs.Stretches.{stretches, tally_of, words_in}
+use Rattle.pp_sessions.specs.Stretches.{stretches, tally_of}
 use Rattle.pp_sessions.specs.TimedEvents.{timed_events}
 use Rattle.pp_sessions.specs.declared.{tally.Moment.Moment, tally.TimedEvent.TimedEvent, tally.Tally.Tally}
 use Rattle.pp_sessions.specs.declared.tally.Moment.TheVariants.{DeadStart, Turn}
@@ -134,8 +134,7 @@ tally_is c number t words = by_kind t.is_session t.has_ended
 lines_are : (with_words : Bool) (c number : ℕ) (all : List (List TimedEvent)) → lines_from with_words c number all ≡ flat_map shown_text (shown_from with_words c number all)
 lines_are with_words c number [] = refl
 lines_are with_words c number ([] ∷ more) = lines_are with_words c (next_number number []) more
-lines_are true c number ((first ∷ others) ∷ more) =
-    (λ j. tally_is c number (tally_of first others) (words_in (first ∷ others)) j ++ lines_are true c (next_number number (first ∷ others)) more j)
+lines_are true c number ((first ∷ others) ∷ more) = grind (arith, tally_is, lines_are true c (next_number number (first ∷ others)) more)
 lines_are false c number ((first ∷ others) ∷ more) =
     (λ j. tally_is c number (tally_of first others) [] j ++ lines_are false c (next_number number (first ∷ others)) more j)
 

@@ -45,13 +45,10 @@ plain_codes [] = tt
 plain_codes (code ∷ codes) = ((refl, refl), plain_codes codes)
 
 cut_before_session : (last : Event) (rest : List Event) → BeginsSession rest → IsCutBefore is_over last rest
-cut_before_session last [] begins = tt
-cut_before_session last (Activate ∷ rest) begins = or_right (ends_session last) true refl
-cut_before_session last other begins = absurd begins
+cut_before_session last rest begins = grind (arith, or_right)
 
 cut_idle : (codes : List ℕ) (rest : List Event) → BeginsSession rest → cut_between is_over (idle_stretch codes ++ rest) ≡ idle_part codes ++ cut_between is_over rest
-cut_idle [] rest begins = refl
-cut_idle (code ∷ codes) rest begins = grind (arith, cut-append, uncut_plain, plain_codes, cut_before_session, last_in)
+cut_idle codes rest begins = grind (arith, cut-append, uncut_plain, plain_codes, cut_before_session, last_in)
 
 -- ---- a session
 
@@ -74,8 +71,7 @@ uncut_session : (s : Session) → IsUncut is_over Activate (words s ++ Disconnec
 uncut_session s = uncut-push is_over Activate (words s) Disconnect (uncut_words s) (or_from (ends_session (last_in Activate (words s))) false (no_end s) refl)
 
 cut_after_end : (last : Event) (rest : List Event) → last ≡ Disconnect → IsCutBefore is_over last rest
-cut_after_end last [] is = tt
-cut_after_end last (next ∷ rest) is = ap (λ (e : Event). is_over e next) is
+cut_after_end last rest is = grind arith
 
 cut_whole : (s : Session) (rest : List Event) → cut_between is_over ((body s ++ Disconnect ∷ []) ++ rest) ≡ session_events s true ∷ cut_between is_over rest
 cut_whole s rest = cut-append is_over Activate (words s ++ Disconnect ∷ []) rest (uncut_session s) (cut_after_end (last_in Activate (words s ++ Disconnect ∷ [])) rest (fold_push (λ before event. event) Activate (words s) Disconnect))
@@ -86,8 +82,7 @@ abbrev open_parts : Option Session → List (List Event)
 open_parts o = map (λ session. session_events session false) (option_to_list o)
 
 cut_open : (o : Option Session) → cut_between is_over (sessions_on [] o) ≡ open_parts o
-cut_open None = refl
-cut_open (Some s) = grind (arith, cut-append, words, uncut_words, append-nil)
+cut_open o = grind (arith, cut-append, uncut_words, append-nil)
 
 cut_sessions : (whole : List (Session × List ℕ)) (o : Option Session) → cut_between is_over (sessions_on whole o) ≡ flat_map whole_parts whole ++ open_parts o
 cut_sessions [] o = cut_open o
@@ -134,15 +129,10 @@ after_last-append events [] none = ap (after_last is_take) (append-nil events) �
 after_last-append events (e ∷ others) none = grind (arith, append_assoc, after_last-push, after_last-append (events ++ e ∷ []) others none.1)
 
 no_take_behind : (lone : Option ℕ) (ended : Bool) → HaveNoTake (lone_word lone ++ cond ended (Disconnect ∷ []) [])
-no_take_behind None true = (refl, tt)
-no_take_behind None false = tt
-no_take_behind (Some w) true = (refl, (refl, tt))
-no_take_behind (Some w) false = (refl, tt)
+no_take_behind lone ended = grind arith
 
 lone_is : (lone : Option ℕ) (ended : Bool) → last_or None (puts (lone_word lone ++ cond ended (Disconnect ∷ []) [])) ≡ lone
-lone_is None true = refl
-lone_is (Some w) true = refl
-lone_is word ended = refl
+lone_is lone ended = grind arith
 
 untaken_is : (s : Session) (ended : Bool) → untaken (session_events s ended) ≡ s.lone
 untaken_is s ended =
@@ -160,8 +150,7 @@ last_alone first [] = refl
 last_alone first (next ∷ others) = last_alone next others
 
 end_is : (s : Session) (ended : Bool) → ends_session (last_in Activate (words s ++ cond ended (Disconnect ∷ []) [])) ≡ ended
-end_is s true = ap ends_session (fold_push (λ before event. event) Activate (words s) Disconnect)
-end_is s false = ap (λ (es : List Event). ends_session (last_in Activate es)) (append-nil (words s)) ∙ no_end s
+end_is s ended = grind (arith, fold_push, last_in, append-nil, no_end)
 
 pub session_told : (s : Session) (ended : Bool) (first : TimedEvent) (others : List TimedEvent) → events_in (first ∷ others) ≡ session_events s ended → TellsSession s ended (tally_of first others)
 unfolding tally_of

@@ -19,9 +19,7 @@ use Rattle.pp_sessions.proofs.CutLemmas.{cut-append, last_in, uncut-push}
 -- ---- the stretch that is open
 
 none_open : (o : Option Tally) (words : List ℕ) (stretch : List TimedEvent) → o ≡ None → IsOpen o words stretch → stretch ≡ []
-none_open None words [] e is = refl
-none_open None words (first ∷ others) e is = absurd is
-none_open (Some told) words stretch e is = absurd (cc)
+none_open o words stretch e is = grind arith
 
 record IsStretch (told : Tally) (words : List ℕ) (stretch : List TimedEvent) : Type 0 where
   first : TimedEvent
@@ -32,9 +30,7 @@ record IsStretch (told : Tally) (words : List ℕ) (stretch : List TimedEvent) :
   uncut : IsUncut are_parted first others
 
 some_open : (o : Option Tally) (told : Tally) (words : List ℕ) (stretch : List TimedEvent) → o ≡ Some told → IsOpen o words stretch → IsStretch told words stretch
-some_open None told words stretch e is = absurd (cc)
-some_open (Some other) told words [] e is = absurd is
-some_open (Some other) told words (first ∷ others) e (is, has, uncut) = grind arith
+some_open o told words stretch e is = grind arith
 
 pub open_again : (o : Option Tally) (words : List ℕ) (told : Tally) (first : TimedEvent) (others : List TimedEvent) → o ≡ Some told → told ≡ tally_of first others → words ≡ words_in (first ∷ others) → IsUncut are_parted first others → IsOpen o words (first ∷ others)
 open_again o words told first others is told_is has uncut = subst (λ (x : Option Tally). IsOpen x words (first ∷ others)) (sym is) (told_is, has, uncut)
@@ -190,5 +186,4 @@ takes_other w c past entry o low none =
 
 -- the number of the next session
 pub number_after : (b : Bool) (number one : ℕ) → one ≡ from_bool b → number + one ≡ cond b (number + 1) number
-number_after true number one is = ap (λ (k : ℕ). number + k) is
-number_after false number one is = omega (arith, is)
+number_after b number one is = grind arith

@@ -6,7 +6,6 @@ use Rattle.std.proofs.lemmas.List.Elements.{filter_map-append}
 use Rattle.std.proofs.lemmas.List.Sums.{fold_push}
 use Rattle.pp_channel.specs.Session.{puts, takes, word_put, word_taken}
 use Rattle.pp_channel.specs.declared.event.Event.{Event}
-use Rattle.pp_channel.specs.declared.event.Event.TheVariants.{Put, Take}
 use Rattle.pp_numbers.proofs.LastElements.{after_last-found, after_last-push, last_or-push}
 use Rattle.pp_sessions.specs.OpenStretch.{untaken_after, with_event}
 use Rattle.pp_sessions.specs.SessionsLaw.{TellsMoments}
@@ -23,9 +22,7 @@ stays : (events : List Event) (e : Event) → is_take e ≡ false → puts (e �
 stays events e other none = grind (arith, after_no_take, append-nil)
 
 pub untaken_more : (events : List Event) (e : Event) → untaken (events ++ e ∷ []) ≡ untaken_after e (untaken events)
-untaken_more events (Put w) = after_no_take events (Put w) refl ∙ last_or-push None (puts (after_last is_take events)) w
-untaken_more events (Take w) = ap (λ (es : List Event). last_or None (puts es)) (after_last-found is_take events (Take w) refl)
-untaken_more events other = stays events other refl refl
+untaken_more events e = grind (arith, after_no_take, last_or-push, after_last-found, stays)
 
 -- a stretch with an event more
 tally_more : (first : TimedEvent) (others : List TimedEvent) (e : TimedEvent) → tally_of first (others ++ e ∷ []) ≡ with_event (tally_of first others) e

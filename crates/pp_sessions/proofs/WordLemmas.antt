@@ -1,5 +1,5 @@
 -- The words of a stretch, entry by entry.
-use Rattle.std.proofs.Common.{◌≡◌, ℕ, ◌+◌, ◌%◌, ◌<◌, ◌≤◌, List, [], ◌∷◌, ◌++◌, length, take, get_or, Some, sym, ap, ◌∙◌, append_assoc, ◌⊎◌, inl, inr, arith}
+use Rattle.std.proofs.Common.{◌≡◌, ℕ, ◌+◌, ◌%◌, ◌<◌, ◌≤◌, List, [], ◌∷◌, ◌++◌, length, take, get_or, Some, sym, ap, ◌∙◌, append_assoc, ◌⊎◌, arith}
 use Rattle.std.proofs.lemmas.List.{append-nil, take_all}
 use Rattle.pp_channel.specs.declared.event.Event.{Event}
 use Rattle.pp_channel.specs.declared.event.Event.TheVariants.{Function, Put}
@@ -10,8 +10,7 @@ use Rattle.pp_sessions.specs.TimedEvents.{timed_on}
 use Rattle.pp_sessions.proofs.TakeInLemmas.{entry_on, timed_more, words_more}
 
 pub word_either : (e : Event) (word : ℕ) → (e ≡ Put word) ⊎ (e ≡ Function word) → word_of e ≡ Some word
-word_either e word (inl is) = ap word_of is
-word_either e word (inr is) = ap word_of is
+word_either e word h2 = grind arith
 
 pub one_entry : (c : ℕ) (entry : Trace) (count word : ℕ) (rest : List ℕ) → entry.channel ≡ c → word_of entry.event ≡ Some word
     → words_from count (words_in (timed_on c (entry ∷ [])) ++ rest) ≡ one_word count word ++ words_from ((count + 1) % 8) rest

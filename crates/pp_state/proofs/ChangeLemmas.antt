@@ -30,13 +30,11 @@ none_at_first before after = refl
 
 pub no_more : (before after : List ℕ) (most place : ℕ) → most ≡ 0 → neighbours before after most place ≡ []
 unfolding neighbours
-no_more before after zero place e = refl
-no_more before after (suc most) place e = absurd (omega arith)
+no_more before after most place e = grind arith
 
 pub no_neighbour : (before after : List ℕ) (most place : ℕ) → differs before after place ≡ false → neighbours before after most place ≡ []
 unfolding neighbours
-no_neighbour before after zero place e = refl
-no_neighbour before after (suc most) place e = cond-false (differs before after place) _ _ e
+no_neighbour before after most place e = grind (arith, cond-false)
 
 pub one_neighbour : (before after : List ℕ) (most place : ℕ) → differs before after place ≡ true → neighbours before after (suc most) place ≡ get_or after place 0 ∷ neighbours before after most (place + 1)
 unfolding neighbours
@@ -93,24 +91,7 @@ at_end place count e = omega (arith, e)
 -- neighbours are the next changes
 neighbours_are : (before after : List ℕ) (most place : ℕ) → changes before after place ++ placed place (neighbours before after most place) ≡ changes before after (place + length (neighbours before after most place))
 neighbours_are before after zero place = grind (arith, changes, no_more, append-nil, at_end)
-neighbours_are before after (suc most) place = by (neighbours_are before after most (place + 1)) (cases_Bool (differs before after place))
-  where
-    further : (place count : ℕ) → place + 1 + count ≡ place + suc count
-    further place count = omega arith
-
-    by : (changes before after (place + 1) ++ placed (place + 1) (neighbours before after most (place + 1)) ≡ changes before after (place + 1 + length (neighbours before after most (place + 1)))) → (differs before after place ≡ true) ⊎ (differs before after place ≡ false) → changes before after place ++ placed place (neighbours before after (suc most) place) ≡ changes before after (place + length (neighbours before after (suc most) place))
-    by rest (inr same) =
-        let none : neighbours before after (suc most) place ≡ [] = no_neighbour before after (suc most) place same in
-        ap (λ (ws : List ℕ). changes before after place ++ placed place ws) none ∙ append-nil (changes before after place)
-        ∙ ap (changes before after) (at_end place (length (neighbours before after (suc most) place)) (ap length none))
-    by rest (inl other) =
-        let some : neighbours before after (suc most) place ≡ get_or after place 0 ∷ neighbours before after most (place + 1) = one_neighbour before after most place other in
-        ap (λ (ws : List ℕ). changes before after place ++ placed place ws) some
-        ∙ sym (append_assoc (changes before after place) ((place, get_or after place 0) ∷ []) (placed (place + 1) (neighbours before after most (place + 1))))
-        ∙ ap (λ (xs : List (ℕ × ℕ)). xs ++ placed (place + 1) (neighbours before after most (place + 1))) (sym (changes_more before after place other))
-        ∙ rest
-        ∙ ap (changes before after) (further place (length (neighbours before after most (place + 1))))
-        ∙ ap (λ (ws : List ℕ). changes before after (place + length ws)) (sym some)
+neighbours_are before after (suc most) place = grind (arith, cases_Bool, no_neighbour, append-nil, at_end, one_neighbour, append_assoc, changes_more, neighbours_are before after most (place + 1))
 
 -- ---- the words on the lines that begin before a place
 
@@ -154,48 +135,45 @@ behind_next : (before after : List ℕ) (place : ℕ) → differs before after p
 behind_next before after place e = grind (arith, cases_lt, in_front_of_next, words_after, behind_more, add-one, few_in_front, behind_first, no_more)
 
 -- over one place more
-words_step : (before after : List ℕ) (place : ℕ) → words_before before after place ≡ changes before after (place + words_after before after place) → words_before before after (place + 1) ≡ changes before after (suc place + words_after before after (suc place))
-words_step before after place so_far = by (cases_Bool (differs before after place))
-  where
-    on : (behind : ℕ) → behind ≡ 0 → place + 1 ≡ suc place + behind
-    on behind e = omega (arith, e)
+abbrev AreSoFar : List ℕ → List ℕ → ℕ → Type 0
+AreSoFar before after place = words_before before after place ≡ changes before after (place + words_after before after place)
 
-    along : (old new : ℕ) → old ≡ suc new → place + old ≡ suc place + new
-    along old new e = omega (arith, e)
+abbrev AreAfter : List ℕ → List ℕ → ℕ → Type 0
+AreAfter before after place = words_before before after (place + 1) ≡ changes before after (suc place + words_after before after (suc place))
 
-    left : 8 - position_on_line before after place ≡ suc (7 - position_on_line before after place)
-    left = let low : position_on_line before after place < 8 = few_in_front before after place in omega (arith, low)
+step_same : (before after : List ℕ) (place : ℕ) → differs before after place ≡ false → AreSoFar before after place → AreAfter before after place
+step_same before after place same so_far =
+    let here : place + words_after before after place ≡ place = omega (arith, behind_same before after place same) in
+    let next : suc place + words_after before after (suc place) ≡ place + 1 = omega (arith, behind_first before after (suc place) (in_front_of_same before after place same)) in
+    rw (next, changes_same before after place same, no_line before after place (rw same refl), so_far, here) refl
 
-    by : (differs before after place ≡ true) ⊎ (differs before after place ≡ false) → words_before before after (place + 1) ≡ changes before after (suc place + words_after before after (suc place))
-    by (inr same) =
-        no_line before after place (ap (λ (b : Bool). b && eqb (position_on_line before after place) 0) same)
-        ∙ so_far ∙ ap (changes before after) (sym (at_end place (words_after before after place) (behind_same before after place same)))
-        ∙ sym (changes_same before after place same)
-        ∙ ap (changes before after) (on (words_after before after (suc place)) (behind_first before after (suc place) (in_front_of_same before after place same)))
-    by (inl other) = by_front (cases_eq (position_on_line before after place) 0)
-      where
-        counted : length (neighbours before after (8 - position_on_line before after place) place) ≡ suc (words_after before after (suc place))
-        counted =
-            ap (λ (most : ℕ). length (neighbours before after most place)) left
-            ∙ ap length (one_neighbour before after (7 - position_on_line before after place) place other)
-            ∙ ap (λ (k : ℕ). suc k) (sym (behind_next before after place other))
+-- from a word that differs on there are as many as stand behind it and one
+counted : (before after : List ℕ) (place : ℕ) → differs before after place ≡ true → length (neighbours before after (8 - position_on_line before after place) place) ≡ suc (words_after before after (suc place))
+counted before after place other =
+    let left : 8 - position_on_line before after place ≡ suc (7 - position_on_line before after place) = omega (arith, few_in_front before after place) in
+    rw (left, one_neighbour before after (7 - position_on_line before after place) place other, behind_next before after place other) refl
 
-        by_front : (position_on_line before after place ≡ 0) ⊎ (position_on_line before after place ≢ 0) → words_before before after (place + 1) ≡ changes before after (suc place + words_after before after (suc place))
-        by_front (inl first) =
-            let begins : begins_line before after place ≡ true = ap (λ (b : Bool). b && eqb (position_on_line before after place) 0) other ∙ eq-eqb (position_on_line before after place) 0 first in
-            one_line before after place begins
-            ∙ ap (λ (xs : List (ℕ × ℕ)). xs ++ placed place (neighbours before after 8 place)) (so_far ∙ ap (changes before after) (sym (at_end place (words_after before after place) (behind_first before after place first))))
-            ∙ neighbours_are before after 8 place
-            ∙ ap (changes before after) (along (length (neighbours before after 8 place)) (words_after before after (suc place)) (ap (λ (k : ℕ). length (neighbours before after (8 - k) place)) (sym first) ∙ counted))
-        by_front (inr later) =
-            no_line before after place (ap (λ (b : Bool). b && eqb (position_on_line before after place) 0) other ∙ ne_eqb (position_on_line before after place) 0 later)
-            ∙ so_far ∙ ap (λ (k : ℕ). changes before after (place + k)) (behind_more before after place later)
-            ∙ ap (changes before after) (along (length (neighbours before after (8 - position_on_line before after place) place)) (words_after before after (suc place)) counted)
+step_first : (before after : List ℕ) (place : ℕ) → differs before after place ≡ true → position_on_line before after place ≡ 0 → AreSoFar before after place → AreAfter before after place
+step_first before after place other first so_far =
+    let here : place + words_after before after place ≡ place = omega (arith, behind_first before after place first) in
+    let next : suc place + words_after before after (suc place) ≡ place + length (neighbours before after 8 place) = omega (arith, rw first at (counted before after place other)) in
+    rw (next, one_line before after place (rw (other, first) refl), so_far, here) (neighbours_are before after 8 place)
+
+step_later : (before after : List ℕ) (place : ℕ) → differs before after place ≡ true → position_on_line before after place ≢ 0 → AreSoFar before after place → AreAfter before after place
+step_later before after place other later so_far =
+    let next : suc place + words_after before after (suc place) ≡ place + words_after before after place = omega (arith, counted before after place other, behind_more before after place later) in
+    rw (next, no_line before after place (rw (other, ne_eqb _ _ later) refl)) so_far
 
 -- the words on the lines so far are the changes, some of them ahead
-words_are : (before after : List ℕ) (place : ℕ) → words_before before after place ≡ changes before after (place + words_after before after place)
-words_are before after zero = ap (changes before after) (at_end 0 (words_after before after 0) (behind_first before after 0 (none_at_first before after)))
-words_are before after (suc place) = ap (words_before before after) (sym (add-one place)) ∙ words_step before after place (words_are before after place)
+words_are : (before after : List ℕ) (place : ℕ) → AreSoFar before after place
+words_are before after zero = grind (arith, behind_first, none_at_first)
+words_are before after (suc place) = ap (words_before before after) (sym (add-one place)) ∙ elim (cases_Bool (differs before after place)) [
+  | inl other ↦ elim (cases_eq (position_on_line before after place) 0) [
+    | inl first ↦ step_first before after place other first (words_are before after place)
+    | inr later ↦ step_later before after place other later (words_are before after place)
+  ]
+  | inr same ↦ step_same before after place same (words_are before after place)
+]
 
 -- ---- all lines
 
@@ -208,12 +186,9 @@ words_on_lines before after long as_long =
     words_are before after place_count
     ∙ ap (changes before after) (sym (at_end place_count (words_after before after place_count) (behind_same before after place_count (past before after place_count (omega (arith, long)) (omega (arith, as_long))))))
 
-central_set : (before after : List ℕ) (a : ℕ) → flat_map words_set (central_line before after a) ≡ change before after a
-central_set before after a = grind (arith, cases_Bool, change, cond-true, cond-false)
-
 pub words_of_central : (before after ks : List ℕ) → flat_map words_set (flat_map (central_line before after) ks) ≡ flat_map (change before after) ks
 words_of_central before after [] = refl
-words_of_central before after (k ∷ ks) = grind (arith, flat_map-append, central_set, change, words_of_central before after ks)
+words_of_central before after (k ∷ ks) = grind (arith, flat_map-append, cases_Bool, cond-true, cond-false, change, words_of_central before after ks)
 
 -- ---- what they make of the load
 
@@ -236,10 +211,7 @@ set_half : (before after : List ℕ) (place : ℕ) → place < length after → 
 unfolding half
 set_half before after place lt as_lt =
     let long : length (take place after) ≡ place = length-take place after ∙ omega (arith, lt) in
-    ap (λ (xs : List ℕ). set (take place after ++ xs) place (get_or after place 0)) (drop_more before place 0 as_lt)
-    ∙ ap (λ (i : ℕ). set (take place after ++ get_or before place 0 ∷ drop (place + 1) before) i (get_or after place 0)) (sym long)
-    ∙ set-append_seam (take place after) (get_or before place 0) (drop (place + 1) before) (get_or after place 0)
-    ∙ half_more before after place lt
+    cc (drop_more before place 0 as_lt, set-append_seam (take place after) (get_or before place 0) (drop (place + 1) before) (get_or after place 0), half_more before after place lt)
 
 same_half : (before after : List ℕ) (place : ℕ) → place < length after → place < length before → get_or before place 0 ≡ get_or after place 0 → half before after place ≡ half before after (place + 1)
 unfolding half

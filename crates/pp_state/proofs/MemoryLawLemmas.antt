@@ -1,12 +1,12 @@
 -- Words read off the texts are the words in memory: numbers in the columns of a line, also where
 -- spaces at its end are dropped, and the lines of a text that pass a test.
-use Rattle.std.proofs.Common.{All, ◌≡◌, ◌≢◌, ◌∙◌, ℕ, zero, suc, ◌-◌, ◌<◌, Bool, true, false, List, [], ◌∷◌, ◌++◌, length, refl, sym, ap, arith, inl, inr, append_assoc, reverse, ◌+◌, ◌/◌, ◌%◌, ◌^◌, cond, take, lit<, length-append, ◌*◌, ◌≤◌, subst, codes, ◌⊎◌}
-use Rattle.std.specs.Prelude.{◌==◌, if◌then◌else◌, ◌&&◌, not, nat_lt, slice_index}
+use Rattle.std.proofs.Common.{◌≡◌, ◌≢◌, ◌∙◌, ℕ, zero, suc, ◌-◌, ◌<◌, Bool, true, false, List, [], ◌∷◌, ◌++◌, length, refl, sym, ap, arith, inl, inr, append_assoc, reverse, ◌+◌, ◌/◌, ◌%◌, ◌^◌, cond, take, lit<, length-append, ◌*◌, ◌≤◌, codes, ◌⊎◌}
+use Rattle.std.specs.Prelude.{◌==◌, if◌then◌else◌, ◌&&◌, not, slice_index}
 use Rattle.std.specs.List.{filter, flat_map, slice_split, prefix_len, suffix_len, list_all}
 use Rattle.std.specs.Str.Lines.{lines, lines_of_parts, strip_carriage_return}
-use Rattle.std.proofs.lemmas.Bool.{cases_lt, ne_eqb, both_ways, eq-eqb, eqb-true, false_from_ne_true, le-leb, ltb-true, not-false}
+use Rattle.std.proofs.lemmas.Bool.{and_from, and_parts, cases_lt, ne_eqb, both_ways, eq-eqb, eqb-true, false_from_ne_true, le-leb, not-false}
 use Rattle.std.proofs.lemmas.List.{append-nil, drop_at, reverse-append, take_at}
-use Rattle.std.proofs.lemmas.List.Elements.{All-append, All-cons, All-head, All-nil, All-tail, filter-append, All-take}
+use Rattle.std.proofs.lemmas.List.Elements.{filter-append}
 use Rattle.std.proofs.lemmas.Grind.{flat_map-append}
 use Rattle.std.proofs.lemmas.List.Splits.{slice_split_at}
 use Rattle.pp_text.specs.PrintedText.{each_below, line_end}
@@ -15,11 +15,13 @@ use Rattle.std.proofs.Math.Seq.{take-append-add}
 use Rattle.std.proofs.Math.Nat.{mod-eq_of_lt}
 use Rattle.std.proofs.lemmas.Bool.Decides.{nat_tests}
 use Rattle.std.proofs.lemmas.List.Sums.{suffix_len-le-length, AllPass-from_list_all}
-use Rattle.pp_word.specs.Numeral.{octal, digit}
+use Rattle.pp_word.specs.Numeral.{octal}
 use Rattle.pp_word.proofs.NumeralLemmas.{digits_value, length_digits}
 use Rattle.pp_state.specs.MemoryText.{trimmed, displayed_words, has_words, memory_line, memory_text, octal_words, padded_line, shown_line}
 use Rattle.pp_text.specs.InstructionRead.{number_in}
-use Rattle.std.proofs.lemmas.List.Folds.{list_any_at}
+use Rattle.std.proofs.lemmas.List.Folds.{list_all-append, list_any_at}
+use Rattle.pp_deck.proofs.FieldTextLemmas.{is_plain, octal_plain, plain_least}
+use Rattle.pp_listing.proofs.ListedLineLemmas.{IsPlain, no_line_feed, plain_append}
 use Rattle.std.proofs.lemmas.List.FromFn.{get_or-range_with_len, length-range_with_len}
 use Rattle.pp_word.specs.Address.{place_count}
 use Rattle.pp_machine.specs.Central.{IsCentral}
@@ -38,20 +40,16 @@ number_after before after column width n here small = grind (arith, drop_at, tak
 
 -- ---- spaces at the end
 
-no_space : (x : ℕ) → 47 < x → is_ascii_whitespace x ≡ false
-no_space x past = grind (arith, nat_tests)
-
 stops : (p : ℕ → Bool) (ys zs : List ℕ) (x : ℕ) → p x ≡ false → prefix_len p (ys ++ x ∷ zs) ≡ prefix_len p ys
 stops p [] zs x fails = rw fails refl
 stops p (y ∷ ys) zs x fails = ap (λ (n : ℕ). cond (p y) (1 + n) 0) (stops p ys zs x fails)
 
 backwards : (a b : List ℕ) (x : ℕ) → reverse (a ++ x ∷ b) ≡ reverse b ++ x ∷ reverse a
 backwards a b x =
-    reverse-append a (x ∷ b)
-    ∙ (ap (λ (l : List ℕ). l ++ reverse a) (reverse-append (x ∷ []) b) ∙ append_assoc (reverse b) (x ∷ []) (reverse a))
+    cc (reverse-append a (x ∷ b), reverse-append (x ∷ []) b, append_assoc (reverse b) (x ∷ []) (reverse a))
 
 same_spaces : (a b : List ℕ) (x : ℕ) → 47 < x → suffix_len is_ascii_whitespace (a ++ x ∷ b) ≡ suffix_len is_ascii_whitespace b
-same_spaces a b x past = grind (arith, backwards, stops, no_space)
+same_spaces a b x past = grind (arith, backwards, stops, nat_tests)
 
 -- what stands up to a digit stays
 trim_keeps : (a b : List ℕ) (x : ℕ) → 47 < x → trimmed (a ++ x ∷ b) ≡ a ++ x ∷ trimmed b
@@ -78,37 +76,34 @@ number_trimmed before after column width n here small =
     ∙ (ap (number_in column (suc width)) (trim_keeps (before ++ front) after (48 + n % 8) (omega arith) ∙ sym (regrouped before front (trimmed after) (48 + n % 8)))
     ∙ number_after before (trimmed after) column (suc width) n here small)
 
--- a character that does not end a line
-abbrev pub IsPlain : ℕ → Type 0
-IsPlain character = 31 < character
+-- what is taken from the front of a plain text is plain
+plain_take : (n : ℕ) (text : List ℕ) → IsPlain text → IsPlain (take n text)
+plain_take zero text plain = refl
+plain_take (suc n) [] plain = refl
+plain_take (suc n) (c ∷ text) plain = grind (arith, and_parts, and_from, plain_take n text (and_parts (is_plain c) (list_all is_plain text) plain).1)
 
 abbrev is_feed : ℕ → Bool
 is_feed character = character == 10
-
-no_feeds : (l : List ℕ) → All IsPlain l → All (λ character. is_feed character ≡ false) l
-no_feeds l plain = grind (arith, is_feed, ne_eqb)
 
 -- lines, each with its line feed
 abbrev unlines : List (List ℕ) → List ℕ
 unlines ls = flat_map (λ l. l ++ line_end) ls
 
-parts_of_lines : (ls : List (List ℕ)) → All (All IsPlain) ls → slice_split is_feed (unlines ls) ≡ ls ++ [] ∷ []
+parts_of_lines : (ls : List (List ℕ)) → list_all (list_all is_plain) ls ≡ true → slice_split is_feed (unlines ls) ≡ ls ++ [] ∷ []
 parts_of_lines [] plain = refl
 parts_of_lines (l ∷ ls) plain =
-    ap (slice_split is_feed) (append_assoc l line_end (unlines ls))
-    ∙ slice_split_at is_feed l 10 (unlines ls) (no_feeds l (All-head (All IsPlain) l ls plain)) refl
-    ∙ ap (λ (parts : List (List ℕ)). l ∷ parts) (parts_of_lines ls (All-tail (All IsPlain) l ls plain))
+    let (first, more) = and_parts (list_all is_plain l) (list_all (list_all is_plain) ls) plain in
+    grind (arith, append_assoc, slice_split_at is_feed l 10 (unlines ls) (no_line_feed l first), parts_of_lines ls more)
 
-no_return : (l : List ℕ) → All IsPlain l → strip_carriage_return l ≡ l
+no_return : (l : List ℕ) → IsPlain l → strip_carriage_return l ≡ l
 no_return [] plain = refl
-no_return (c ∷ l) plain = grind (arith, ne_eqb)
+no_return (c ∷ l) plain =
+    let least = plain_least (slice_index (c ∷ l) (length l)) (AllPass-from_list_all is_plain (c ∷ l) plain (length l) 0 (omega arith)) in
+    grind (arith, least, ne_eqb)
 
-lines_again : (ls : List (List ℕ)) → All (All IsPlain) ls → lines_of_parts (ls ++ [] ∷ []) ≡ ls
+lines_again : (ls : List (List ℕ)) → list_all (list_all is_plain) ls ≡ true → lines_of_parts (ls ++ [] ∷ []) ≡ ls
 lines_again [] plain = refl
-lines_again (l ∷ []) plain = ap (λ (x : List ℕ). x ∷ []) (no_return l (All-head (All IsPlain) l [] plain))
-lines_again (l ∷ k ∷ ls) plain =
-    ap (λ (x : List ℕ). x ∷ lines_of_parts ((k ∷ ls) ++ [] ∷ [])) (no_return l (All-head (All IsPlain) l (k ∷ ls) plain))
-    ∙ ap (λ (xs : List (List ℕ)). l ∷ xs) (lines_again (k ∷ ls) (All-tail (All IsPlain) l (k ∷ ls) plain))
+lines_again (l ∷ ls) plain = grind (arith, and_parts, no_return, lines_again ls)
 
 -- ---- a line for some numbers
 
@@ -120,41 +115,34 @@ line_if has line n = if has n then line n ∷ [] else []
 abbrev pub said_if : (ℕ → Bool) → (ℕ → List ℕ) → ℕ → List ℕ
 said_if has line n = if has n then line n ++ line_end else []
 
-plain_if : (has : Bool) (l : List ℕ) → All IsPlain l → All (All IsPlain) (if has then l ∷ [] else [])
-plain_if true l plain = All-cons (All IsPlain) l [] plain (All-nil (All IsPlain))
-plain_if false l plain = All-nil (All IsPlain)
+plain_if : (has : Bool) (l : List ℕ) → IsPlain l → list_all (list_all is_plain) (if has then l ∷ [] else []) ≡ true
+plain_if has l plain = grind arith
 
-all_below : {X : Type 0} (P : X → Type 0) (k : ℕ) (f : ℕ → List X) → ((n : ℕ) → All P (f n)) → All P (each_below k f)
+all_below : {X : Type 0} (p : X → Bool) (k : ℕ) (f : ℕ → List X) → ((n : ℕ) → list_all p (f n) ≡ true) → list_all p (each_below k f) ≡ true
 unfolding each_below
-all_below P zero f each = All-nil P
-all_below P (suc k) f each = All-append P (each_below k f) (f k) (all_below P k f each) (each k)
+all_below p zero f each = refl
+all_below p (suc k) f each = grind (arith, list_all-append, all_below p k f each, each k)
 
 one_line : (b : Bool) (l : List ℕ) → (if b then l ++ line_end else []) ≡ unlines (if b then l ∷ [] else [])
-one_line true l = sym (append-nil (l ++ line_end))
-one_line false l = refl
+one_line b l = grind (arith, append-nil)
 
 said_in_lines : (k : ℕ) (has : ℕ → Bool) (line : ℕ → List ℕ) → each_below k (said_if has line) ≡ unlines (each_below k (line_if has line))
 unfolding each_below
 said_in_lines zero has line = refl
-said_in_lines (suc k) has line =
-    ap (λ first. first ++ said_if has line k) (said_in_lines k has line)
-    ∙ (ap (λ last. unlines (each_below k (line_if has line)) ++ last) (one_line (has k) (line k)) ∙ sym (flat_map-append (λ l. l ++ line_end) (each_below k (line_if has line)) (line_if has line k)))
+said_in_lines (suc k) has line = grind (arith, one_line, flat_map-append, said_in_lines k has line)
 
-lines_said : (count : ℕ) (has : ℕ → Bool) (line : ℕ → List ℕ) → ((n : ℕ) → All IsPlain (line n))
+lines_said : (count : ℕ) (has : ℕ → Bool) (line : ℕ → List ℕ) → ((n : ℕ) → IsPlain (line n))
     → lines (each_below count (said_if has line)) ≡ each_below count (line_if has line)
 lines_said count has line plain =
-    let all = all_below (All IsPlain) count (line_if has line) (λ n. plain_if (has n) (line n) (plain n)) in
-    ap lines (said_in_lines count has line)
-    ∙ (ap lines_of_parts (parts_of_lines (each_below count (line_if has line)) all) ∙ lines_again (each_below count (line_if has line)) all)
+    let all = all_below (list_all is_plain) count (line_if has line) (λ n. plain_if (has n) (line n) (plain n)) in
+    grind (arith, said_in_lines, parts_of_lines, lines_again, all)
 
 -- a line that passes a test, and one that does not
 passes : (p : List ℕ → Bool) (b : Bool) (l : List ℕ) → p l ≡ true → filter p (if b then l ∷ [] else []) ≡ (if b then l ∷ [] else [])
-passes p true l is = ap (λ (x : Bool). if x then l ∷ [] else []) is
-passes p false l is = refl
+passes p b l is = grind arith
 
 fails : (p : List ℕ → Bool) (b : Bool) (l : List ℕ) → p l ≡ false → filter p (if b then l ∷ [] else []) ≡ []
-fails p true l is = ap (λ (x : Bool). if x then l ∷ [] else []) is
-fails p false l is = refl
+fails p b l is = grind arith
 
 none_below : (k : ℕ) (p : List ℕ → Bool) (f : ℕ → List (List ℕ)) → ((n : ℕ) → n < k → filter p (f n) ≡ []) → filter p (each_below k f) ≡ []
 unfolding each_below
@@ -177,7 +165,7 @@ one_passes (suc k) n p f within own others =
     ]
 
 -- of the lines of a text, those that pass a test that the line of one number alone passes
-pub lines_passing : (count n : ℕ) (has : ℕ → Bool) (line : ℕ → List ℕ) (p : List ℕ → Bool) → n < count → ((m : ℕ) → All IsPlain (line m)) → p (line n) ≡ true
+pub lines_passing : (count n : ℕ) (has : ℕ → Bool) (line : ℕ → List ℕ) (p : List ℕ → Bool) → n < count → ((m : ℕ) → IsPlain (line m)) → p (line n) ≡ true
     → ((m : ℕ) → m < count → m ≢ n → p (line m) ≡ false) → filter p (lines (each_below count (said_if has line))) ≡ line_if has line n
 lines_passing count n has line p within plain own others =
     ap (filter p) (lines_said count has line plain)
@@ -185,30 +173,16 @@ lines_passing count n has line p within plain own others =
 
 -- ---- characters
 
-table_plain : list_all (nat_lt 31) display_characters ≡ true
+table_plain : IsPlain display_characters
 unfolding display_characters
 table_plain = refl
 
-plain_octal : (width n : ℕ) → All IsPlain (octal width n)
-plain_octal zero n = All-nil IsPlain
-plain_octal (suc width) n =
-    All-append IsPlain (octal width (n / 8)) (digit (n % 8)) (plain_octal width (n / 8)) (All-cons IsPlain (48 + n % 8) [] (omega arith) (All-nil IsPlain))
-
-plain_character : (code : ℕ) → code < 0o100 → IsPlain (display_character code)
+plain_displayed : (width word : ℕ) → IsPlain (displayed width word)
 unfolding display_characters
-plain_character code within = ltb-true 31 (display_character code) (AllPass-from_list_all (nat_lt 31) display_characters table_plain code 0 (omega (arith, within)))
-
-plain_displayed : (width word : ℕ) → All IsPlain (displayed width word)
-plain_displayed zero word = All-nil IsPlain
+plain_displayed zero word = refl
 plain_displayed (suc width) word =
-    All-append IsPlain (displayed width (word / 0o100)) (display_character (word % 0o100) ∷ []) (plain_displayed width (word / 0o100))
-    (All-cons IsPlain (display_character (word % 0o100)) [] (plain_character (word % 0o100) (omega arith)) (All-nil IsPlain))
-
-plain_space : All IsPlain (32 ∷ [])
-plain_space = All-cons IsPlain 32 [] (omega arith) (All-nil IsPlain)
-
-plain_spaces : All IsPlain (32 ∷ 32 ∷ [])
-plain_spaces = All-cons IsPlain 32 (32 ∷ []) (omega arith) plain_space
+    plain_append (displayed width (word / 0o100)) (display_character (word % 0o100) ∷ []) (plain_displayed width (word / 0o100))
+    (ap (λ b. b && true) (AllPass-from_list_all is_plain display_characters table_plain (word % 0o100) 0 (omega arith)))
 
 -- ---- eight words on a line
 
@@ -259,27 +233,15 @@ word_on_line pp place k within small =
     ∙ (simp append_assoc)) in
     let columns : length before ≡ 6 + k * 5 =
     omega (arith, length-append (each_below k (word_field pp place)) (32 ∷ []), length_below k (word_field pp place) (λ j. refl)) in
-    ap (λ (l : List ℕ). number_in (6 + k * 5) 4 (trimmed l)) line
-    ∙ number_trimmed before (after ++ tail) (6 + k * 5) 3 word columns small
+    cc (number_trimmed before (after ++ tail) (6 + k * 5) 3 word columns small)
 
 place_on_line : (pp : Processor) (place : ℕ) → place < 8 ^ 4 → number_in 0 4 (memory_line pp place) ≡ place
 place_on_line pp place small =
     ap (λ (l : List ℕ). number_in 0 4 (trimmed l)) (padded_is pp place) ∙ number_trimmed [] (32 ∷ (octal_words pp place ++ (32 ∷ 32 ∷ displayed_words pp place))) 0 3 place refl small
 
-plain_line : (pp : Processor) (place : ℕ) → All IsPlain (memory_line pp place)
-unfolding trimmed octal_words displayed_words
-plain_line pp place =
-    let displays : List ℕ = displayed_words pp place in
-    let words : List ℕ = octal_words pp place in
-    let shown : All IsPlain displays = all_below IsPlain 8 (λ k. displayed 2 (word_at pp (place + k))) (λ k. plain_displayed 2 (word_at pp (place + k))) in
-    let numbers : All IsPlain words =
-    all_below IsPlain 8 (word_field pp place) (λ k. All-append IsPlain (32 ∷ []) (octal 4 (word_at pp (place + k))) plain_space (plain_octal 4 (word_at pp (place + k)))) in
-    let all : All IsPlain (octal 4 place ++ (32 ∷ (words ++ (32 ∷ 32 ∷ displays)))) =
-    All-append IsPlain (octal 4 place) (32 ∷ (words ++ (32 ∷ 32 ∷ displays))) (plain_octal 4 place)
-    (All-append IsPlain (32 ∷ []) (words ++ (32 ∷ 32 ∷ displays)) plain_space
-    (All-append IsPlain words (32 ∷ 32 ∷ displays) numbers (All-append IsPlain (32 ∷ 32 ∷ []) displays plain_spaces shown))) in
-    All-take IsPlain (length (padded_line pp place) - suffix_len is_ascii_whitespace (padded_line pp place)) (padded_line pp place)
-    (subst (All IsPlain) (sym (padded_is pp place)) all)
+plain_line : (pp : Processor) (place : ℕ) → IsPlain (memory_line pp place)
+unfolding trimmed padded_line octal_words displayed_words
+plain_line pp place = plain_take _ (padded_line pp place) (search (plain_append, octal_plain, all_below, plain_displayed))
 
 -- ---- the text of a memory
 
@@ -314,12 +276,12 @@ word_is_read bounds pp place memory within first last =
     let k = place % 8 in
     let begins : place - place % 8 ≡ n * 8 = omega arith in
     let here : n * 8 + k ≡ place = omega arith in
-    ap (λ (p : ℕ). number_on (6 + k * 5) 4 (lines_of 4 p (memory_text bounds pp))) begins
-    ∙ (ap (number_on (6 + k * 5) 4) (line_found bounds pp n (omega (arith, within)))
-    ∙ (on_line (meets bounds (n * 8) (n * 8 + 7)) (has_words pp (n * 8)) (6 + k * 5) 4 (word_at pp (n * 8 + k)) (memory_line pp (n * 8))
-    (met bounds (n * 8) (n * 8 + 7) (omega (arith, first)) (omega (arith, last)))
-    (word_on_line pp (n * 8) k (omega arith) (memory.each_word (n * 8 + k))) (no_words pp (n * 8) k (omega arith))
-    ∙ ap (word_at pp) here))
+    cc (
+      line_found bounds pp n (omega (arith, within)),
+      on_line (meets bounds (n * 8) (n * 8 + 7)) (has_words pp (n * 8)) (6 + k * 5) 4 (word_at pp (n * 8 + k)) (memory_line pp (n * 8))
+          (met bounds (n * 8) (n * 8 + 7) (omega (arith, first)) (omega (arith, last)))
+          (word_on_line pp (n * 8) k (omega arith) (memory.each_word (n * 8 + k))) (no_words pp (n * 8) k (omega arith)),
+    )
 
 -- ---- the text of central memory
 
@@ -327,20 +289,15 @@ central_is : (a word : ℕ) → central_line a word ≡ (octal 6 a ++ (32 ∷ 32
 unfolding central_line
 central_is a word = refl
 
-plain_central : (a word : ℕ) → All IsPlain (central_line a word)
-plain_central a word =
-    let display : List ℕ = displayed 10 word in
-    subst (All IsPlain) (sym (central_is a word))
-    (All-append IsPlain (octal 6 a ++ (32 ∷ 32 ∷ [])) (octal 20 word ++ (32 ∷ 32 ∷ display))
-    (All-append IsPlain (octal 6 a) (32 ∷ 32 ∷ []) (plain_octal 6 a) plain_spaces)
-    (All-append IsPlain (octal 20 word) (32 ∷ 32 ∷ display) (plain_octal 20 word) (All-append IsPlain (32 ∷ 32 ∷ []) display plain_spaces (plain_displayed 10 word))))
+plain_central : (a word : ℕ) → IsPlain (central_line a word)
+unfolding central_line
+plain_central a word = search (plain_append, octal_plain, plain_displayed)
 
 address_on_line : (a word : ℕ) → a < 8 ^ 6 → number_in 0 6 (central_line a word) ≡ a
 address_on_line a word small = grind (arith, central_is, number_after)
 
 central_on_line : (a word : ℕ) → word < 8 ^ 20 → number_in 8 20 (central_line a word) ≡ word
-central_on_line a word small =
-    ap (number_in 8 20) (central_is a word) ∙ number_after (octal 6 a ++ (32 ∷ 32 ∷ [])) (32 ∷ 32 ∷ displayed 10 word) 8 20 word refl small
+central_on_line a word small = search (central_is, number_after)
 
 pub central_word_is_read : (bounds : Bounds) (central : List ℕ) (a : ℕ) → IsCentral central → a < length central → bounds.first ≤ a → a ≤ bounds.last
     → central_word_read a (central_text bounds central) ≡ slice_index central a

@@ -9,8 +9,7 @@ use Rattle.pp_channel.specs.declared.flags.Flags.{Flags}
 use Rattle.pp_word.specs.Numeral.{is_digit, numeral, octal, short_octal}
 use Rattle.pp_word.specs.Opcode.{opcode_at, row_of}
 use Rattle.pp_word.specs.declared.opcode.Opcode.{Opcode}
-use Rattle.pp_word.specs.declared.opcode.Opcode.TheVariants.{PSN}
-use Rattle.pp_word.specs.Address.{next_place, relative_to}
+use Rattle.pp_word.specs.Address.{next_place}
 use Rattle.pp_word.proofs.NumeralLemmas.{short_pass, short_read}
 use Rattle.pp_machine.specs.MachineState.{MachineState, processor_of}
 use Rattle.pp_machine.specs.MachineStep.{step_outcome}
@@ -18,11 +17,9 @@ use Rattle.pp_processor.specs.NeedAndEffect.{need}
 use Rattle.pp_processor.specs.Processor.{word_at}
 use Rattle.pp_processor.specs.declared.{block.Block.Block, block.BlockKind.BlockKind, need.Need.Need, outcome.Outcome.Outcome}
 use Rattle.pp_processor.specs.declared.block.BlockKind.TheVariants.{CentralIn, CentralOut, Input, Output}
-use Rattle.pp_processor.specs.declared.need.Need.TheVariants.{Channel}
-use Rattle.pp_processor.specs.declared.outcome.Outcome.TheVariants.{Held}
 use Rattle.pp_text.specs.InstructionText.{block_text, instruction_text, operands_of, operands_text, running_text}
 use Rattle.pp_word.specs.declared.operands.Operands.{Operands}
-use Rattle.pp_word.specs.declared.operands.Operands.TheVariants.{IndexedPlace, JumpPlace, Constant, PlaceAndNumber, Number}
+use Rattle.pp_word.specs.declared.operands.Operands.TheVariants.{Number}
 use Rattle.pp_text.specs.PrintedText.{line_end, processor_line}
 use Rattle.pp_text.specs.Standing.{block_place_text, held_text, standing}
 use Rattle.pp_text.proofs.Format.{Format, Piece, always, characters, field, front_fails, is_digit_at, many, mark, maybe, octals, piece_tells, run_of, whole, ◌▷◌, ◌▸◌}
@@ -70,8 +67,7 @@ abbrev ends_instruction : List ℕ → Bool
 ends_instruction r = not (is_inky (get_or r 0 0)) && not (begins_operands r)
 
 instruction_ends : (x : List ℕ × Option (List ℕ)) (r : List ℕ) → ends_instruction r ≡ true → named_operands.clear x r ≡ true
-instruction_ends (name, None) r is = (and_parts _ _ is).1
-instruction_ends (name, Some ops) r is = (and_parts _ _ is).0
+instruction_ends x r is = grind (arith, and_parts)
 
 instruction_tells : (x y r s : List ℕ) → IsInstruction x → IsInstruction y → ends_instruction r ≡ true → ends_instruction s ≡ true → x ++ r ≡ y ++ s → (x ≡ y) × (r ≡ s)
 instruction_tells x y r s one other ends also e =
@@ -88,19 +84,10 @@ first : (n : ℕ) → nat_lt (48 + n % 8) 58 ≡ true
 first n = lt-ltb (48 + n % 8) 58 (omega arith)
 
 are_operands : (kind : Operands) (place d m : ℕ) → IsOperands (operands_text kind place d m)
-are_operands IndexedPlace place d m = (first (m / 8 / 8 / 8), by_zero (d == 0))
-  where
-    by_zero : (b : Bool) → list_all is_inky (octal 4 m ++ (if b then [] else codes "," ++ octal 2 d)) ≡ true
-    by_zero true = simp ink
-    by_zero false = simp ink
-are_operands JumpPlace place d m = (first (relative_to place d / 8 / 8 / 8), simp ink)
-are_operands Constant place d m = (first (d / 8), simp ink)
-are_operands PlaceAndNumber place d m = (first (m / 8 / 8 / 8), simp ink)
-are_operands Number place d m = (first (d / 8), simp ink)
+are_operands kind place d m = grind (arith, first, ink)
 
 three_letters : (op : Opcode) → length (row_of op).mnemonic ≡ 3
-three_letters PSN = refl
-three_letters op = refl
+three_letters op = grind arith
 
 is_instruction : (block : Option Block) (place word m : ℕ) → IsInstruction (running_text block place word m)
 unfolding instruction_text
@@ -143,10 +130,7 @@ standing_row =
 
 said_clear : (place : Option ℕ) (held : Option (ℕ × (Flags × ℕ))) (r : List ℕ)
     → ((ends_instruction (block_format.text place ++ (held_format.text held ++ (line_end ++ r))) && block_format.clear place (held_format.text held ++ (line_end ++ r))) && held_format.clear held (line_end ++ r)) ≡ true
-said_clear None None r = refl
-said_clear None (Some h) r = refl
-said_clear (Some place) None r = refl
-said_clear (Some place) (Some h) r = refl
+said_clear place held r = grind arith
 
 -- a line of a processor, and no section of words
 abbrev begins_processor : List ℕ → Bool
@@ -162,12 +146,10 @@ standing_rows : Format (All IsStandingLine)
 standing_rows = many standing_row begins_processor (λ _. true) (λ x r _. standing_front x r) (λ (n, s) r _. said_clear s.place s.held r)
 
 hold_is : (asked : Need) (outcome : Outcome) (m : MachineState) (count : ℕ) → held_text asked outcome m count ≡ held_format.text (hold_of asked outcome m count)
-hold_is (Channel c operation) Held m count = refl
-hold_is asked outcome m count = refl
+hold_is asked outcome m count = grind arith
 
 place_is : (block : Option Block) → block_place_text block ≡ block_format.text (option_map (λ block. block.place) block)
-place_is None = refl
-place_is (Some block) = refl
+place_is block = grind arith
 
 standing_is : (n : ℕ) (m : MachineState) (count : ℕ) → processor_line n (processor_of n m) (standing n m count) ≡ standing_row.text (n, processor_shown n m count)
 unfolding processor_line
@@ -211,10 +193,7 @@ kind t = if is_digit_at 0 t then 1 else get_or t 0 0
 
 line_kind : (line : Line) (r : List ℕ) → FitsItsWords line → kind (deck_line line ++ r) ≡ kind_of line
 unfolding kind_of
-line_kind (words x ws) r fits = rw (first (x / 8 / 8 / 8)) refl
-line_kind (section n) r fits = refl
-line_kind (central_words a ws) r fits = refl
-line_kind line r fits = absurd fits
+line_kind line r fits = grind (arith, first)
 
 line_tells : (x y : Line) (r s : List ℕ) → FitsItsWords x → FitsItsWords y → deck_line x ++ r ≡ deck_line y ++ s → (x ≡ y) × (r ≡ s)
 unfolding kind_of
@@ -232,10 +211,7 @@ abbrev begins_words : List ℕ → Bool
 begins_words t = kind t == 1 || kind t == 80 || (kind t == 67 && get_or t 1 0 == 77)
 
 words_front : (line : Line) (r : List ℕ) → FitsItsWords line → (begins_words (deck_line line ++ r) && true) ≡ true
-words_front (words x ws) r fits = rw (first (x / 8 / 8 / 8)) refl
-words_front (section n) r fits = refl
-words_front (central_words a ws) r fits = refl
-words_front line r fits = absurd fits
+words_front line r fits = grind (arith, first)
 
 word_lines : Format (All FitsItsWords)
 word_lines = many (always deck_line line_tells) begins_words (λ _. true) words_front (λ line r _. refl)
@@ -249,8 +225,7 @@ abbrev whole_text : Piece (λ (x : Shown). All IsStandingLine x.0 × (All FitsIt
 whole_text = field standing_rows (λ x. x.0) (λ x fits. fits.0) ▷ field word_lines (λ x. x.1.0) (λ x fits. fits.1.0) ▷ field channel_lines (λ x. x.1.1) (λ x fits. fits.1.1)
 
 no_processor : (line : Line) (r : List ℕ) → begins_processor (deck_line line ++ r) ≡ false
-no_processor (words x ws) r = rw (digit_other (x / 8 / 8 / 8) 80 (omega arith)) refl
-no_processor line r = refl
+no_processor line r = grind (arith, digit_other)
 
 text_clear : (x : Shown) → whole_text.clear x [] ≡ true
 unfolding standing_rows word_lines

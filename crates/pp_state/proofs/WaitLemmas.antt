@@ -34,15 +34,11 @@ lawful c m all holds = elim (cases_Bool (names_channel c)) [
 
 on_goes : (block : Option Block) (is_active : Bool) → (block ≡ None) ⊎ (is_active ≡ true) → goes_on block is_active ≡ true
 unfolding goes_on
-on_goes None is_active (inl alone) = refl
-on_goes None is_active (inr is) = refl
-on_goes (Some block) is_active (inl alone) = cc
-on_goes (Some block) is_active (inr is) = is
+on_goes block is_active h2 = grind arith
 
 goes_is_on : (block : Option Block) (is_active : Bool) → goes_on block is_active ≡ true → (block ≡ None) ⊎ (is_active ≡ true)
 unfolding goes_on
-goes_is_on None is_active e = inl refl
-goes_is_on (Some block) is_active e = inr e
+goes_is_on block is_active e = grind arith
 
 pub held_where_waits : (n : ℕ) (m : MachineState) → length m.histories ≡ channel_count → HoldsOnEachChannel m → IsHeld n m → step_outcome n m ≡ Held
 held_where_waits n m all holds (c, op, waits) =
@@ -59,8 +55,7 @@ event_or_not None = inl refl
 event_or_not (Some e) = inr (e, refl)
 
 held_is_true : (b : Bool) (o : Outcome) → o ≡ cond b Held Moved → o ≡ Held → b ≡ true
-held_is_true true o is held = refl
-held_is_true false o is held = absurd (moved_not_held o is held)
+held_is_true b o is held = grind (arith, moved_not_held)
 
 never_ready : (h : List Event) (op : ChanOp) → IsLawful h → event_of op h ≡ None → (e : Event) → IsReady h op e → ⊥
 never_ready h op law none e ready = let made : event_of op h ≡ Some e = table_of_ready h law op e ready in cc
@@ -89,8 +84,7 @@ waits_where_held n m all holds held = grind (arith, held_answer, waits_on, lawfu
 -- ---- the text says so
 
 said : (x : Need) (o : Outcome) (m : MachineState) (count : ℕ) → held_text x o m count ≢ [] → o ≡ Held
-said (needs.Channel c op) Held m count some = refl
-said x o m count some = absurd (some refl)
+said x o m count some = grind arith
 
 not_nothing : (x : ℕ) (xs ys : List ℕ) → ys ≡ x ∷ xs → ys ≡ [] → ⊥
 not_nothing x xs ys some none = cc

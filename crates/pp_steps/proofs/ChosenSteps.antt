@@ -5,7 +5,6 @@ use Rattle.std.proofs.lemmas.List.{drop_all, drop_more, length-take, take-append
 use Rattle.std.proofs.lemmas.List.Elements.{filter-append}
 use Rattle.std.proofs.lemmas.List.Sums.{count_by-le-length, length-filter}
 use Rattle.pp_machine.specs.MachineState.{MachineState}
-use Rattle.pp_machine.specs.MachineStep.{stepped}
 use Rattle.pp_machine.specs.Run.{run}
 use Rattle.pp_machine.proofs.RunLemmas.{run_more}
 use Rattle.pp_run.specs.RunSteps.{RunStep, run_steps}
@@ -55,10 +54,4 @@ none_left choice ns done m all = ap (λ ks. filter (is_chosen choice) (run_steps
 pub next_chosen : (choice : Choice) (ns : List ℕ) (done : ℕ) (m : MachineState) (k : ℕ) → k ≡ get_or ns done 0 → done < length ns
     → chosen_from choice ns done m
     ≡ cond (is_chosen choice (step_in ns done m k)) (step_in ns done m k ∷ chosen_from choice ns (done + 1) m) (chosen_from choice ns (done + 1) m)
-next_chosen choice ns done m k is few =
-    let old = run (take done ns) m in
-    let step = step_in ns done m k in
-    let rest = drop (done + 1) ns in
-    let after : stepped k old ≡ run (take (done + 1) ns) m = sym (run_more ns done m few ∙ ap (λ (j : ℕ). stepped j old) (sym is)) in
-    ap (λ (ks : List ℕ). filter (is_chosen choice) (run_steps ks old)) (drop_more ns done 0 few ∙ ap (λ (j : ℕ). j ∷ rest) (sym is))
-    ∙ ap (λ (x : MachineState). cond (is_chosen choice step) (step ∷ filter (is_chosen choice) (run_steps rest x)) (filter (is_chosen choice) (run_steps rest x))) after
+next_chosen choice ns done m k is few = grind (arith, run_more, drop_more)

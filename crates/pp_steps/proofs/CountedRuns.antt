@@ -5,7 +5,7 @@ use Rattle.std.specs.List.{fold}
 use Rattle.std.proofs.lemmas.List.{get_or_default}
 use Rattle.std.proofs.lemmas.List.Sums.{fold-append}
 use Rattle.pp_numbers.proofs.TableLemmas.{length-tabulate, tabulate_const}
-use Rattle.pp_numbers.specs.PpNo.{processor_count, processor_index, processor_number}
+use Rattle.pp_numbers.specs.PpNo.{processor_count, processor_index}
 use Rattle.pp_run.specs.RunSteps.{RunStep, seen_of}
 use Rattle.pp_run.proofs.RunStepLemmas.{counted_at, counted_more, few_seen}
 use Rattle.pp_steps.specs.HeldRuns.{each_after, progress_of}
@@ -22,10 +22,7 @@ made_at next first xs steps n low are = counted_at progress_of (fold next first)
 -- the same, of a list in which it was looked for at this place
 pub made_here : {X : Type 0} (next : X → Progress → X) (first other : X) (xs : List X) (steps : List RunStep) (n i : ℕ) → i ≡ processor_index n → i < processor_count → xs ≡ each_after next first steps → other ≡ get_or xs i other
     → other ≡ get_or xs (processor_index n) first
-made_here next first other xs steps n i at low are is =
-    is
-    ∙ get_or_default xs i other first (omega (arith, low, ap length are, length-tabulate processor_count (λ (place : ℕ). fold next first (seen_of progress_of (processor_number place) steps))))
-    ∙ ap (λ (k : ℕ). get_or xs k first) at
+made_here next first other xs steps n i at low are is = grind (arith, get_or_default, length-tabulate)
 
 -- a turn more, whose step is chosen or not
 pub made_more : {X : Type 0} (next : X → Progress → X) (first : X) (xs : List X) (is_chosen : Bool) (past : List RunStep) (step : RunStep) (did : Progress) → processor_index step.processor < processor_count → did ≡ progress_of step → xs ≡ each_after next first past

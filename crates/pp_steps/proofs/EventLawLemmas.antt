@@ -1,5 +1,5 @@
 -- The events on the lines of a run are those of its trace.
-use Rattle.std.proofs.Common.{◌≡◌, ℕ, Bool, true, false, ◌&&◌, cond, List, [], ◌∷◌, ◌++◌, length, drop, refl, sym, ap, ◌∙◌, append_assoc, arith}
+use Rattle.std.proofs.Common.{◌≡◌, ℕ, Bool, true, false, ◌&&◌, cond, List, [], ◌∷◌, ◌++◌, length, drop, refl, sym, ap, append_assoc, arith}
 use Rattle.std.specs.Prelude.{Option, Some, None, map}
 use Rattle.std.specs.List.{filter, flat_map}
 use Rattle.std.specs.Option.{option_to_list}
@@ -30,8 +30,7 @@ use Rattle.pp_run.specs.declared.progress.Progress.TheVariants.{Moved}
 -- ---- the trace
 
 trace_by : (n : ℕ) (x : Need) (m : MachineState) → trace_after n x m ≡ m.trace ++ entry_of n x m
-trace_by n (Channel c operation) m = refl
-trace_by n other m = sym (append-nil m.trace)
+trace_by n x m = grind (arith, append-nil)
 
 trace_more : (n : ℕ) (m : MachineState) → (stepped n m).trace ≡ m.trace ++ entry_of n (need (processor_of n m)) m
 unfolding stepped
@@ -40,8 +39,7 @@ trace_more n m = trace_by n (need (processor_of n m)) m
 -- ---- a step that makes an event moves its processor
 
 moved_by : (o : Outcome) (answer : Answer) → o ≡ outcomes.Moved → progress_by o answer ≡ Moved
-moved_by outcomes.Moved answer e = refl
-moved_by other answer e = absurd (cc)
+moved_by o answer e = grind arith
 
 moved : (n : ℕ) (m : MachineState) → step_outcome n m ≡ outcomes.Moved → progress n m ≡ Moved
 unfolding progress
@@ -54,8 +52,7 @@ on_channel kind n c operation m x (Some e) is made moves same = absurd (let wron
 on_channel kind n c operation m x None is made moves same = grind arith
 
 none_on : (kind : LineKind) (n : ℕ) (m : MachineState) (x : Need) → x ≡ need (processor_of n m) → entry_of n x m ≡ [] → event_on kind n m ≡ entry_of n (need (processor_of n m)) m
-none_on OneStep n m x is none = refl
-none_on other n m x is none = sym (ap (λ (y : Need). entry_of n y m) (sym is) ∙ none)
+none_on kind n m x is none = grind arith
 
 by_need : (last : Progress) (n : ℕ) (m : MachineState) (steps : List Progress) (x : Need) → x ≡ need (processor_of n m) → event_on (line_kind last (progress n m) steps) n m ≡ entry_of n (need (processor_of n m)) m
 by_need last n m steps (Channel c operation) is =
@@ -90,20 +87,16 @@ all_or_none test false n c m None is = refl
 all_or_none test chosen n c m (Some e) is = rw (is e) refl
 
 nothing : (b : Bool) (entries : List Trace) → cond b entries entries ≡ entries
-nothing true entries = refl
-nothing false entries = refl
+nothing b entries = grind arith
 
 by_channel : (channels : Option (List Bool)) (c : ℕ) (operation : ChanOp) → chooses_channel channels c ≡ chooses_need channels (Channel c operation)
-by_channel None c operation = refl
-by_channel (Some channels) c operation = refl
+by_channel channels c operation = grind arith
 
 chosen_entry : (choice : Choice) (n : ℕ) (m : MachineState) (x : Need) → filter (is_chosen_event choice) (entry_of n x m) ≡ cond (chooses_turn choice n m.turns && chooses_need choice.channels x) (entry_of n x m) []
-chosen_entry choice n m (Channel c operation) = grind (arith, all_or_none, by_channel)
-chosen_entry choice n m other = sym (nothing (chooses_turn choice n m.turns && chooses_need choice.channels other) [])
+chosen_entry choice n m x = grind (arith, all_or_none, by_channel, nothing)
 
 with_first : (b : Bool) (step : RunStep) (rest : List RunStep) → cond b (entries_of step) [] ++ flat_map entries_of rest ≡ flat_map entries_of (cond b (step ∷ rest) rest)
-with_first true step rest = refl
-with_first false step rest = refl
+with_first b step rest = grind arith
 
 chosen_events : (choice : Choice) (steps : List RunStep) → filter (is_chosen_event choice) (flat_map entries_of steps) ≡ flat_map entries_of (filter (is_chosen choice) steps)
 chosen_events choice [] = refl

@@ -16,21 +16,13 @@ use Rattle.pp_run.specs.declared.progress.Progress.TheVariants.{AtRest, Moved, H
 -- ---- flags
 
 same_sym : (a b : Bool) → beq a b ≡ beq b a
-same_sym true true = refl
-same_sym true false = refl
-same_sym false true = refl
-same_sym false false = refl
+same_sym a b = grind arith
 
 same_is : (a b : Bool) → beq a b ≡ true → a ≡ b
-same_is true true e = refl
-same_is false false e = refl
-same_is a b e = absurd (cc)
+same_is a b e = grind arith
 
 same_twice : (a b : Bool) → (beq a a && beq b b) ≡ true
-same_twice true true = refl
-same_twice true false = refl
-same_twice false true = refl
-same_twice false false = refl
+same_twice a b = grind arith
 
 -- a step is held with the flags that it is held with
 with_itself : (g : Flags) → is_held_with g (Held g) ≡ true
@@ -59,10 +51,7 @@ first_of g steps = ap (λ (b : Bool). cond b (1 + prefix_len (is_held_with g) st
 -- a step that is not held like the last: the last time is over
 over : (last step : Progress) (current : ℕ) (steps : List Progress) → goes_on last step ≡ false
     → current_spell last current [] ++ (current_spell step 1 steps ++ held_counts step steps) ≡ current_spell last current (step ∷ steps) ++ held_counts last (step ∷ steps)
-over AtRest (Held g) current steps ends = ap (λ (k : ℕ). k ∷ held_counts (Held g) steps) (sym (first_of g steps))
-over Moved (Held g) current steps ends = ap (λ (k : ℕ). k ∷ held_counts (Held g) steps) (sym (first_of g steps))
-over (Held f) (Held g) current steps ends = grind (arith, with_other, with_itself)
-over other next current steps ends = refl
+over last step current steps ends = grind (arith, first_of, with_other, with_itself)
 
 -- a step that is: it belongs to the last time
 longer : (last step : Progress) (current : ℕ) (steps : List Progress) → goes_on last step ≡ true
@@ -80,10 +69,7 @@ longer (Held f) (Held g) current steps goes = grind (arith, with_same, with_othe
 one_step : (counts : List ℕ) (current : ℕ) (last step : Progress) (steps : List Progress) (b : Bool) → goes_on last step ≡ b
     → cond b counts (counts ++ current_spell last current []) ++ (current_spell step (cond b (current + 1) 1) steps ++ held_counts step steps)
     ≡ counts ++ (current_spell last current (step ∷ steps) ++ held_counts last (step ∷ steps))
-one_step counts current last step steps true goes = ap (λ (ks : List ℕ). counts ++ ks) (longer last step current steps goes)
-one_step counts current last step steps false ends =
-    append_assoc counts (current_spell last current []) (current_spell step 1 steps ++ held_counts step steps)
-    ∙ ap (λ (ks : List ℕ). counts ++ ks) (over last step current steps ends)
+one_step counts current last step steps b goes = grind (arith, longer, append_assoc, over)
 
 -- the counts of all steps, those so far and those that follow
 abbrev all_spells : HeldSpells → List Progress → List ℕ
@@ -91,8 +77,7 @@ all_spells spells steps = spells.counts ++ (current_spell spells.last spells.cur
 
 past_steps : (spells : HeldSpells) (steps : List Progress) → all_spells (fold with_step spells steps) [] ≡ all_spells spells steps
 past_steps spells [] = refl
-past_steps spells (step ∷ steps) =
-    past_steps (with_step spells step) steps ∙ one_step spells.counts spells.current spells.last step steps (goes_on spells.last step) refl
+past_steps spells (step ∷ steps) = grind (arith, one_step, past_steps (with_step spells step) steps)
 
 -- a count is that of a stretch
 count_is : (steps : List Progress) (time : ℕ) → let spells = fold with_step no_spells steps in get_or spells.counts time spells.current ≡ get_or (held_counts AtRest steps) time spells.current
@@ -166,6 +151,4 @@ pub current_grows : (spells : HeldSpells) (step : Progress) → (with_step spell
 current_grows spells step = grind arith
 
 pub times_grow : (cursor : Cursor) (step : Progress) → (past_step cursor step).times ≤ cursor.times + 1
-times_grow cursor AtRest = omega arith
-times_grow cursor Moved = omega arith
-times_grow cursor (Held f) = grind arith
+times_grow cursor step = grind arith

@@ -1,5 +1,5 @@
 -- The text of the steps chosen tells what each line shows.
-use Rattle.std.proofs.Common.{All, ◌≡◌, ◌∙◌, ℕ, ◌^◌, ◌<◌, Bool, true, false, List, [], ◌∷◌, ◌++◌, Option, None, Some, drop, length, map, take, refl, sym, ap, arith, append-nil, codes}
+use Rattle.std.proofs.Common.{All, ◌≡◌, ◌∙◌, ℕ, ◌^◌, ◌<◌, Bool, true, false, List, [], ◌∷◌, ◌++◌, Option, None, Some, drop, length, take, refl, sym, ap, arith, append-nil, codes}
 use Rattle.std.specs.Prelude.{◌&&◌, IfSome, IsTrue, not, slice_index, if◌then◌else◌}
 use Rattle.std.specs.List.{flat_map, range_with_len}
 use Rattle.std.specs.Str.{bytes_eq}
@@ -12,7 +12,6 @@ use Rattle.pp_machine.specs.MachineState.{MachineState, processor_of}
 use Rattle.pp_machine.specs.MachineStep.{stepped}
 use Rattle.pp_processor.specs.Processor.{HasFaultNumber}
 use Rattle.pp_processor.specs.declared.{block.Block.Block, need.Need.Need, pp_state.PpState.PpState}
-use Rattle.pp_processor.specs.declared.need.Need.TheVariants.{Channel}
 use Rattle.pp_processor.specs.declared.outcome.Outcome.TheVariants.{Held}
 use Rattle.pp_processor.specs.declared.pp_state.PpState.TheVariants.{Running}
 use Rattle.pp_text.specs.Differences.{differs, places}
@@ -23,14 +22,13 @@ use Rattle.pp_text.proofs.Formats.{IsHold, flags, holds, states}
 use Rattle.pp_text.proofs.Telling.{Tells}
 use Rattle.pp_steps.specs.declared.{choice.Choice.Choice, cursor.LineKind.LineKind}
 use Rattle.pp_steps.specs.declared.cursor.LineKind.TheVariants.{NoLine, OneStep, HeldSteps}
-use Rattle.pp_steps.specs.Choice.{chosen_steps}
 use Rattle.pp_condition.specs.declared.condition.Condition.{Condition}
 use Rattle.pp_run.specs.RunSteps.{RunStep}
-use Rattle.pp_steps.specs.StepsWhere.{HasLinesWhere, alone}
+use Rattle.pp_steps.specs.StepsWhere.{HasLinesWhere}
 use Rattle.pp_steps.specs.ShownStep.{OnChannel, FitsChannel, FitsItsStepLine, IsWordAt, ShownStep, alone_shown, changes_shown, channel_shown, hold_shown, kind_shown, line_shown, steps_shown, words_shown}
 use Rattle.pp_steps.specs.ShownStep.OnChannel.{Made, Saw}
 use Rattle.pp_steps.specs.StepLine.{channel_text, end_text, held_line, step_line, words_text}
-use Rattle.pp_steps.specs.StepsText.{StepWithLine, kind_text, line_text, steps_text, with_lines}
+use Rattle.pp_steps.specs.StepsText.{StepWithLine, kind_text, line_text, steps_text}
 
 -- ---- the formats of a line
 
@@ -101,12 +99,10 @@ step_row =
 -- ---- what follows its last parts
 
 hold_clear : (h : Option (ℕ × (Flags × ℕ))) (r : List ℕ) → held_format.clear h (line_end ++ r) ≡ true
-hold_clear None r = refl
-hold_clear (Some h) r = refl
+hold_clear h r = grind arith
 
 end_clear : (h : Option (ℕ × (Flags × ℕ))) (r : List ℕ) → no_end (held_format.text h ++ (line_end ++ r)) ≡ true
-end_clear None r = refl
-end_clear (Some h) r = refl
+end_clear h r = grind arith
 
 channel_clear : (c : Option (ℕ × OnChannel)) (state : PpState) (h : Option (ℕ × (Flags × ℕ))) (r : List ℕ) → channel_format.clear c (end_text state ++ (held_format.text h ++ (line_end ++ r))) ≡ true
 channel_clear c state h r = grind arith
@@ -149,8 +145,7 @@ unfolding on_channel_text
 channel_is asked m = grind arith
 
 hold_is : (asked : Need) (m : MachineState) (count : ℕ) → held_text asked Held m count ≡ held_format.text (hold_shown asked m count)
-hold_is (Channel c operation) m count = refl
-hold_is asked m count = refl
+hold_is asked m count = grind arith
 
 line_is : (x : StepWithLine) → line_text x ≡ flat_map step_row.text (line_shown x)
 unfolding step_line held_line
@@ -180,11 +175,9 @@ lines_tell xs ys fits also e =
 -- the text of those that meet a condition tells them
 pub where_tells_steps : (condition other : Condition) (steps more : List RunStep) (text : List ℕ) (one : HasLinesWhere condition steps text) (also : HasLinesWhere other more text)
     → All FitsItsStepLine (alone_shown one.those) → All FitsItsStepLine (alone_shown also.those) → alone_shown one.those ≡ alone_shown also.those
-where_tells_steps condition other steps more text one also fits too =
-    lines_tell (map alone one.those) (map alone also.those) fits too (sym one.text_is ∙ also.text_is)
+where_tells_steps condition other steps more text one also fits too = grind (arith, lines_tell)
 
 pub text_tells_steps : (choice others : Choice) (steps more : List ℕ) (load other : MachineState) → All FitsItsStepLine (steps_shown choice steps load) → All FitsItsStepLine (steps_shown others more other)
     → steps_text choice steps load ≡ steps_text others more other → steps_shown choice steps load ≡ steps_shown others more other
 unfolding steps_text
-text_tells_steps choice others steps more load other fits also e =
-    lines_tell (with_lines (chosen_steps choice steps load)) (with_lines (chosen_steps others more other)) fits also e
+text_tells_steps choice others steps more load other fits also e = grind (arith, lines_tell)

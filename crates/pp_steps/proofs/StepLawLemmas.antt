@@ -86,20 +86,13 @@ told_before step steps = 0
 -- ---- held steps in a row
 
 is_same : (g : Flags) (step : Progress) → is_held_with g step ≡ true → step ≡ Held g
-is_same g (Held f) e = ap Held (sym (with_same f g e))
-is_same g other e = absurd (cc)
+is_same g step e = grind (arith, with_same)
 
 -- those at the front, and then the others
 with_first : (g : Flags) (step : Progress) (steps : List Progress) (b : Bool) → is_held_with g step ≡ b
     → replicate (prefix_len (is_held_with g) steps) (Held g) ++ filter is_running (drop (prefix_len (is_held_with g) steps) steps) ≡ filter is_running steps
     → replicate (prefix_len (is_held_with g) (step ∷ steps)) (Held g) ++ filter is_running (drop (prefix_len (is_held_with g) (step ∷ steps)) (step ∷ steps)) ≡ filter is_running (step ∷ steps)
-with_first g step steps false e rest = rw e refl
-with_first g step steps true e rest =
-    let k = prefix_len (is_held_with g) steps in
-    let more : 1 + k ≡ suc k = omega arith in
-    rw e (rw more (
-    ap (λ (ss : List Progress). Held g ∷ ss) rest
-    ∙ ap (λ (s : Progress). filter is_running (s ∷ steps)) (sym (is_same g step e))))
+with_first g step steps b e rest = grind (arith, is_same)
 
 front : (g : Flags) (steps : List Progress) → replicate (prefix_len (is_held_with g) steps) (Held g) ++ filter is_running (drop (prefix_len (is_held_with g) steps) steps) ≡ filter is_running steps
 front g [] = refl
