@@ -2,9 +2,9 @@ use Rattle.std.proofs.Common.{ℕ, length, sym, subst, arith}
 use Rattle.pp_runner.proofs.AccessLemmas.{local_answer, read_answer, write_answer}
 use Rattle.pp_runner.proofs.LineLemmas.{operated_acted, operated_worn, same_line_acted}
 use Rattle.pp_runner.proofs.ReplyLemmas.{acted_answer}
-use Rattle.pp_runner.specs.Labour.{IsAnswered}
+use Rattle.pp_runner.specs.WorkerState.{IsAnswered}
 use Rattle.pp_runner.specs.Types.{Answer, Need}
-use Rattle.pp_runner.proofs.labour.ask.Goals as goal
+use Rattle.pp_runner.proofs.worker_state.ask.Goals as goal
 
 pub returns-in_ok-numbered-in-Channel-clause-same_line : goal.returns-in_ok-numbered-in-Channel-clause-same_line
 returns-in_ok-numbered-in-Channel-clause-same_line g c = grind (arith, same_line_acted)

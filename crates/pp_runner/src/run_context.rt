@@ -6,7 +6,7 @@ use std::snapshot::Snapshot;
 
 /// What the workers of a run share, beside the channels and the words of central memory.
 #[derive(Drop)]
-pub struct Site<A: Allocator> {
+pub struct RunContext<A: Allocator> {
     pub alloc: A,
     /// The number of words of central memory (decimal).
     pub size: u32,

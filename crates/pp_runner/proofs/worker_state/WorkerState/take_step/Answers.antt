@@ -6,13 +6,13 @@ use Rattle.pp_processor.specs.Processor.{Processor}
 use Rattle.pp_processor.specs.declared.answer.Answer.{Answer}
 use Rattle.pp_runner.proofs.EndLemmas.{end_memory, end_patience, end_worn}
 use Rattle.pp_runner.proofs.LineLemmas.{same_line_still, same_line_twice, operated_none, operated_again, operated_more, operated_tries, operated_held}
-use Rattle.pp_runner.specs.Labour.{IsAtWork, HasOperated, operations}
+use Rattle.pp_runner.specs.WorkerState.{IsAtWork, HasOperated, operations}
 use Rattle.pp_runner.specs.End.{WasHeld}
-use Rattle.pp_runner.proofs.labour.Labour.take_step.Goals as goal
+use Rattle.pp_runner.proofs.worker_state.WorkerState.take_step.Goals as goal
 
 pub returns-then-is_err : goal.returns-then-is_err
 returns-then-is_err g c = record {
-  work = subst (λ (xs : List Answer). IsAtWork c.args.load.now c.args.site.now.size c.args.site.now.limits.steps c.args.self.now.pp xs c.args.self.now.line) (sym {A = List Answer} c.reserve.ensures.items) c.requires.work;
+  work = subst (λ (xs : List Answer). IsAtWork c.args.load.now c.args.run.now.size c.args.run.now.limits.steps c.args.self.now.pp xs c.args.self.now.line) (sym {A = List Answer} c.reserve.ensures.items) c.requires.work;
   same_line = same_line_still _;
   operated = operated_tries c.args.self.now.tries c.args.self.now.tries 0 (operations (need c.args.self.now.pp)) c.args.self.now.line c.args.self.now.line (omega arith) (operated_none _ _);
   few_tries = (omega arith, omega arith);
@@ -21,7 +21,7 @@ returns-then-is_err g c = record {
   moved = tt;
   next_step = tt;
   few = omega (arith, c.reserve.ensures.len, c.requires.steps_left);
-  ended = end_memory c.args.site.now.limits.steps c.args.self.now.pp c.reserve.new.self.items c.args.self.now.line.log.entries c.requires.running (omega (arith, c.reserve.new.self.ok.0, c.reserve.ensures.len, c.requires.steps_left));
+  ended = end_memory c.args.run.now.limits.steps c.args.self.now.pp c.reserve.new.self.items c.args.self.now.line.log.entries c.requires.running (omega (arith, c.reserve.new.self.ok.0, c.reserve.ensures.len, c.requires.steps_left));
   worn = λ is. absurd cc;
 }
 
@@ -65,7 +65,7 @@ returns-in-Worn g c = record {
   few = omega (arith, ap (λ v. vec_len v) (c.try_step.ensures.worn c.in-Worn.is).1, c.loop-held.self.answers.ok.0, c.args.self.now.answers.ok.0, ap (λ (xs : List Answer). length xs) c.loop-held.invariant.same_answers, c.requires.steps_left);
   ended =
       let worn = c.try_step.ensures.worn c.in-Worn.is in
-      end_worn c.args.site.now.limits.steps c.try_step.new.self.pp c.try_step.new.self.answers.items c.try_step.new.self.line.log.entries (λ k. seen_on k c.try_step.new.self.line.view.seen)
+      end_worn c.args.run.now.limits.steps c.try_step.new.self.pp c.try_step.new.self.answers.items c.try_step.new.self.line.log.entries (λ k. seen_on k c.try_step.new.self.line.view.seen)
       (ap (λ p. p.state) (worn.0 ∙ c.loop-held.invariant.same_pp) ∙ c.requires.running)
       (omega (arith, c.args.self.now.answers.ok.0, ap (λ v. length v.items) worn.1, ap (λ (xs : List Answer). length xs) c.loop-held.invariant.same_answers, c.requires.steps_left))
       worn.2;
@@ -97,7 +97,7 @@ returns g c = record {
   one_step = (c.loop-held.invariant.same_pp, c.loop-held.invariant.same_answers);
   patience =
       λ is.
-      let all : c.loop-held.held ≡ c.args.site.now.limits.patience = omega (arith, c.loop-held.auto.held-end, c.patience-held-end.ensures, c.loop-held-test.false) in
+      let all : c.loop-held.held ≡ c.args.run.now.limits.patience = omega (arith, c.loop-held.auto.held-end, c.patience-held-end.ensures, c.loop-held-test.false) in
       let was = c.loop-held.invariant.was (omega (arith, c.patience-held-end.ensures, c.loop-held-test.false)) in
       let now : HasOperated c.loop-held.held c.args.self.now.line c.loop-held.self.line =
       operated_held c.loop-held.held c.args.self.now.pp c.loop-held.self.line.log.entries c.args.self.now.line c.loop-held.self.line
@@ -107,7 +107,7 @@ returns g c = record {
   next_step = tt;
   few = omega (arith, c.loop-held.self.answers.ok.0, c.args.self.now.answers.ok.0, ap (λ (xs : List Answer). length xs) c.loop-held.invariant.same_answers, c.requires.steps_left);
   ended =
-      end_patience c.args.site.now.limits.steps c.loop-held.self.pp c.loop-held.self.answers.items c.loop-held.self.line.log.entries
+      end_patience c.args.run.now.limits.steps c.loop-held.self.pp c.loop-held.self.answers.items c.loop-held.self.line.log.entries
       (ap (λ p. p.state) c.loop-held.invariant.same_pp ∙ c.requires.running)
       (omega (arith, c.args.self.now.answers.ok.0, ap (λ (xs : List Answer). length xs) c.loop-held.invariant.same_answers, c.requires.steps_left))
       (c.loop-held.invariant.was (omega (arith, c.patience-held-end.ensures, c.loop-held-test.false)));

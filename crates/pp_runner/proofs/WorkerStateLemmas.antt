@@ -23,7 +23,7 @@ use Rattle.pp_line.specs.LineState.{LineState}
 use Rattle.pp_line.specs.Order.{entries_among, writes_among}
 use Rattle.pp_runner.proofs.AccessLemmas.{entries_by, made_more, made_still, no_writes, numbered}
 use Rattle.pp_runner.specs.Accesses.{accesses_by}
-use Rattle.pp_runner.specs.Labour.{HasEntries, HasLooked, HasMade, IsAtWork, IsAnswered, IsNoted, IsUnused}
+use Rattle.pp_runner.specs.WorkerState.{HasEntries, HasLooked, HasMade, IsAtWork, IsAnswered, IsNoted, IsUnused}
 use Rattle.pp_runner.specs.End.{WasHeld, NeedsChannel}
 
 -- what stands at a place of one more: what stood there, or the last
