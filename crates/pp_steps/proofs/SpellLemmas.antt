@@ -1,4 +1,4 @@
--- The times that a processor is held, step by step.
+-- The spells in which a processor is held, step by step.
 use Rattle.std.proofs.Common.{◌≡◌, ℕ, zero, suc, ◌+◌, ◌≤◌, Bool, true, false, ◌&&◌, cond, List, [], ◌∷◌, ◌++◌, drop, get_or, refl, sym, ap, ◌∙◌, append-nil, append_assoc, arith}
 use Rattle.std.specs.Prelude.{if◌then◌else◌}
 use Rattle.std.specs.List.{fold, prefix_len}
@@ -6,7 +6,7 @@ use Rattle.std.proofs.lemmas.List.{drop-drop, get_or-drop}
 use Rattle.std.proofs.lemmas.Bool.{and_parts}
 use Rattle.std.specs.Bool.{beq}
 use Rattle.pp_channel.specs.declared.flags.Flags.{Flags}
-use Rattle.pp_steps.specs.HeldRuns.{HeldSpells, current_spell, goes_on, is_held_with, last_of, no_spells, with_step}
+use Rattle.pp_steps.specs.HeldSpells.{Spells, current_spell, continues_spell, is_held_with, last_of, no_spells, with_step}
 use Rattle.pp_steps.specs.StepsText.{line_kind}
 use Rattle.pp_steps.specs.Cursor.{line_at, no_cursor, past_step}
 use Rattle.pp_steps.specs.declared.cursor.Cursor.{Cursor}
@@ -56,16 +56,16 @@ held_counts last (step ∷ steps) = held_counts step steps
 pub first_of : (g : Flags) (steps : List Progress) → prefix_len (is_held_with g) (Held g ∷ steps) ≡ 1 + prefix_len (is_held_with g) steps
 first_of g steps = ap (λ (b : Bool). cond b (1 + prefix_len (is_held_with g) steps) 0) (with_itself g)
 
--- a step that is not held like the last: the last time is over
-over : (last step : Progress) (current : ℕ) (steps : List Progress) → goes_on last step ≡ false
+-- a step that is not held like the last: the last spell is over
+over : (last step : Progress) (current : ℕ) (steps : List Progress) → continues_spell last step ≡ false
     → current_spell last current [] ++ (current_spell step 1 steps ++ held_counts step steps) ≡ current_spell last current (step ∷ steps) ++ held_counts last (step ∷ steps)
 over AtRest (Held g) current steps ends = ap (λ (k : ℕ). k ∷ held_counts (Held g) steps) (sym (first_of g steps))
 over Moved (Held g) current steps ends = ap (λ (k : ℕ). k ∷ held_counts (Held g) steps) (sym (first_of g steps))
 over (Held f) (Held g) current steps ends = grind (arith, with_other, with_itself)
 over other next current steps ends = refl
 
--- a step that is: it belongs to the last time
-longer : (last step : Progress) (current : ℕ) (steps : List Progress) → goes_on last step ≡ true
+-- a step that is: it belongs to the last spell
+longer : (last step : Progress) (current : ℕ) (steps : List Progress) → continues_spell last step ≡ true
     → current_spell step (current + 1) steps ++ held_counts step steps ≡ current_spell last current (step ∷ steps) ++ held_counts last (step ∷ steps)
 longer AtRest AtRest current steps goes = absurd (cc)
 longer AtRest Moved current steps goes = absurd (cc)
@@ -77,7 +77,7 @@ longer (Held f) AtRest current steps goes = absurd (cc)
 longer (Held f) Moved current steps goes = absurd (cc)
 longer (Held f) (Held g) current steps goes = grind (arith, with_same, with_other, held_counts)
 
-one_step : (counts : List ℕ) (current : ℕ) (last step : Progress) (steps : List Progress) (b : Bool) → goes_on last step ≡ b
+one_step : (counts : List ℕ) (current : ℕ) (last step : Progress) (steps : List Progress) (b : Bool) → continues_spell last step ≡ b
     → cond b counts (counts ++ current_spell last current []) ++ (current_spell step (cond b (current + 1) 1) steps ++ held_counts step steps)
     ≡ counts ++ (current_spell last current (step ∷ steps) ++ held_counts last (step ∷ steps))
 one_step counts current last step steps true goes = ap (λ (ks : List ℕ). counts ++ ks) (longer last step current steps goes)
@@ -86,19 +86,19 @@ one_step counts current last step steps false ends =
     ∙ ap (λ (ks : List ℕ). counts ++ ks) (over last step current steps ends)
 
 -- the counts of all steps, those so far and those that follow
-abbrev all_spells : HeldSpells → List Progress → List ℕ
+abbrev all_spells : Spells → List Progress → List ℕ
 all_spells spells steps = spells.counts ++ (current_spell spells.last spells.current steps ++ held_counts spells.last steps)
 
-past_steps : (spells : HeldSpells) (steps : List Progress) → all_spells (fold with_step spells steps) [] ≡ all_spells spells steps
+past_steps : (spells : Spells) (steps : List Progress) → all_spells (fold with_step spells steps) [] ≡ all_spells spells steps
 past_steps spells [] = refl
 past_steps spells (step ∷ steps) =
-    past_steps (with_step spells step) steps ∙ one_step spells.counts spells.current spells.last step steps (goes_on spells.last step) refl
+    past_steps (with_step spells step) steps ∙ one_step spells.counts spells.current spells.last step steps (continues_spell spells.last step) refl
 
 -- a count is that of a stretch
-count_is : (steps : List Progress) (time : ℕ) → let spells = fold with_step no_spells steps in get_or spells.counts time spells.current ≡ get_or (held_counts AtRest steps) time spells.current
-count_is steps time =
+count_is : (steps : List Progress) (spell : ℕ) → let spells = fold with_step no_spells steps in get_or spells.counts spell spells.current ≡ get_or (held_counts AtRest steps) spell spells.current
+count_is steps spell =
     let spells = fold with_step no_spells steps in
-    or_last spells.counts spells.last ∙ ap (λ (ks : List ℕ). get_or ks time spells.current) (past_steps no_spells steps)
+    or_last spells.counts spells.last ∙ ap (λ (ks : List ℕ). get_or ks spell spells.current) (past_steps no_spells steps)
   where
     current : ℕ
     current = (fold with_step no_spells steps).current
@@ -109,25 +109,25 @@ count_is steps time =
     at_end (n ∷ counts) zero = refl
     at_end (n ∷ counts) (suc i) = at_end counts i
 
-    or_last : (counts : List ℕ) (last : Progress) → get_or counts time current ≡ get_or (counts ++ (current_spell last current [] ++ held_counts last [])) time current
-    or_last counts (Held f) = at_end counts time
-    or_last counts other = ap (λ (ks : List ℕ). get_or ks time current) (sym (append-nil counts))
+    or_last : (counts : List ℕ) (last : Progress) → get_or counts spell current ≡ get_or (counts ++ (current_spell last current [] ++ held_counts last [])) spell current
+    or_last counts (Held f) = at_end counts spell
+    or_last counts other = ap (λ (ks : List ℕ). get_or ks spell current) (sym (append-nil counts))
 
 -- ---- the cursor
 
--- the times from the cursor on are those of the steps to come
+-- the spells from the cursor on are those of the steps to come
 abbrev CountsOf : List ℕ → Cursor → List Progress → Type 0
-CountsOf counts cursor steps = drop cursor.times counts ≡ held_counts cursor.last steps
+CountsOf counts cursor steps = drop cursor.spells counts ≡ held_counts cursor.last steps
 
 passes : (counts : List ℕ) (cursor : Cursor) (step : Progress) (steps : List Progress) → CountsOf counts cursor (step ∷ steps) → CountsOf counts (past_step cursor step) steps
 passes counts cursor AtRest steps h = h
 passes counts cursor Moved steps h = h
 passes counts cursor (Held f) steps h = by_test (is_held_with f cursor.last) h
   where
-    by_test : (b : Bool) → drop cursor.times counts ≡ cond b (held_counts (Held f) steps) (prefix_len (is_held_with f) (Held f ∷ steps) ∷ held_counts (Held f) steps)
-        → drop (cond b cursor.times (cursor.times + 1)) counts ≡ held_counts (Held f) steps
+    by_test : (b : Bool) → drop cursor.spells counts ≡ cond b (held_counts (Held f) steps) (prefix_len (is_held_with f) (Held f ∷ steps) ∷ held_counts (Held f) steps)
+        → drop (cond b cursor.spells (cursor.spells + 1)) counts ≡ held_counts (Held f) steps
     by_test true h = h
-    by_test false h = sym (drop-drop 1 cursor.times counts) ∙ ap (drop 1) h
+    by_test false h = sym (drop-drop 1 cursor.spells counts) ∙ ap (drop 1) h
 
 all_pass : (counts : List ℕ) (cursor : Cursor) (own coming : List Progress) → CountsOf counts cursor (own ++ coming) → CountsOf counts (fold past_step cursor own) coming
 all_pass counts cursor [] coming h = h
@@ -153,19 +153,19 @@ line_is own (Held f) coming =
     by_test last cursor is h true e = rw (is, e) refl
     by_test last cursor is h false e =
         let spells = fold with_step no_spells all in
-        let same : cursor.times ≡ cursor.times + 0 = omega arith in
-        let here : drop cursor.times (held_counts AtRest all) ≡ prefix_len (is_held_with f) (Held f ∷ coming) ∷ held_counts (Held f) coming = rw (is, e) at h in
-        let count : get_or spells.counts cursor.times spells.current ≡ 1 + prefix_len (is_held_with f) coming =
-        count_is all cursor.times ∙ ap (λ (i : ℕ). get_or (held_counts AtRest all) i spells.current) same
-        ∙ sym (get_or-drop cursor.times (held_counts AtRest all) 0 spells.current) ∙ ap (λ (ks : List ℕ). get_or ks 0 spells.current) here ∙ first_of f coming in
+        let same : cursor.spells ≡ cursor.spells + 0 = omega arith in
+        let here : drop cursor.spells (held_counts AtRest all) ≡ prefix_len (is_held_with f) (Held f ∷ coming) ∷ held_counts (Held f) coming = rw (is, e) at h in
+        let count : get_or spells.counts cursor.spells spells.current ≡ 1 + prefix_len (is_held_with f) coming =
+        count_is all cursor.spells ∙ ap (λ (i : ℕ). get_or (held_counts AtRest all) i spells.current) same
+        ∙ sym (get_or-drop cursor.spells (held_counts AtRest all) 0 spells.current) ∙ ap (λ (ks : List ℕ). get_or ks 0 spells.current) here ∙ first_of f coming in
         rw (is, e, count) refl
 
 -- ---- no more than the steps
 
-pub current_grows : (spells : HeldSpells) (step : Progress) → (with_step spells step).current ≤ spells.current + 1
+pub current_grows : (spells : Spells) (step : Progress) → (with_step spells step).current ≤ spells.current + 1
 current_grows spells step = grind arith
 
-pub times_grow : (cursor : Cursor) (step : Progress) → (past_step cursor step).times ≤ cursor.times + 1
-times_grow cursor AtRest = omega arith
-times_grow cursor Moved = omega arith
-times_grow cursor (Held f) = grind arith
+pub spells_grow : (cursor : Cursor) (step : Progress) → (past_step cursor step).spells ≤ cursor.spells + 1
+spells_grow cursor AtRest = omega arith
+spells_grow cursor Moved = omega arith
+spells_grow cursor (Held f) = grind arith

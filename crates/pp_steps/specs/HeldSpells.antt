@@ -1,4 +1,4 @@
--- How long a processor is held each time.
+-- How long a processor is held, spell by spell.
 use Rattle.std.specs.Prelude.{ℕ, ◌+◌, Bool, false, ◌&&◌, List, [], ◌∷◌, ◌++◌, if◌then◌else◌}
 use Rattle.std.specs.Bool.{beq}
 use Rattle.std.specs.List.{fold, prefix_len}
@@ -18,38 +18,38 @@ is_held_with flags (Held others) = beq flags.active others.active && beq flags.f
 is_held_with flags step = false
 
 -- whether a step is held like the last one
-abbrev pub goes_on : Progress → Progress → Bool
-goes_on last (Held flags) = is_held_with flags last
-goes_on last step = false
+abbrev pub continues_spell : Progress → Progress → Bool
+continues_spell last (Held flags) = is_held_with flags last
+continues_spell last step = false
 
 -- the last of some steps, or one at rest where there is none
 abbrev pub last_of : List Progress → Progress
 last_of steps = fold (λ last step. step) AtRest steps
 
--- the times that a processor was held so far: how many steps each took that is over, how many the
--- last, and the last step
-pub record HeldSpells : Type 0 where
+-- the spells in which a processor was held so far: how many steps each took that is over, how many
+-- the last, and the last step
+pub record Spells : Type 0 where
   pub counts : List ℕ
   pub current : ℕ
   pub last : Progress
 
--- the last time, with the steps that follow
+-- the last spell, with the steps that follow
 abbrev pub current_spell : Progress → ℕ → List Progress → List ℕ
 current_spell (Held flags) current steps = (current + prefix_len (is_held_with flags) steps) ∷ []
 current_spell step current steps = []
 
 -- with one step more
-abbrev pub with_step : HeldSpells → Progress → HeldSpells
+abbrev pub with_step : Spells → Progress → Spells
 with_step spells step = record {
   counts =
-      if goes_on spells.last step then spells.counts
+      if continues_spell spells.last step then spells.counts
       else spells.counts ++ current_spell spells.last spells.current [];
-  current = if goes_on spells.last step then spells.current + 1 else 1;
+  current = if continues_spell spells.last step then spells.current + 1 else 1;
   last = step;
 }
 
 -- a processor without steps
-abbrev pub no_spells : HeldSpells
+abbrev pub no_spells : Spells
 no_spells = record { counts = []; current = 0; last = AtRest }
 
 -- the steps of each processor, folded by `next` from `first`, in the order of the barrel. (Private
@@ -57,6 +57,6 @@ no_spells = record { counts = []; current = 0; last = AtRest }
 abbrev pub each_after : {X : Type 0} → (X → Progress → X) → X → List RunStep → List X
 each_after next first steps = each_processor (λ n. fold next first (seen_of progress_of n steps))
 
--- the times of each processor in some steps
-abbrev pub each_spells : List RunStep → List HeldSpells
+-- the spells of each processor in some steps
+abbrev pub each_spells : List RunStep → List Spells
 each_spells steps = each_after with_step no_spells steps

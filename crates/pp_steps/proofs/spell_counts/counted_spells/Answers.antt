@@ -8,12 +8,12 @@ use Rattle.pp_machine.proofs.RunLemmas.{run_more}
 use Rattle.pp_run.specs.BareMachine.{StandsFor}
 use Rattle.pp_run.specs.RunSteps.{RunStep}
 use Rattle.pp_steps.specs.Choice.{chosen_steps, is_chosen}
-use Rattle.pp_steps.specs.HeldRuns.{HeldSpells, each_spells, no_spells, with_step}
+use Rattle.pp_steps.specs.HeldSpells.{Spells, each_spells, no_spells, with_step}
 use Rattle.pp_steps.proofs.ChosenSteps.{chosen_more, few_chosen, step_in}
-use Rattle.pp_steps.proofs.CountedRuns.{made_few, made_here, made_more, none_made}
-use Rattle.pp_steps.proofs.RunCountLemmas.{current_grows}
-use Rattle.pp_steps.proofs.run_counts.counted_runs.Goals as goal
-use Rattle.pp_steps.proofs.run_counts.counted_runs.Goals.{then-is_chosen+in_ok-note, else-is_chosen}
+use Rattle.pp_steps.proofs.CountedSpells.{made_few, made_here, made_more, none_made}
+use Rattle.pp_steps.proofs.SpellLemmas.{current_grows}
+use Rattle.pp_steps.proofs.spell_counts.counted_spells.Goals as goal
+use Rattle.pp_steps.proofs.spell_counts.counted_spells.Goals.{then-is_chosen+in_ok-note, else-is_chosen}
 
 pub loop-n-init : goal.loop-n-init
 loop-n-init g c = grind (arith, none_made)
@@ -25,11 +25,11 @@ note-requires g c =
     let t = c.loop-n.n-index in
     let n = c.n-item.result in
     let past = chosen_steps c.args.choice.now (take t order) m in
-    let here = made_here with_step no_spells c.index_mut.result.now c.loop-n.runs.items past n c.index.result c.index.ensures.place c.index.ensures.below c.loop-n.invariant.counted c.index_mut.ensures.value in
+    let here = made_here with_step no_spells c.index_mut.result.now c.loop-n.spells.items past n c.index.result c.index.ensures.place c.index.ensures.below c.loop-n.invariant.counted c.index_mut.ensures.value in
     omega (
       arith,
-      ap (λ (x : HeldSpells). x.current) here,
-      made_few with_step no_spells (λ (x : HeldSpells). x.current) current_grows c.loop-n.runs.items past n c.step-step.ensures.within c.loop-n.invariant.counted,
+      ap (λ (x : Spells). x.current) here,
+      made_few with_step no_spells (λ (x : Spells). x.current) current_grows c.loop-n.spells.items past n c.step-step.ensures.within c.loop-n.invariant.counted,
       few_chosen c.args.choice.now order t m,
       c.loop-n-test.true,
       c.processors-n-items.ensures.few,
@@ -55,11 +55,11 @@ loop-n-preserved g c =
       stands = subst (λ (x : MachineState). StandsFor c.step-step.new.self x) (sym after) (c.step-step.ensures.stepped old c.loop-n.invariant.stands);
       counted = (elim c.if-is_chosen.branch [
         | then-is_chosen+in_ok-note w ↦
-            let here = made_here with_step no_spells w.index_mut.result.now c.loop-n.runs.items past n w.index.result w.index.ensures.place w.index.ensures.below c.loop-n.invariant.counted w.index_mut.ensures.value in
-            rw (w.runs-is, w.if-is_chosen.true, w.in_ok-note.ensures, here, w.index.ensures.place)
-        | else-is_chosen w ↦ rw (w.runs-is, w.if-is_chosen.false)
+            let here = made_here with_step no_spells w.index_mut.result.now c.loop-n.spells.items past n w.index.result w.index.ensures.place w.index.ensures.below c.loop-n.invariant.counted w.index_mut.ensures.value in
+            rw (w.spells-is, w.if-is_chosen.true, w.in_ok-note.ensures, here, w.index.ensures.place)
+        | else-is_chosen w ↦ rw (w.spells-is, w.if-is_chosen.false)
       ])
-          ∙ made_more with_step no_spells c.loop-n.runs.items c.has-is_chosen.result past step c.step-step.result place (c.step-step.ensures.progress old c.loop-n.invariant.stands) c.loop-n.invariant.counted
+          ∙ made_more with_step no_spells c.loop-n.spells.items c.has-is_chosen.result past step c.step-step.result place (c.step-step.ensures.progress old c.loop-n.invariant.stands) c.loop-n.invariant.counted
           ∙ ap each_spells (ap (λ (b : Bool). cond b (past ++ step ∷ []) past) chosen ∙ chosen_more choice order t m n few is);
     }
 

@@ -3,44 +3,44 @@
 ghost use Rattle.std.specs.Prelude.{◌≡◌, IfOk, replicate};
 ghost use Rattle.pp_numbers.specs.PpNo.{processor_count};
 ghost use Rattle.pp_steps.specs.Choice.{chosen_steps};
-ghost use Rattle.pp_steps.specs.HeldRuns.{each_spells, no_spells};
+ghost use Rattle.pp_steps.specs.HeldSpells.{each_spells, no_spells};
 
 use crate::Choice;
-use crate::held_runs::HeldRuns;
+use crate::held_spells::HeldSpells;
 use pp_channel::Memory;
 use pp_machine::{Machine, PROCESSORS};
 use pp_run::{BareMachine, Order};
 use std::alloc::Allocator;
 
-/// How long each processor is held each time, in the steps chosen of a run in this order.
-pub(crate) fn counted_runs<A: Allocator + Copy>(
+/// How long each processor is held, spell by spell, in the steps chosen of a run in this order.
+pub(crate) fn counted_spells<A: Allocator + Copy>(
     alloc: A,
     machine: &Machine<A>,
     choice: &Choice,
     order: &Order<A>,
-) -> Result<Vec<HeldRuns<A>, A>, Memory>
-    ensures { IfOk result (λ runs. runs.items
+) -> Result<Vec<HeldSpells<A>, A>, Memory>
+    ensures { IfOk result (λ spells. spells.items
         ≡ each_spells (chosen_steps choice.now order.now machine.now)) }
 {
-    let mut runs = no_runs(alloc)?;
+    let mut spells = without_spells(alloc)?;
     let mut bare = BareMachine::of(alloc, machine)?;
     for n in order.processors() {
         let is_chosen = choice.has(&bare, *n);
         let step = bare.step(*n);
         if is_chosen {
-            runs[n.index()].note(step)?;
+            spells[n.index()].note(step)?;
         }
     }
-    Ok(runs)
+    Ok(spells)
 }
 
 /// Those of processors without steps.
-fn no_runs<A: Allocator + Copy>(alloc: A) -> Result<Vec<HeldRuns<A>, A>, Memory>
-    ensures { IfOk result (λ runs. runs.items ≡ replicate processor_count no_spells) }
+fn without_spells<A: Allocator + Copy>(alloc: A) -> Result<Vec<HeldSpells<A>, A>, Memory>
+    ensures { IfOk result (λ spells. spells.items ≡ replicate processor_count no_spells) }
 {
-    let mut runs = Vec::with_capacity(alloc, PROCESSORS)?;
+    let mut spells = Vec::with_capacity(alloc, PROCESSORS)?;
     for _ in 0..PROCESSORS {
-        runs.push(HeldRuns::new(alloc))?;
+        spells.push(HeldSpells::new(alloc))?;
     }
-    Ok(runs)
+    Ok(spells)
 }

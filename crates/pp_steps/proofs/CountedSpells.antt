@@ -8,7 +8,7 @@ use Rattle.pp_numbers.proofs.TableLemmas.{length-tabulate, tabulate_const}
 use Rattle.pp_numbers.specs.PpNo.{processor_count, processor_index, processor_number}
 use Rattle.pp_run.specs.RunSteps.{RunStep, seen_of}
 use Rattle.pp_run.proofs.RunStepLemmas.{counted_at, counted_more, few_seen}
-use Rattle.pp_steps.specs.HeldRuns.{each_after, progress_of}
+use Rattle.pp_steps.specs.HeldSpells.{each_after, progress_of}
 use Rattle.pp_run.specs.declared.progress.Progress.{Progress}
 
 pub none_made : {X : Type 0} (next : X → Progress → X) (first : X) → replicate processor_count first ≡ each_after next first []
