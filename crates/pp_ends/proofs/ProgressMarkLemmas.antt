@@ -1,6 +1,6 @@
 -- A step after which its processor stands the same leaves it as it was.
 use Rattle.std.proofs.Common.{◌≡◌, ◌≢◌, ℕ, ◌-◌, ◌<◌, ◌==◌, Bool, true, false, length, refl, sym, ap, slice_set, ◌∙◌, arith}
-use Rattle.std.specs.Prelude.{Option, Some, None, if◌then◌else◌}
+use Rattle.std.specs.Prelude.{Some, None, if◌then◌else◌}
 use Rattle.std.proofs.lemmas.Bool.{cases_lt}
 use Rattle.std.proofs.lemmas.List.{get_or-set_same, set-get_or, set_past}
 use Rattle.pp_word.specs.Address.{next_place, place_after, place_count}
@@ -10,23 +10,23 @@ use Rattle.pp_processor.specs.Effect.{goes_to}
 use Rattle.pp_processor.specs.NeedAndEffect.{processor_after}
 use Rattle.pp_processor.specs.PpMemory.{IsMemory}
 use Rattle.pp_processor.specs.Processor.{Processor, is_running}
-use Rattle.pp_processor.specs.declared.{answer.Answer.Answer, block.Block.Block, block.BlockKind.BlockKind}
+use Rattle.pp_processor.specs.declared.{answer.Answer.Answer, block.BlockKind.BlockKind}
 use Rattle.pp_processor.specs.declared.block.BlockKind.TheVariants.{CentralIn, CentralOut, Input, Output}
 use Rattle.pp_processor.specs.declared.pp_state.PpState.TheVariants.{Running}
 use Rattle.pp_processor.proofs.EachStep.{Leaves, Steps, either, leaves}
-use Rattle.pp_ends.specs.declared.stand.Stand.{Stand}
-use Rattle.pp_ends.specs.Stand.{next_in, stand_of}
+use Rattle.pp_ends.specs.declared.progress_mark.ProgressMark.{ProgressMark}
+use Rattle.pp_ends.specs.ProgressMark.{next_in, mark_of}
 use Rattle.pp_ends.proofs.MoveLemmas.{goes_by, five_on}
 
 -- if it stands the same, it is the same
 abbrev Stays : Processor → Processor → Type 0
-Stays pp after = stand_of after ≡ stand_of pp → after ≡ pp
+Stays pp after = mark_of after ≡ mark_of pp → after ≡ pp
 
-same_p : (pp after : Processor) → stand_of after ≡ stand_of pp → after.p ≡ pp.p
-same_p pp after e = ap (λ (s : Stand). s.p) e
+same_p : (pp after : Processor) → mark_of after ≡ mark_of pp → after.p ≡ pp.p
+same_p pp after e = ap (λ (s : ProgressMark). s.p) e
 
-same_block : (pp after : Processor) → stand_of after ≡ stand_of pp → next_in after.block ≡ next_in pp.block
-same_block pp after e = ap (λ (s : Stand). s.block) e
+same_block : (pp after : Processor) → mark_of after ≡ mark_of pp → next_in after.block ≡ next_in pp.block
+same_block pp after e = ap (λ (s : ProgressMark). s.block) e
 
 -- P has gone on
 goes_stays : (pp after : Processor) (n : ℕ) → 0 < n → n < 3 → after.p ≡ place_after pp.p n
@@ -42,7 +42,7 @@ to_stays pp target e = ap (λ (p : ℕ). goes_to pp p) (same_p pp (goes_to pp ta
 -- it no longer runs
 ends_stays : (pp after : Processor) → pp.state ≡ Running → is_running after.state ≡ false → Stays pp after
 ends_stays pp after runs ended e =
-    let bad : false ≡ true = sym ended ∙ ap (λ (s : Stand). s.running) e ∙ ap is_running runs in absurd (cc)
+    let bad : false ≡ true = sym ended ∙ ap (λ (s : ProgressMark). s.running) e ∙ ap is_running runs in absurd (cc)
 
 -- a return jump
 calls_stays : (pp : Processor) (target word : ℕ) → length pp.memory ≡ place_count
@@ -100,6 +100,6 @@ steps_stay pp places runs = record {
 }
 
 pub stands_still : (pp : Processor) (answer : Answer) → IsMemory pp.memory
-    → stand_of (processor_after pp answer) ≡ stand_of pp → processor_after pp answer ≡ pp
+    → mark_of (processor_after pp answer) ≡ mark_of pp → processor_after pp answer ≡ pp
 stands_still pp answer memory =
     leaves pp (λ place. Unit {0}) (Stays pp) (λ e. refl) answer (steps_stay pp memory.each_place) tt

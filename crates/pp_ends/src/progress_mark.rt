@@ -2,7 +2,7 @@
 
 ghost use Rattle.std.specs.Prelude.{◌≡◌, ◌↔◌, IsTrue};
 ghost use Rattle.pp_processor.specs.Processor.{IsProcessor};
-ghost use Rattle.pp_ends.specs.Stand.{next_in, stand_of};
+ghost use Rattle.pp_ends.specs.ProgressMark.{next_in, mark_of};
 
 use pp_machine::{Block, Pp};
 use pp_word::Word12;
@@ -10,7 +10,7 @@ use pp_word::Word12;
 /// Where a processor stands: a step that moves changes some of this. So a step need not be compared
 /// by the whole memory before and after it.
 #[derive(Clone, Copy, PartialEq, Eq)]
-pub struct Stand {
+pub struct ProgressMark {
     pub(crate) p: Word12,
     pub(crate) running: bool,
     /// The next place of a block in progress.
@@ -19,15 +19,15 @@ pub struct Stand {
     pub(crate) before: Word12,
 }
 
-impl Stand {
+impl ProgressMark {
     /// Where a processor stands now.
-    pub fn of(pp: &Pp) -> Stand
-        ensures stand { result ≡ stand_of pp.now }
+    pub fn of(pp: &Pp) -> ProgressMark
+        ensures mark { result ≡ mark_of pp.now }
         ensures widths { IsProcessor pp.now }
     {
         let p = pp.p();
         let place = Word12::truncated(u32::from(p.get()) + 0o7777);
-        Stand {
+        ProgressMark {
             p,
             running: pp.state().is_running(),
             block: next_in(&pp.block()),
@@ -36,7 +36,7 @@ impl Stand {
     }
 
     /// Whether it is the same as another.
-    pub fn is_same(&self, other: &Stand) -> bool
+    pub fn is_same(&self, other: &ProgressMark) -> bool
         ensures { IsTrue result ↔ (self.now ≡ other.now) }
     {
         *self == *other

@@ -43,14 +43,14 @@ impl Spot {
 /// The last spots at which two machines differed that stood alike elsewhere, so that whole memories
 /// are seldom compared.
 #[derive(Clone, Copy)]
-pub(crate) struct Spots {
+pub(crate) struct RecentMismatches {
     spots: [Spot; KEPT],
     next: usize,
 }
 
-impl Spots {
-    pub(crate) fn new() -> Spots {
-        Spots {
+impl RecentMismatches {
+    pub(crate) fn new() -> RecentMismatches {
+        RecentMismatches {
             spots: [Spot::FIRST; KEPT],
             next: 0,
         }

@@ -9,8 +9,8 @@ use Rattle.pp_machine.specs.Run.{barrel}
 use Rattle.pp_machine.proofs.RunLemmas.{barrel_more, length-barrel}
 use Rattle.pp_ends.specs.Endings.{IsStillFrom, TellsMove, WaitsAt, after_turns}
 use Rattle.pp_ends.proofs.StillLemmas.{still_after, still_more, turn_read}
-use Rattle.pp_ends.proofs.run.run_telling.Goals as goal
-use Rattle.pp_ends.proofs.run.run_telling.Goals.{then-step_telling, else-step_telling}
+use Rattle.pp_ends.proofs.run.run_to_last_move.Goals as goal
+use Rattle.pp_ends.proofs.run.run_to_last_move.Goals.{then-step_moves, else-step_moves}
 
 pub loop-turn-preserved : goal.loop-turn-preserved
 loop-turn-preserved g c =
@@ -19,18 +19,18 @@ loop-turn-preserved g c =
     λ turns m are. turn_read c.args.order.now m.profile turns turn c.index-order-turn.result are c.loop-turn-test.true c.index-order-turn.is in
     record {
       ran = λ turns m are stands.
-          subst (λ (k : MachineState). StandsFor c.step_telling.new.bare k)
+          subst (λ (k : MachineState). StandsFor c.step_moves.new.bare k)
           (ap (λ (n : ℕ). stepped n (after_turns turn m)) (is turns m are) ∙ sym (barrel_more m.profile turn m))
-          (c.step_telling.ensures.stepped (after_turns turn m) (c.loop-turn.invariant.ran turns m are stands));
+          (c.step_moves.ensures.stepped (after_turns turn m) (c.loop-turn.invariant.ran turns m are stands));
       still = λ turns m are stands.
-          let told = subst (λ (n : ℕ). TellsMove c.step_telling.result n (after_turns turn m)) (is turns m are)
-          (c.step_telling.ensures.moved (after_turns turn m) (c.loop-turn.invariant.ran turns m are stands)) in
-          elim c.if-step_telling.branch [
-            | then-step_telling w ↦
+          let told = subst (λ (n : ℕ). TellsMove c.step_moves.result n (after_turns turn m)) (is turns m are)
+          (c.step_moves.ensures.moved (after_turns turn m) (c.loop-turn.invariant.ran turns m are stands)) in
+          elim c.if-step_moves.branch [
+            | then-step_moves w ↦
                 subst (λ (t : ℕ). IsStillFrom t (turn + 1) m) (sym w.from-is)
-                (still_after turn m (told.moves w.if-step_telling.true))
-            | else-step_telling w ↦
-                let waits = subst (λ (b : Bool). OnFalse b (WaitsAt turn m)) w.if-step_telling.false told.waits in
+                (still_after turn m (told.moves w.if-step_moves.true))
+            | else-step_moves w ↦
+                let waits = subst (λ (b : Bool). OnFalse b (WaitsAt turn m)) w.if-step_moves.false told.waits in
                 subst (λ (t : ℕ). IsStillFrom t (turn + 1) m) (sym w.from-is)
                 (still_more c.loop-turn.from turn m (c.loop-turn.invariant.still turns m are stands) waits)
           ];

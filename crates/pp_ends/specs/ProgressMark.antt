@@ -4,7 +4,7 @@ use Rattle.std.specs.Prelude.{ℕ, ◌+◌, ◌%◌, Option, None, Some}
 use Rattle.pp_word.specs.Address.{place_count}
 use Rattle.pp_processor.specs.Processor.{Processor, is_running, word_at}
 use Rattle.pp_processor.specs.declared.block.Block.{Block}
-use Rattle.pp_ends.specs.declared.stand.Stand.{Stand}
+use Rattle.pp_ends.specs.declared.progress_mark.ProgressMark.{ProgressMark}
 
 -- the place before this one: 7777 (octal) comes before 0000
 abbrev pub place_before : ℕ → ℕ
@@ -17,8 +17,8 @@ next_in (Some block) = Some block.place
 
 -- A return jump to itself stores before P, and changes nothing else; every other step that moves
 -- changes P, the block or the state
-abbrev pub stand_of : Processor → Stand
-stand_of pp = record {
+abbrev pub mark_of : Processor → ProgressMark
+mark_of pp = record {
   p = pp.p;
   running = is_running pp.state;
   block = next_in pp.block;
