@@ -10,10 +10,10 @@ use Rattle.pp_channel.specs.Answer.{channel_state}
 use Rattle.pp_channel.specs.History.{IsLawful}
 use Rattle.pp_channel.specs.declared.{channel_state.ChannelState.ChannelState, event.Event.Event}
 use Rattle.pp_channel.specs.declared.event.Event.TheVariants.{Activate}
-use Rattle.pp_check.specs.Judge.{Happens, IsRead, Keeps, KeepsEvents, standing, standing_of}
+use Rattle.pp_check.specs.Judge.{Happens, IsRead, Keeps, KeepsEvents, tally, tally_of}
 use Rattle.pp_check.specs.LawfulTrace.{Fits, IsLawfulTrace, event_on, events_on, history, is_opened, last_turn, turn_of}
 use Rattle.pp_check.specs.Verdict.{begins_session, is_activate, tells_event}
-use Rattle.pp_check.specs.declared.{judge.Judge.Judge, standing.Standing.Standing, trace_fault.TraceFlaw.TraceFlaw, trace_line.TraceLine.TraceLine}
+use Rattle.pp_check.specs.declared.{judge.Judge.Judge, channel_tally.ChannelTally.ChannelTally, trace_fault.TraceFlaw.TraceFlaw, trace_line.TraceLine.TraceLine}
 use Rattle.pp_check.specs.declared.trace_line.TraceLine.TheVariants as says
 use Rattle.pp_check.proofs.TraceLemmas.{events_more, events_same, history_more, history_same, last_turn_same, lawful_push}
 
@@ -48,9 +48,9 @@ event_line c e line is = absurd cc
 
 -- ---- a line without an event
 
-pub standing_same : (opened : List Bool) (lines : List TraceLine) (line : TraceLine) (c : ℕ) → event_on c line ≡ None → standing opened (lines ++ line ∷ []) c ≡ standing opened lines c
-unfolding standing
-standing_same opened lines line c none = grind (arith, history_same, events_same)
+pub tally_same : (opened : List Bool) (lines : List TraceLine) (line : TraceLine) (c : ℕ) → event_on c line ≡ None → tally opened (lines ++ line ∷ []) c ≡ tally opened lines c
+unfolding tally
+tally_same opened lines line c none = grind (arith, history_same, events_same)
 
 -- a line that tells no event
 pub record TellsNone (line : TraceLine) : Type 0 where
@@ -66,7 +66,7 @@ keeps_without_event opened lines judge line k fits none = record {
         let P : List Event → Type 0 = λ h. IsLawful h in
         subst P (sym (history_same opened lines line c (none.event c))) (k.kept.lawful.histories c));
     each_channel = k.kept.each_channel;
-    channels = λ c names. k.kept.channels c names ∙ sym (standing_same opened lines line c (none.event c));
+    channels = λ c names. k.kept.channels c names ∙ sym (tally_same opened lines line c (none.event c));
     events = let more = count_more tells_event lines line in k.kept.events ∙ sym (more ∙ ap (λ (b : Bool). count_by tells_event lines + (if b then 1 else 0)) none.told ∙ add-zero (count_by tells_event lines));
     sessions = let more = count_more begins_session lines line in k.kept.sessions ∙ sym (more ∙ ap (λ (b : Bool). count_by begins_session lines + (if b then 1 else 0)) none.begins ∙ add-zero (count_by begins_session lines));
   };
@@ -82,20 +82,20 @@ state_told channel state = record { event = λ c. refl; turn = refl; told = refl
 -- ---- a line with an event
 
 -- what is kept of a channel after one event more
-abbrev pub standing_after : Standing → ChannelState → Standing
-standing_after s state = record { state = state; events = s.events + 1; is_opened = s.is_opened }
+abbrev pub tally_after : ChannelTally → ChannelState → ChannelTally
+tally_after s state = record { state = state; events = s.events + 1; is_opened = s.is_opened }
 
-pub standing_more : (opened : List Bool) (lines : List TraceLine) (line : TraceLine) (c : ℕ) (e : Event) → event_on c line ≡ Some e → standing opened (lines ++ line ∷ []) c ≡ standing_after (standing opened lines c) (channel_state (history opened lines c ++ e ∷ []))
-unfolding standing
-standing_more opened lines line c e is = grind (arith, history_more, events_more, length_push)
+pub tally_more : (opened : List Bool) (lines : List TraceLine) (line : TraceLine) (c : ℕ) (e : Event) → event_on c line ≡ Some e → tally opened (lines ++ line ∷ []) c ≡ tally_after (tally opened lines c) (channel_state (history opened lines c ++ e ∷ []))
+unfolding tally
+tally_more opened lines line c e is = grind (arith, history_more, events_more, length_push)
 
-module _ (opened : List Bool) (lines : List TraceLine) (standings : List Standing) (line : TraceLine) (c : ℕ) (e : Event) (is : event_on c line ≡ Some e) (names : IsTrue (names_channel c)) (all : length standings ≡ channel_count) where
-  next : ChannelState → List Standing
-  next state = slice_set standings (channel_index c) (standing_after (standing_of standings c) state)
+module _ (opened : List Bool) (lines : List TraceLine) (tallies : List ChannelTally) (line : TraceLine) (c : ℕ) (e : Event) (is : event_on c line ≡ Some e) (names : IsTrue (names_channel c)) (all : length tallies ≡ channel_count) where
+  next : ChannelState → List ChannelTally
+  next state = slice_set tallies (channel_index c) (tally_after (tally_of tallies c) state)
 
-  pub standings_more : (state : ChannelState) → state ≡ channel_state (history opened lines c ++ e ∷ []) → ((d : ℕ) → IsTrue (names_channel d) → standing_of standings d ≡ standing opened lines d)
-      → (d : ℕ) → IsTrue (names_channel d) → standing_of (slice_set standings (channel_index c) (standing_after (standing_of standings c) state)) d ≡ standing opened (lines ++ line ∷ []) d
-  standings_more state same kept d named = grind (arith, cases_eq, standing_after, get_or-set_same, channel_places.place_below, standing_more, get_or-set_other, channel_places.one_place, standing_same, event_line)
+  pub tallies_more : (state : ChannelState) → state ≡ channel_state (history opened lines c ++ e ∷ []) → ((d : ℕ) → IsTrue (names_channel d) → tally_of tallies d ≡ tally opened lines d)
+      → (d : ℕ) → IsTrue (names_channel d) → tally_of (slice_set tallies (channel_index c) (tally_after (tally_of tallies c) state)) d ≡ tally opened (lines ++ line ∷ []) d
+  tallies_more state same kept d named = grind (arith, cases_eq, tally_after, get_or-set_same, channel_places.place_below, tally_more, get_or-set_other, channel_places.one_place, tally_same, event_line)
 
   histories_more : IsLawful (history opened lines c ++ e ∷ []) → IsLawfulTrace opened lines → (d : ℕ) → IsLawful (history opened (lines ++ line ∷ []) d)
   histories_more more lawful d = elim (cases_eq d c) [
@@ -107,14 +107,14 @@ module _ (opened : List Bool) (lines : List TraceLine) (standings : List Standin
         subst P (sym (history_same opened lines line d ((event_line c e line is).elsewhere d other))) (lawful.histories d)
   ]
 
-  pub keeps_event : (events sessions : ℕ) (state : ChannelState) → KeepsEvents opened lines standings events sessions → Fits opened lines line → IsLawful (history opened lines c ++ e ∷ []) → state ≡ channel_state (history opened lines c ++ e ∷ [])
-      → KeepsEvents opened (lines ++ line ∷ []) (slice_set standings (channel_index c) (standing_after (standing_of standings c) state)) (events + 1) (sessions + (if is_activate e then 1 else 0))
+  pub keeps_event : (events sessions : ℕ) (state : ChannelState) → KeepsEvents opened lines tallies events sessions → Fits opened lines line → IsLawful (history opened lines c ++ e ∷ []) → state ≡ channel_state (history opened lines c ++ e ∷ [])
+      → KeepsEvents opened (lines ++ line ∷ []) (slice_set tallies (channel_index c) (tally_after (tally_of tallies c) state)) (events + 1) (sessions + (if is_activate e then 1 else 0))
   keeps_event events sessions state k fits more same =
       let a_line = event_line c e line is in
       record {
         lawful = lawful_push opened lines line k.lawful fits (histories_more more k.lawful);
-        each_channel = length-set standings (channel_index c) (standing_after (standing_of standings c) state) ∙ all;
-        channels = standings_more state same k.channels;
+        each_channel = length-set tallies (channel_index c) (tally_after (tally_of tallies c) state) ∙ all;
+        channels = tallies_more state same k.channels;
         events = ap (λ (n : ℕ). n + 1) k.events ∙ sym (count_more tells_event lines line ∙ ap (λ (b : Bool). count_by tells_event lines + (if b then 1 else 0)) a_line.told);
         sessions = ap (λ (n : ℕ). n + (if is_activate e then 1 else 0)) k.sessions ∙ sym (count_more begins_session lines line ∙ ap (λ (b : Bool). count_by begins_session lines + (if b then 1 else 0)) a_line.begins);
       }
@@ -126,11 +126,11 @@ length_opening true e es = grind (arith, length-append)
 length_opening false e es = refl
 
 -- the number of a channel's next event
-abbrev pub next_number : Standing → ℕ
+abbrev pub next_number : ChannelTally → ℕ
 next_number s = if s.is_opened then s.events + 1 else s.events
 
-pub next_number_is : (opened : List Bool) (lines : List TraceLine) (c : ℕ) → next_number (standing opened lines c) ≡ length (history opened lines c)
-unfolding standing
+pub next_number_is : (opened : List Bool) (lines : List TraceLine) (c : ℕ) → next_number (tally opened lines c) ≡ length (history opened lines c)
+unfolding tally
 next_number_is opened lines c = sym (length_opening (is_opened opened c) Activate (events_on c lines))
 
 -- ---- bounds
@@ -155,8 +155,8 @@ some_events c (line ∷ lines) =
     let more = event_by_line c line (filter_map (event_on c) lines) (count_by tells_event lines) (some_events c lines) in
     subst (λ (n : ℕ). length (cons_option (event_on c line) (filter_map (event_on c) lines)) ≤ n) (sym (count_first tells_event line lines)) more
 
-pub few_events : (opened : List Bool) (lines : List TraceLine) (judge : Judge) (c : ℕ) → KeepsEvents opened lines judge.channels judge.events judge.sessions → IsTrue (names_channel c) → (standing_of judge.channels c).events ≤ judge.events
-unfolding standing
+pub few_events : (opened : List Bool) (lines : List TraceLine) (judge : Judge) (c : ℕ) → KeepsEvents opened lines judge.channels judge.events judge.sessions → IsTrue (names_channel c) → (tally_of judge.channels c).events ≤ judge.events
+unfolding tally
 few_events opened lines judge c k names = grind (arith, some_events)
 
 session_by_test : (b : Bool) (m n : ℕ) → m ≤ n → (if b then 1 else 0) + m ≤ 1 + n
@@ -177,11 +177,11 @@ few_sessions (line ∷ lines) =
 
 -- ---- what is read and written at a channel's place
 
-pub read_standing : (standings : List Standing) (c place : ℕ) (s : Standing) → s ≡ get_or standings place s → place ≡ channel_index c → place < channel_count → length standings ≡ channel_count → get_or standings place s ≡ standing_of standings c
-read_standing standings c place s read at below all = grind (arith, get_or_read)
+pub read_tally : (tallies : List ChannelTally) (c place : ℕ) (s : ChannelTally) → s ≡ get_or tallies place s → place ≡ channel_index c → place < channel_count → length tallies ≡ channel_count → get_or tallies place s ≡ tally_of tallies c
+read_tally tallies c place s read at below all = grind (arith, get_or_read)
 
-pub kept_as : (opened : List Bool) (lines : List TraceLine) (standings others : List Standing) (events m n : ℕ) → standings ≡ others → m ≡ n → KeepsEvents opened lines standings events m → KeepsEvents opened lines others events n
-kept_as opened lines standings others events m n same also k = grind arith
+pub kept_as : (opened : List Bool) (lines : List TraceLine) (tallies others : List ChannelTally) (events m n : ℕ) → tallies ≡ others → m ≡ n → KeepsEvents opened lines tallies events m → KeepsEvents opened lines others events n
+kept_as opened lines tallies others events m n same also k = grind arith
 
 -- ---- the lines of events, and what they come to
 

@@ -10,32 +10,32 @@ use Rattle.pp_channel.specs.History.{IsLawful}
 use Rattle.pp_channel.specs.declared.chan_op.ChanOp.TheVariants as operations
 use Rattle.pp_channel.specs.declared.event.Event.{Event}
 use Rattle.pp_channel.specs.declared.event.Event.TheVariants.{Activate}
-use Rattle.pp_check.specs.Judge.{Keeps, new_standing, standing, standing_of}
+use Rattle.pp_check.specs.Judge.{Keeps, new_tally, tally, tally_of}
 use Rattle.pp_check.specs.LawfulTrace.{IsLawfulTrace, events_on, history, is_opened, last_turn, opening, turns}
 use Rattle.pp_check.specs.TraceLine.{empty}
-use Rattle.pp_check.specs.declared.standing.Standing.{Standing}
+use Rattle.pp_check.specs.declared.channel_tally.ChannelTally.{ChannelTally}
 
 -- of a channel that was opened
-abbrev pub opened_standing : Standing
-opened_standing = record { state = empty; events = 0; is_opened = true }
+abbrev pub opened_tally : ChannelTally
+opened_tally = record { state = empty; events = 0; is_opened = true }
 
-abbrev pub standing_by : Bool → Standing
-standing_by is_open = if is_open then opened_standing else new_standing
+abbrev pub tally_by : Bool → ChannelTally
+tally_by is_open = if is_open then opened_tally else new_tally
 
--- the standings of the first n places at which these channels are open; behind them nothing is told
-abbrev pub AreOpenedTo : ℕ → List Bool → List Standing → Type 0
-AreOpenedTo n opened standings = (k : ℕ) → k < channel_count → get_or standings k new_standing ≡ standing_by (nat_lt k n && get_or opened k false)
+-- the tallies of the first n places at which these channels are open; behind them nothing is told
+abbrev pub AreOpenedTo : ℕ → List Bool → List ChannelTally → Type 0
+AreOpenedTo n opened tallies = (k : ℕ) → k < channel_count → get_or tallies k new_tally ≡ tally_by (nat_lt k n && get_or opened k false)
 
 -- ---- no channel, and all channels
 
-pub none_opened : (opened : List Bool) → AreOpenedTo 0 opened (replicate channel_count new_standing)
+pub none_opened : (opened : List Bool) → AreOpenedTo 0 opened (replicate channel_count new_tally)
 none_opened opened k below =
-    get_or-replicate channel_count k new_standing new_standing below
-    ∙ ap (λ (b : Bool). standing_by (b && get_or opened k false)) (sym (le-ltb k 0 (omega arith)))
+    get_or-replicate channel_count k new_tally new_tally below
+    ∙ ap (λ (b : Bool). tally_by (b && get_or opened k false)) (sym (le-ltb k 0 (omega arith)))
 
 -- all places
-pub all_opened : (n : ℕ) (opened : List Bool) (standings : List Standing) → channel_count ≤ n → AreOpenedTo n opened standings → (c : ℕ) → IsTrue (names_channel c) → standing_of standings c ≡ standing_by (is_opened opened c)
-all_opened n opened standings past are c names = grind (arith, channel_places.place_below, standing_by, lt-ltb)
+pub all_opened : (n : ℕ) (opened : List Bool) (tallies : List ChannelTally) → channel_count ≤ n → AreOpenedTo n opened tallies → (c : ℕ) → IsTrue (names_channel c) → tally_of tallies c ≡ tally_by (is_opened opened c)
+all_opened n opened tallies past are c names = grind (arith, channel_places.place_below, tally_by, lt-ltb)
 
 -- ---- before the first line
 
@@ -50,9 +50,9 @@ pub lawful_opening : (b : Bool) → IsLawful (if b then Activate ∷ [] else [])
 lawful_opening true = (lawful_with_event [] operations.Activate Activate lawful_empty refl)
 lawful_opening false = lawful_empty
 
-standing_is : (opened : List Bool) (c : ℕ) → standing_by (is_opened opened c) ≡ standing opened [] c
-unfolding standing events_on
-standing_is opened c = grind (arith, standing_by)
+tally_is : (opened : List Bool) (c : ℕ) → tally_by (is_opened opened c) ≡ tally opened [] c
+unfolding tally events_on
+tally_is opened c = grind (arith, tally_by)
 
 pub lawful_start : (opened : List Bool) → IsLawfulTrace opened []
 lawful_start opened = record {
@@ -64,12 +64,12 @@ no_turn : last_turn [] ≡ None
 unfolding last_turn turns
 no_turn = refl
 
-pub keeps_opening : (n : ℕ) (opened : List Bool) (standings : List Standing) → channel_count ≤ n → length standings ≡ channel_count → AreOpenedTo n opened standings → Keeps opened [] (record { channels = standings; last_turn = None; events = 0; sessions = 0 })
-keeps_opening n opened standings past all are = record {
+pub keeps_opening : (n : ℕ) (opened : List Bool) (tallies : List ChannelTally) → channel_count ≤ n → length tallies ≡ channel_count → AreOpenedTo n opened tallies → Keeps opened [] (record { channels = tallies; last_turn = None; events = 0; sessions = 0 })
+keeps_opening n opened tallies past all are = record {
   kept = record {
     lawful = lawful_start opened;
     each_channel = all;
-    channels = λ c names. all_opened n opened standings past are c names ∙ standing_is opened c;
+    channels = λ c names. all_opened n opened tallies past are c names ∙ tally_is opened c;
     events = refl;
     sessions = refl;
   };

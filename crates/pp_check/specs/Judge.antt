@@ -6,31 +6,31 @@ use Rattle.pp_check.specs.LawfulTrace.{IsLawfulTrace, events_on, history, is_ope
 use Rattle.pp_check.specs.TraceFault.{IsFlaw, IsFlawOf}
 use Rattle.pp_check.specs.TraceLine.{inactive}
 use Rattle.pp_check.specs.Verdict.{begins_session, tells_event}
-use Rattle.pp_check.specs.declared.{judge.Judge.Judge, standing.Standing.Standing, trace_fault.TraceFlaw.TraceFlaw, trace_line.TraceLine.TraceLine}
+use Rattle.pp_check.specs.declared.{judge.Judge.Judge, channel_tally.ChannelTally.ChannelTally, trace_fault.TraceFlaw.TraceFlaw, trace_line.TraceLine.TraceLine}
 
 -- what is kept of channel c
-unfoldable pub standing : List Bool → List TraceLine → ℕ → Standing
-standing opened lines c = record {
+unfoldable pub tally : List Bool → List TraceLine → ℕ → ChannelTally
+tally opened lines c = record {
   state = channel_state (history opened lines c);
   events = length (events_on c lines);
   is_opened = is_opened opened c;
 }
 
 -- of a channel that no line has named and that was not opened
-abbrev pub new_standing : Standing
-new_standing = record { state = inactive; events = 0; is_opened = false }
+abbrev pub new_tally : ChannelTally
+new_tally = record { state = inactive; events = 0; is_opened = false }
 
 -- what is kept of channel c among all channels
-abbrev pub standing_of : List Standing → ℕ → Standing
-standing_of channels c = slice_index_or channels (channel_index c) new_standing
+abbrev pub tally_of : List ChannelTally → ℕ → ChannelTally
+tally_of channels c = slice_index_or channels (channel_index c) new_tally
 
 -- the lines so far are lawful; the state of each channel is kept; events and sessions are counted
 pub record KeepsEvents (opened : List Bool) (lines : List TraceLine)
-    (standings : List Standing) (event_count session_count : ℕ) : Type 0 where
+    (tallies : List ChannelTally) (event_count session_count : ℕ) : Type 0 where
   pub lawful : IsLawfulTrace opened lines
-  pub each_channel : length standings ≡ channel_count
+  pub each_channel : length tallies ≡ channel_count
   pub channels : (c : ℕ) → IsTrue (names_channel c)
-      → standing_of standings c ≡ standing opened lines c
+      → tally_of tallies c ≡ tally opened lines c
   pub events : event_count ≡ count_by tells_event lines
   pub sessions : session_count ≡ count_by begins_session lines
 

@@ -1,13 +1,13 @@
 ghost use Rattle.std.specs.Prelude.{◌≡◌, ◌+◌, ◌<◌, ◌≤◌, ◌^◌, [], Bool, List, Some, IsTrue, OnOk};
 ghost use Rattle.pp_numbers.specs.ChannelNo.{names_channel};
 ghost use Rattle.pp_deck.specs.DeckText.{fields_of};
-ghost use Rattle.pp_check.specs.Judge.{Happens, IsRead, Keeps, KeepsEvents, KeepsSome, standing_of};
+ghost use Rattle.pp_check.specs.Judge.{Happens, IsRead, Keeps, KeepsEvents, KeepsSome, tally_of};
 ghost use Rattle.pp_check.specs.LawfulTrace.{Fits, event_on};
 ghost use Rattle.pp_check.specs.TraceLine.{parsed_line};
 ghost use Rattle.pp_check.specs.Verdict.{verdict_of};
 ghost use Rattle.pp_check.specs.declared.trace_line.TraceLine.{TraceLine};
 
-use crate::standing::Standing;
+use crate::channel_tally::ChannelTally;
 use crate::trace_line::line_in;
 use crate::{TraceFlaw, TraceLine, Verdict};
 use pp_channel::{CHANNELS, ChannelNo, Event};
@@ -17,7 +17,7 @@ use pp_deck::Fields;
 /// and of sessions begun. It takes no memory that grows.
 #[derive(Clone, Copy)]
 pub(crate) struct Judge {
-    pub(crate) channels: [Standing; CHANNELS],
+    pub(crate) channels: [ChannelTally; CHANNELS],
     pub(crate) last_turn: Option<u64>,
     pub(crate) events: u64,
     pub(crate) sessions: u64,
@@ -28,10 +28,10 @@ impl Judge {
     pub(crate) fn new(opened: &[bool; CHANNELS]) -> Judge
         ensures { Keeps opened.now [] result }
     {
-        let mut channels = [Standing::NEW; CHANNELS];
+        let mut channels = [ChannelTally::NEW; CHANNELS];
         for place in 0..CHANNELS {
             if opened[place] {
-                channels[place] = Standing::OPENED;
+                channels[place] = ChannelTally::OPENED;
             }
         }
         Judge {
@@ -64,15 +64,15 @@ impl Judge {
                 self.happen(channel, event)
             }
             TraceLine::Numbered(number, channel, event) => {
-                let standing = self.standing_of(channel);
-                let next = standing.events + u64::from(standing.is_opened);
+                let tally = self.tally_of(channel);
+                let next = tally.events + u64::from(tally.is_opened);
                 if number != next {
                     return Err(TraceFlaw::WrongNumber(channel, number, next));
                 }
                 self.happen(channel, event)
             }
             TraceLine::Standing(channel, shown) => {
-                let state = self.standing_of(channel).state;
+                let state = self.tally_of(channel).state;
                 if shown != state {
                     return Err(TraceFlaw::WrongState(channel, shown, state));
                 }
@@ -83,8 +83,8 @@ impl Judge {
     }
 
     /// What is kept of a channel.
-    fn standing_of(&self, channel: ChannelNo) -> Standing
-        ensures kept { result ≡ standing_of self.now.channels channel }
+    fn tally_of(&self, channel: ChannelNo) -> ChannelTally
+        ensures kept { result ≡ tally_of self.now.channels channel }
         ensures names { IsTrue (names_channel channel) }
     {
         self.channels[channel.index()]
@@ -101,14 +101,14 @@ impl Judge {
         ensures room { OnOk result (self.new.events ≤ self.old.events + 1) }
         ensures turn { self.new.last_turn ≡ self.old.last_turn }
     {
-        let standing = self.standing_of(channel);
-        let Some(state) = standing.state.after(&event) else {
-            return Err(TraceFlaw::UnlawfulEvent(channel, event, standing.state));
+        let tally = self.tally_of(channel);
+        let Some(state) = tally.state.after(&event) else {
+            return Err(TraceFlaw::UnlawfulEvent(channel, event, tally.state));
         };
-        self.channels[channel.index()] = Standing {
+        self.channels[channel.index()] = ChannelTally {
             state,
-            events: standing.events + 1,
-            is_opened: standing.is_opened,
+            events: tally.events + 1,
+            is_opened: tally.is_opened,
         };
         self.events += 1;
         if matches!(event, Event::Activate) {
@@ -126,10 +126,10 @@ impl Judge {
     {
         let mut channels = 0;
         let mut sessions = self.sessions;
-        for standing in &self.channels {
-            if standing.events > 0 {
+        for tally in &self.channels {
+            if tally.events > 0 {
                 channels += 1;
-                if standing.is_opened {
+                if tally.is_opened {
                     sessions += 1;
                 }
             }

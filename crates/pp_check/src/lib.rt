@@ -2,10 +2,10 @@
 //! line with which any other text is none.
 #![tactic(auto)]
 
+mod channel_tally;
 mod check;
 mod judge;
 mod laws;
-mod standing;
 mod trace_fault;
 mod trace_line;
 mod unlawful;

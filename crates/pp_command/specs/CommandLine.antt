@@ -9,11 +9,12 @@ use Rattle.pp_numbers.specs.ChannelNo.{channel_count}
 use Rattle.pp_condition.specs.ConditionText.{condition_in}
 use Rattle.pp_condition.specs.declared.{condition.Condition.Condition, until.Until.Until}
 use Rattle.pp_command.specs.ChannelList.{AreListed}
-use Rattle.pp_command.specs.OrderList.{listed_steps}
+use Rattle.pp_command.specs.OrderList.{listed_steps, most_steps}
 use Rattle.pp_command.specs.ProcessorList.{AreProcessorsListed}
 use Rattle.pp_numbers.specs.declared.{window.Window.Window, bounds.Bounds.Bounds, profile.Profile.Profile}
 use Rattle.pp_numbers.specs.Profile.{has_processor, processors_in}
 use Rattle.pp_numbers.specs.Limits.{AreLimits}
+use Rattle.pp_word.specs.Address.{place_count}
 use Rattle.pp_command.specs.declared.{command.CommandForm.CommandForm, command.OptionForm.OptionForm, command.ValueForm.ValueForm, line_fault.LineFault.LineFault, text_of.TextOf.TextOf, view.ChosenSteps.ChosenSteps, view.View.View, work.Tested.Tested, work.Work.Work}
 use Rattle.pp_command.specs.declared.command_kind.CommandKind.{CommandKind}
 use Rattle.pp_command.specs.declared.command_kind.CommandKind.TheVariants as Kind
@@ -149,7 +150,7 @@ ReadsProcessors profile (Some text) (Some flags) = AreProcessorsListed profile t
 -- a turn, or else this one if none is given
 abbrev pub ReadsTurn : ℕ → Option Text → ℕ → Type 0
 ReadsTurn default None turn = turn ≡ default
-ReadsTurn default (Some text) turn = ReadsNumber (Some text) turn × (turn ≤ 999999)
+ReadsTurn default (Some text) turn = ReadsNumber (Some text) turn × (turn ≤ most_steps)
 
 -- an address, in octal, or else this one if none is given
 abbrev pub ReadsAddress : ℕ → Option Text → ℕ → Type 0
@@ -169,7 +170,7 @@ ReadsEnd turns (Some text) to = ReadsNumber (Some text) to × (to ≤ turns)
 
 -- how many turns are run
 abbrev pub ReadsTurns : (Text → Option Text) → ℕ → Type 0
-ReadsTurns value_of turns = ReadsNumber (value_of (codes "turns")) turns × (turns ≤ 999999)
+ReadsTurns value_of turns = ReadsNumber (value_of (codes "turns")) turns × (turns ≤ most_steps)
 
 -- how many standings are kept
 abbrev pub ReadsStates : (Text → Option Text) → ℕ → Type 0
@@ -199,7 +200,7 @@ ReadsCondition profile (Some text) (Some condition) = condition_in profile text 
 abbrev pub ReadsTimes : Option Text → ℕ → Type 0
 ReadsTimes None times = times ≡ 1
 ReadsTimes (Some text) times =
-    ReadsNumber (Some text) times × (1 ≤ times) × (times ≤ 999999)
+    ReadsNumber (Some text) times × (1 ≤ times) × (times ≤ most_steps)
 
 -- until when the run goes on, of a machine with as many processors as the first text says: until as
 -- many steps as the third text says meet the condition of the second; nothing, if neither is given
@@ -244,6 +245,10 @@ ReadsSteps profile turns value_of chosen =
     × ReadsTurn turns (value_of (codes "to")) chosen.to
     × ReadsCondition profile (value_of (codes "where")) chosen.condition
 
+-- how many turns a picture has at most
+abbrev pub most_drawn : ℕ
+most_drawn = 2000
+
 -- a command of this kind, with these values of its options, asks for this view of a run of this
 -- many turns of a deck of this profile
 abbrev pub AsksForView : CommandKind → (Text → Option Text) → Profile → ℕ → View → Type 0
@@ -255,12 +260,12 @@ AsksForView kind _ _ _ View.Races = kind ≡ Kind.Races
 AsksForView kind value _ _ (View.Sessions words) =
     (kind ≡ Kind.Sessions) × ReadsFlag (value (codes "words")) words
 AsksForView kind value profile _ (View.Memory n bounds) = (kind ≡ Kind.Memory)
-    × ReadsProcessor profile (value (codes "pp")) n × ReadsBounds 0o10000 value bounds
+    × ReadsProcessor profile (value (codes "pp")) n × ReadsBounds place_count value bounds
 AsksForView kind value _ _ (View.Central bounds) =
     (kind ≡ Kind.Central) × ReadsBounds 0o400000 value bounds
 AsksForView kind value profile turns (View.Steps chosen) =
     (kind ≡ Kind.Steps) × ReadsSteps profile turns value chosen
-AsksForView kind _ _ turns (View.Draw from) = (kind ≡ Kind.Draw) × (turns - from ≤ 2000)
+AsksForView kind _ _ turns (View.Draw from) = (kind ≡ Kind.Draw) × (turns - from ≤ most_drawn)
 
 -- the turns of its run: as many as are said; for a drawing those up to the end of its window
 abbrev pub ReadsRun : (Text → Option Text) → ℕ → View → Type 0
@@ -321,7 +326,7 @@ pub record IsAskedOf (kind : CommandKind) (value_of : Text → Option Text) (wor
 -- it asks for more turns than a picture has
 abbrev pub AsksForMore : CommandKind → (Text → Option Text) → Type 0
 AsksForMore kind value_of =
-    (kind ≡ Kind.Draw) × ((w : Window) × ReadsWindow value_of w × (2000 < w.to - w.from))
+    (kind ≡ Kind.Draw) × ((w : Window) × ReadsWindow value_of w × (most_drawn < w.to - w.from))
 
 -- it is `test`, with options of none of its two forms
 abbrev pub MixesForms : CommandKind → (Text → Option Text) → Type 0

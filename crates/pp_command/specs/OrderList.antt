@@ -34,8 +34,12 @@ all_steps profile (item ∷ items) = option_and_then
     (λ steps. option_map (λ more. steps ++ more) (all_steps profile items))
     (item_steps profile item)
 
+-- how many steps a run has at most
+abbrev pub most_steps : ℕ
+most_steps = 999999
+
 -- the steps that a text lists for a machine of a profile, if it does, and no more than a run has
 unfoldable pub listed_steps : Profile → List ℕ → Option (List ℕ)
 listed_steps profile text = option_and_then
-    (λ steps. if nat_le (length steps) 999999 then Some steps else None)
+    (λ steps. if nat_le (length steps) most_steps then Some steps else None)
     (all_steps profile (numbers_of text))

@@ -17,21 +17,24 @@ macro_rules! range {
             help: concat!($what, ", ", $least, " to ", $most, " (decimal)"),
         }
     };
+    // Up to as many turns as a run has.
+    ($what:literal, from $least:literal) => {
+        range!($what, $least to 999_999)
+    };
 }
 
-pub(crate) const TURNS: NumberRange = range!("How many turns to run", 0 to 999_999);
+pub(crate) const TURNS: NumberRange = range!("How many turns to run", from 0);
 
-pub(crate) const FROM: NumberRange =
-    range!("The first turn to print (0 if not given)", 0 to 999_999);
+pub(crate) const FROM: NumberRange = range!("The first turn to print (0 if not given)", from 0);
 
 pub(crate) const TO: NumberRange =
-    range!("The turn to end before (that of --turns if not given)", 0 to 999_999);
+    range!("The turn to end before (that of --turns if not given)", from 0);
 
 pub(crate) const DRAWN_FROM: NumberRange =
-    range!("The first turn to draw (0 if not given)", 0 to 999_999);
+    range!("The first turn to draw (0 if not given)", from 0);
 
 pub(crate) const TIMES: NumberRange =
-    range!("How many steps have to meet the condition (1 if not given)", 1 to 999_999);
+    range!("How many steps have to meet the condition (1 if not given)", from 1);
 
 pub(crate) const STATES: NumberRange =
     range!("How many standings of the machine to keep", 1 to 9_999_999);

@@ -2,7 +2,7 @@
 
 ghost use Rattle.std.specs.Prelude.{◌≡◌, ◌-◌, ◌≤◌, ◌↔◌, IsTrue, codes, option_map, IfOk, IfSome, IsSome};
 ghost use Rattle.pp_numbers.specs.Limits.{AreLimits};
-ghost use Rattle.pp_command.specs.CommandLine.{Finds, ReadsAddress, ReadsBounds, ReadsChosen, ReadsCondition, ReadsNumber, ReadsOrder, ReadsProcessor, ReadsProcessors, ReadsProfile, ReadsTurn, ReadsFlag, ReadsStates, ReadsTimes, ReadsTurns, ReadsUntil, ReadsWindow};
+ghost use Rattle.pp_command.specs.CommandLine.{Finds, ReadsAddress, ReadsBounds, ReadsChosen, ReadsCondition, ReadsNumber, ReadsOrder, ReadsProcessor, ReadsProcessors, ReadsProfile, ReadsTurn, ReadsFlag, ReadsStates, ReadsTimes, ReadsTurns, ReadsUntil, ReadsWindow, most_drawn};
 
 use crate::number_range::{FROM, PATIENCE, STATES, STEPS, TIMES, TURNS};
 use crate::processor_list::listed_processors;
@@ -206,7 +206,7 @@ pub(crate) fn window_of<V: Values>(values: &V) -> Option<Window>
 
 /// Whether turns are no more than a picture has.
 pub(crate) fn fits_a_picture(window: Window) -> bool
-    ensures { IsTrue result ↔ (window.to - window.from ≤ 2000) }
+    ensures { IsTrue result ↔ (window.to - window.from ≤ most_drawn) }
 {
     window.to.saturating_sub(window.from) <= MOST_TURNS
 }

@@ -5,15 +5,15 @@ use Rattle.std.specs.Prelude.{IsTrue}
 use Rattle.std.specs.List.{last_or}
 use Rattle.std.specs.Option.{option_map}
 use Rattle.std.proofs.lemmas.Bool.{eq-eqb, eqb-true}
-use Rattle.pp_draw.specs.Condition.{changes, goes_on, phases_from}
-use Rattle.pp_draw.specs.DrawingLaw.{goes_on_from, look_in}
+use Rattle.pp_draw.specs.Condition.{changes, continues, phases_from}
+use Rattle.pp_draw.specs.DrawingLaw.{continues_from, look_in}
 use Rattle.pp_draw.specs.declared.{condition.Condition.Condition, condition.Look.Look, condition.Phase.Phase}
 use Rattle.pp_draw.specs.declared.condition.Condition.TheVariants.{Running, InBlock, HeldBy, Stopped, Faulted}
 use Rattle.pp_draw.specs.declared.condition.Look.TheVariants.{Processor}
 
 -- ---- a look that goes on is the same
 
-pub same_on : (look next : Look) → goes_on look next ≡ true → look ≡ next
+pub same_on : (look next : Look) → continues look next ≡ true → look ≡ next
 same_on (Processor Running) (Processor Running) h = refl
 same_on (Processor InBlock) (Processor InBlock) h = refl
 same_on (Processor (HeldBy c)) (Processor (HeldBy other)) h = ap (λ (n : ℕ). Processor (HeldBy n)) (sym (eqb-true other c h))
@@ -23,19 +23,19 @@ same_on look next h = absurd (cc)
 
 -- ---- and that of a processor goes on
 
-pub same_goes_on : (condition : Condition) → IsTrue (goes_on (Processor condition) (Processor condition))
-same_goes_on (HeldBy c) = eq-eqb c c refl
-same_goes_on condition = refl
+pub same_continues : (condition : Condition) → IsTrue (continues (Processor condition) (Processor condition))
+same_continues (HeldBy c) = eq-eqb c c refl
+same_continues condition = refl
 
 -- ---- phases
 
 last_after : (current came : Phase) (more : List Phase) → current.look ≡ came.look → option_map look_in (last_or (Some current) (changes came.look more)) ≡ option_map look_in (last_or (Some came) more)
 last_after current came [] same = ap Some same
 last_after current came (next ∷ more) same =
-    by_test (goes_on came.look next.look) refl (λ on. last_after current next more (same ∙ same_on came.look next.look on)) (last_after next next more refl)
+    by_test (continues came.look next.look) refl (λ on. last_after current next more (same ∙ same_on came.look next.look on)) (last_after next next more refl)
   where
-    by_test : (b : Bool) → goes_on came.look next.look ≡ b
-        → (goes_on came.look next.look ≡ true → option_map look_in (last_or (Some current) (changes next.look more)) ≡ option_map look_in (last_or (Some next) more))
+    by_test : (b : Bool) → continues came.look next.look ≡ b
+        → (continues came.look next.look ≡ true → option_map look_in (last_or (Some current) (changes next.look more)) ≡ option_map look_in (last_or (Some next) more))
         → option_map look_in (last_or (Some next) (changes next.look more)) ≡ option_map look_in (last_or (Some next) more)
         → option_map look_in (last_or (Some current) (cond b (changes next.look more) (next ∷ changes next.look more))) ≡ option_map look_in (last_or (Some next) more)
     by_test true on goes begins = goes on
@@ -47,7 +47,7 @@ last_is_drawn (first ∷ more) = last_after first first more refl
 
 -- what is drawn of a phase that comes after these
 abbrev drawn_after : Option Phase → Phase → List Phase
-drawn_after before next = cond (goes_on_from before next) [] (next ∷ [])
+drawn_after before next = cond (continues_from before next) [] (next ∷ [])
 
 more_drawn : (came : Phase) (more : List Phase) (next : Phase) → changes came.look (more ++ next ∷ []) ≡ changes came.look more ++ drawn_after (last_or (Some came) more) next
 more_drawn came [] next = refl

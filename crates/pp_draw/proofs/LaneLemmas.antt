@@ -5,7 +5,7 @@ use Rattle.std.proofs.lemmas.List.{at_drop_all, at_drop_more}
 use Rattle.pp_text.proofs.PrintingLemmas.{prints_on, prints_then}
 use Rattle.pp_text.specs.TextWriter.{Prints}
 use Rattle.pp_text.specs.declared.text_writer.TextWriter.{TextWriter}
-use Rattle.pp_draw.specs.Condition.{changes, goes_on, phases_from}
+use Rattle.pp_draw.specs.Condition.{changes, continues, phases_from}
 use Rattle.pp_draw.specs.Lane.{drawn_from, free_after, part_elements, part_of, still_drawn}
 use Rattle.pp_numbers.specs.declared.window.Window.{Window}
 use Rattle.pp_draw.specs.declared.{condition.Phase.Phase, lane.Lane.Lane, lane.Part.Part}
@@ -14,12 +14,12 @@ use Rattle.pp_draw.proofs.ConditionLemmas.{same_on}
 -- ---- a phase comes
 
 -- it goes on under the look before
-pub goes_by : (lane : Lane) (current next : Phase) (rest : List Phase) → lane.current ≡ Some current → goes_on current.look next.look ≡ true → still_drawn lane (next ∷ rest) ≡ still_drawn lane rest
+pub goes_by : (lane : Lane) (current next : Phase) (rest : List Phase) → lane.current ≡ Some current → continues current.look next.look ≡ true → still_drawn lane (next ∷ rest) ≡ still_drawn lane rest
 goes_by lane current next rest is on = grind (arith, same_on)
 
 -- the phase before is over
 pub comes_next : (lane : Lane) (current next : Phase) (part : Part) (free : ℕ) (rest : List Phase)
-    → lane.current ≡ Some current → goes_on current.look next.look ≡ false → part ≡ part_of lane.window current (Some next) → free ≡ free_after lane.free part
+    → lane.current ≡ Some current → continues current.look next.look ≡ false → part ≡ part_of lane.window current (Some next) → free ≡ free_after lane.free part
     → still_drawn lane (next ∷ rest) ≡ part_elements lane.name lane.free part ++ still_drawn (record lane { current = Some next; free = free }) rest
 comes_next lane current next part free rest is over part_is free_is =
     let w = lane.window in

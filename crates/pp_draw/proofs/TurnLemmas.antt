@@ -10,7 +10,7 @@ use Rattle.pp_machine.specs.MachineStep.{counted, stepped}
 use Rattle.pp_numbers.specs.PpNo.{names_processor, processor_count, processor_index, processor_number, processor_places}
 use Rattle.pp_numbers.proofs.TableLemmas.{get_or-tabulate, length-tabulate}
 use Rattle.pp_run.specs.RunSteps.{RunStep, is_of, run_steps, seen_of}
-use Rattle.pp_draw.specs.Condition.{changes, goes_on, own_earlier, phases_from, processor_phases}
+use Rattle.pp_draw.specs.Condition.{changes, continues, own_earlier, phases_from, processor_phases}
 use Rattle.pp_draw.specs.SeenStep.{earlier, earlier_steps, earlier_with, is_shown, seen, seen_in_window}
 use Rattle.pp_draw.specs.DrawingLaw.{last_step, look_at, look_in}
 use Rattle.pp_draw.specs.declared.{condition.Look.Look, condition.Phase.Phase, seen_step.SeenStep.SeenStep}
@@ -31,7 +31,7 @@ BeginInOrder turn (phase ∷ more) = (leb phase.since turn ≡ false → begun t
 -- where none has begun, none that is drawn has
 none_drawn : (turn : ℕ) (look : Look) (more : List Phase) → begun turn more ≡ [] → begun turn (changes look more) ≡ []
 none_drawn turn look [] none = refl
-none_drawn turn look (n ∷ more) none = by_test (leb n.since turn) (goes_on look n.look) refl none (none_drawn turn n.look more)
+none_drawn turn look (n ∷ more) none = by_test (leb n.since turn) (continues look n.look) refl none (none_drawn turn n.look more)
   where
     by_test : (early goes : Bool) → leb n.since turn ≡ early → cond early (n ∷ begun turn more) (begun turn more) ≡ [] → (begun turn more ≡ [] → begun turn (changes n.look more) ≡ [])
         → begun turn (cond goes (changes n.look more) (n ∷ changes n.look more)) ≡ []

@@ -12,13 +12,13 @@ use Rattle.pp_draw.specs.declared.condition.Look.TheVariants.{Channel, Processor
 use Rattle.pp_draw.specs.declared.{condition.Look.Look, condition.Phase.Phase, seen_step.SeenStep.SeenStep}
 
 -- whether the next look continues a phase. Of a channel none does: each event begins another
-abbrev pub goes_on : Look → Look → Bool
-goes_on (Processor Running) (Processor Running) = true
-goes_on (Processor InBlock) (Processor InBlock) = true
-goes_on (Processor (HeldBy c)) (Processor (HeldBy other)) = other == c
-goes_on (Processor Stopped) (Processor Stopped) = true
-goes_on (Processor Faulted) (Processor Faulted) = true
-goes_on look next = false
+abbrev pub continues : Look → Look → Bool
+continues (Processor Running) (Processor Running) = true
+continues (Processor InBlock) (Processor InBlock) = true
+continues (Processor (HeldBy c)) (Processor (HeldBy other)) = other == c
+continues (Processor Stopped) (Processor Stopped) = true
+continues (Processor Faulted) (Processor Faulted) = true
+continues look next = false
 
 -- whether a function code went out
 abbrev pub is_sent : Look → Bool
@@ -80,7 +80,7 @@ own_earlier n earlier = option_to_list (slice_index_or earlier (processor_index 
 abbrev pub changes : Look → List Phase → List Phase
 changes look [] = []
 changes look (next ∷ more) =
-    if goes_on look next.look then changes next.look more else next ∷ changes next.look more
+    if continues look next.look then changes next.look more else next ∷ changes next.look more
 
 -- the same from the start, or from the phase that is going on
 abbrev pub phases_from : Option Phase → List Phase → List Phase

@@ -4,16 +4,16 @@ use Rattle.std.specs.List.{filter, last_or}
 use Rattle.std.specs.Option.{option_map}
 use Rattle.pp_run.specs.RunSteps.{RunStep}
 use Rattle.pp_numbers.specs.declared.window.Window.{Window}
-use Rattle.pp_draw.specs.Condition.{goes_on}
+use Rattle.pp_draw.specs.Condition.{continues}
 use Rattle.pp_draw.specs.declared.{condition.Look.Look, condition.Phase.Phase, lane.Part.Part}
 
 abbrev pub look_in : Phase → Look
 look_in phase = phase.look
 
 -- whether a phase goes on under the look of what came last
-abbrev pub goes_on_from : Option Phase → Phase → Bool
-goes_on_from None next = false
-goes_on_from (Some last) next = goes_on last.look next.look
+abbrev pub continues_from : Option Phase → Phase → Bool
+continues_from None next = false
+continues_from (Some last) next = continues last.look next.look
 
 -- how things stand in a turn: by the last phase that has begun
 abbrev pub look_at : ℕ → List Phase → Option Look

@@ -2,7 +2,7 @@
 
 ghost use Rattle.std.specs.Prelude.{◌≡◌, ◌≤◌, length};
 ghost use Rattle.pp_text.specs.Piece.{piece_length};
-ghost use Rattle.pp_draw.specs.Condition.{face_of, goes_on};
+ghost use Rattle.pp_draw.specs.Condition.{face_of, continues};
 
 use pp_channel::{ChannelNo, Event};
 use pp_text::{channel_name, octal4};
@@ -31,8 +31,8 @@ pub enum Look {
 
 impl Look {
     /// Whether the next look continues a phase. Of a channel none does: each event begins another.
-    pub(crate) fn goes_on(&self, next: &Look) -> bool
-        ensures { result ≡ goes_on self.now next.now }
+    pub(crate) fn continues(&self, next: &Look) -> bool
+        ensures { result ≡ continues self.now next.now }
     {
         match (self, next) {
             (Look::Processor(Condition::HeldBy(c)), Look::Processor(Condition::HeldBy(other))) =>

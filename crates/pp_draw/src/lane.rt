@@ -108,7 +108,7 @@ impl Lane {
             self.current = next;
             return;
         };
-        if current.look.goes_on(&look) {
+        if current.look.continues(&look) {
             return;
         }
         let part = Part::of(self.window, &current, &next);

@@ -13,9 +13,9 @@ ghost use Rattle.pp_machine.specs.MachineStep.{counted};
 ghost use Rattle.pp_numbers.specs.PpNo.{names_processor, processor_count, processor_index};
 ghost use Rattle.pp_run.specs.RunSteps.{run_steps};
 ghost use Rattle.pp_numbers.specs.declared.window.Window.{Window};
-ghost use Rattle.pp_draw.specs.Condition.{channel_phases, goes_on, is_sent, own_earlier, phases_from, processor_phases};
+ghost use Rattle.pp_draw.specs.Condition.{channel_phases, continues, is_sent, own_earlier, phases_from, processor_phases};
 ghost use Rattle.pp_draw.specs.SeenStep.{earlier_steps, is_shown, seen, seen_in_window};
-ghost use Rattle.pp_draw.specs.DrawingLaw.{EndsAt, IsTurnOf, StandsWithin, goes_on_from, last_step, look_at, look_in};
+ghost use Rattle.pp_draw.specs.DrawingLaw.{EndsAt, IsTurnOf, StandsWithin, continues_from, last_step, look_at, look_in};
 ghost use Rattle.pp_draw.specs.DrawingText.{channel_lane, drawing, is_flagged, is_used, lanes_above, processor_lane, used_among};
 ghost use Rattle.pp_draw.specs.Frame.{band_width};
 ghost use Rattle.pp_draw.specs.Lane.{band_element, drawn_from, is_lost, is_visible, part_of};
@@ -42,10 +42,10 @@ pub fn drawing_law()
         → phases_from None (channel_phases c m) ≡ channel_phases c m }
     ensures one_more { (phases : List Phase) (next : Phase)
         → phases_from None (phases ++ next ∷ []) ≡ phases_from None phases
-        ++ (if goes_on_from (last_or None phases) next then [] else next ∷ []) }
-    ensures alike { (look next : Look) → IsTrue (goes_on look next) → look ≡ next }
+        ++ (if continues_from (last_or None phases) next then [] else next ∷ []) }
+    ensures alike { (look next : Look) → IsTrue (continues look next) → look ≡ next }
     ensures joined { (condition : Condition)
-        → IsTrue (goes_on (Processor condition) (Processor condition)) }
+        → IsTrue (continues (Processor condition) (Processor condition)) }
     ensures last { (phases : List Phase)
         → option_map look_in (last_or None (phases_from None phases))
         ≡ option_map look_in (last_or None phases) }

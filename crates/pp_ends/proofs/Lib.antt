@@ -1,7 +1,7 @@
 pub mod MoveLemmas
 pub mod StillLemmas
 pub mod RepeatLemmas
-pub mod StandLemmas
+pub mod ProgressMarkLemmas
 pub mod QuietLemmas
 pub mod FoundLemmas
 pub mod OneEnding

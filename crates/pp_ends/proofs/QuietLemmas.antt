@@ -12,20 +12,20 @@ use Rattle.pp_processor.specs.Processor.{IsAtRest, Processor, no_processor}
 use Rattle.pp_processor.proofs.StepLemmas.{rest_changes_nothing}
 use Rattle.pp_run.specs.Determinacy.{IsQuiet, Waits}
 use Rattle.pp_run.proofs.StepFacts.{own_step}
-use Rattle.pp_ends.specs.declared.stand.Stand.{Stand}
+use Rattle.pp_ends.specs.declared.progress_mark.ProgressMark.{ProgressMark}
 use Rattle.pp_ends.specs.Endings.{TellsMove, TellsRunning}
-use Rattle.pp_ends.specs.Stand.{stand_of}
+use Rattle.pp_ends.specs.ProgressMark.{mark_of}
 use Rattle.pp_ends.proofs.MoveLemmas.{kept_waits}
-use Rattle.pp_ends.proofs.StandLemmas.{stands_still}
+use Rattle.pp_ends.proofs.ProgressMarkLemmas.{stands_still}
 
-pub by_same : (n : ℕ) (m : MachineState) (before after : Stand) (same : Bool)
-    → IsMemory (processor_of n m).memory → before ≡ stand_of (processor_of n m)
-    → after ≡ stand_of (processor_after (processor_of n m) (answer_to (need (processor_of n m)) m))
+pub by_same : (n : ℕ) (m : MachineState) (before after : ProgressMark) (same : Bool)
+    → IsMemory (processor_of n m).memory → before ≡ mark_of (processor_of n m)
+    → after ≡ mark_of (processor_after (processor_of n m) (answer_to (need (processor_of n m)) m))
     → IsTrue same ↔ (after ≡ before) → TellsMove (not same) n m
 by_same n m before after true memory was is same =
     let pp = processor_of n m in
     let x = answer_to (need pp) m in
-    let stands : stand_of (processor_after pp x) ≡ stand_of pp = sym is ∙ same.0 refl ∙ was in
+    let stands : mark_of (processor_after pp x) ≡ mark_of pp = sym is ∙ same.0 refl ∙ was in
     let waits : Waits n m = kept_waits n m (own_step n m ∙ stands_still pp x memory stands) in
     record { moves = λ bad. absurd (cc); waits = waits }
 by_same n m before after false memory was is same = record {
@@ -33,7 +33,7 @@ by_same n m before after false memory was is same = record {
       let pp = processor_of n m in
       let x = answer_to (need pp) m in
       let stays : processor_after pp x ≡ pp = sym (own_step n m) ∙ waits.processor in
-      let bad : false ≡ true = same.1 (is ∙ ap stand_of stays ∙ sym was) in absurd (cc);
+      let bad : false ≡ true = same.1 (is ∙ ap mark_of stays ∙ sym was) in absurd (cc);
   waits = tt;
 }
 

@@ -2,5 +2,5 @@ pub mod Endings
 pub mod Loops
 pub mod EndsText
 -- cited by private contracts alone
-pub mod Stand
+pub mod ProgressMark
 pub mod Rounds

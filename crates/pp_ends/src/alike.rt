@@ -5,7 +5,7 @@ ghost use Rattle.pp_run.specs.BareMachine.{StandsFor};
 ghost use Rattle.pp_machine.specs.MachineState.{MachineState};
 ghost use Rattle.pp_ends.specs.Endings.{StandAlike};
 
-use crate::spots::{Spot, Spots};
+use crate::recent_mismatches::{RecentMismatches, Spot};
 use pp_channel::{CHANNELS, ChannelNo, ChannelState};
 use pp_machine::{PROCESSORS, PpNo};
 use pp_run::BareMachine;
@@ -16,19 +16,19 @@ use std::alloc::Allocator;
 pub(crate) fn stand_alike<A: Allocator>(
     one: &BareMachine<A>,
     other: &BareMachine<A>,
-    spots: &mut Spots,
+    recent: &mut RecentMismatches,
 ) -> bool
     ensures alike { IsTrue result → (m k : MachineState) → StandsFor one.now m
         → StandsFor other.now k → StandAlike m k }
     ensures differ { result ≡ false → (m k : MachineState) → StandsFor one.now m
         → StandsFor other.now k → ¬ StandAlike m k }
 {
-    if places_differ(one, other) || spots.differ(one, other) {
+    if places_differ(one, other) || recent.differ(one, other) {
         return false;
     }
     match difference(one, other) {
         Some(spot) => {
-            spots.keep(spot);
+            recent.keep(spot);
             false
         }
         None => true,

@@ -4,8 +4,8 @@ ghost use Rattle.std.specs.Prelude.{◌≡◌, ◌+◌, IfOk};
 ghost use Rattle.pp_ends.specs.Loops.{AreLoops, TellLoops, noted, widened};
 
 use crate::Ending;
-use crate::quiet::step_telling;
-use crate::run::{barrel_order, run_telling};
+use crate::quiet::step_moves;
+use crate::run::{barrel_order, run_to_last_move};
 use pp_channel::Memory;
 use pp_machine::{Machine, PROCESSORS, PpNo};
 use pp_run::BareMachine;
@@ -53,12 +53,12 @@ fn loops_in<A: Allocator + Copy, B: Allocator>(
     let order = barrel_order(alloc, machine, end)?;
     let order = order.processors();
     let mut bare = BareMachine::of(alloc, machine)?;
-    let _still = run_telling(&mut bare, &order[..from as usize]);
+    let _still = run_to_last_move(&mut bare, &order[..from as usize]);
     let mut loops = [None; PROCESSORS];
     for turn in from..end {
         let n = order[turn as usize];
         let p = bare.pp(n).p();
-        let moved = step_telling(&mut bare, n);
+        let moved = step_moves(&mut bare, n);
         note(&mut loops, n, p, moved);
     }
     Ok(loops)

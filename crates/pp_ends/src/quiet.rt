@@ -8,24 +8,24 @@ ghost use Rattle.pp_processor.specs.Replay.{fits};
 ghost use Rattle.pp_run.specs.Determinacy.{IsQuiet};
 ghost use Rattle.pp_ends.specs.Endings.{TellsMove, TellsRunning};
 
-use crate::stand::Stand;
+use crate::progress_mark::ProgressMark;
 use pp_machine::{Answer, Need, PROCESSORS, PpNo, PpState};
 use pp_run::BareMachine;
 use std::alloc::Allocator;
 
 /// One step of a processor. Says whether it moved.
-pub(crate) fn step_telling<A: Allocator>(bare: &mut BareMachine<A>, n: PpNo) -> bool
+pub(crate) fn step_moves<A: Allocator>(bare: &mut BareMachine<A>, n: PpNo) -> bool
     ensures stepped { (m : MachineState) → StandsFor bare.old m → StandsFor bare.new (stepped n m) }
     ensures moved { (m : MachineState) → StandsFor bare.old m → TellsMove result n m }
 {
-    let before = Stand::of(bare.pp(n));
+    let before = ProgressMark::of(bare.pp(n));
     let _progress = bare.step(n);
-    let after = Stand::of(bare.pp(n));
+    let after = ProgressMark::of(bare.pp(n));
     !after.is_same(&before)
 }
 
 /// What a step that needs this would be answered.
-fn answer_shown<A: Allocator>(bare: &BareMachine<A>, need: &Need) -> Answer
+fn peek_answer<A: Allocator>(bare: &BareMachine<A>, need: &Need) -> Answer
     ensures fits { IsTrue (fits need.now result) }
     ensures answer { (m : MachineState) → StandsFor bare.now m → result ≡ answer_to need.now m }
 {
@@ -45,10 +45,10 @@ fn would_move<A: Allocator>(bare: &BareMachine<A>, n: PpNo) -> bool
     ensures { (m : MachineState) → StandsFor bare.now m → TellsMove result n m }
 {
     let pp = bare.pp(n);
-    let answer = answer_shown(bare, &pp.wants());
+    let answer = peek_answer(bare, &pp.wants());
     let mut after = pp.copy();
     let _outcome = after.give(answer);
-    !Stand::of(&after).is_same(&Stand::of(pp))
+    !ProgressMark::of(&after).is_same(&ProgressMark::of(pp))
 }
 
 /// Whether a machine is quiet: no step of any processor would move.

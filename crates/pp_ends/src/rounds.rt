@@ -8,7 +8,7 @@ ghost use Rattle.pp_numbers.specs.Profile.{processors_in};
 ghost use Rattle.pp_ends.specs.Rounds.{PeriodWithin, StartWithin, after_rounds};
 
 use crate::alike::stand_alike;
-use crate::spots::Spots;
+use crate::recent_mismatches::RecentMismatches;
 use pp_channel::Memory;
 use pp_machine::{Machine, PpNo};
 use pp_run::BareMachine;
@@ -76,10 +76,10 @@ fn period_from<A: Allocator, B: Allocator>(
     ensures { PeriodWithin result rounds machine.now }
 {
     let round = round_of(machine);
-    let mut spots = Spots::new();
+    let mut recent = RecentMismatches::new();
     for passed in 0..rounds {
         run_round(later, round);
-        if stand_alike(end, later, &mut spots) {
+        if stand_alike(end, later, &mut recent) {
             return Some(passed + 1);
         }
     }
@@ -115,9 +115,9 @@ fn start_from<A: Allocator, B: Allocator>(
     ensures { StartWithin result period last machine.now }
 {
     let round = round_of(machine);
-    let mut spots = Spots::new();
+    let mut recent = RecentMismatches::new();
     for start in 0..last + 1 {
-        if stand_alike(early, late, &mut spots) {
+        if stand_alike(early, late, &mut recent) {
             return Some(start);
         }
         run_round(early, round);

@@ -8,7 +8,7 @@ ghost use Rattle.pp_run.specs.Determinacy.{IsQuiet};
 ghost use Rattle.pp_ends.specs.Endings.{IsEnding, IsStillFrom, after_turns};
 
 use crate::Ending;
-use crate::quiet::{is_quiet, is_running, step_telling};
+use crate::quiet::{is_quiet, is_running, step_moves};
 use crate::rounds::{find_period, find_start, round_of};
 use pp_channel::Memory;
 use pp_machine::{Machine, PpNo};
@@ -56,7 +56,7 @@ fn quiet_ending<A: Allocator + Copy, B: Allocator>(
 {
     let order = barrel_order(alloc, machine, turns)?;
     let mut bare = BareMachine::of(alloc, machine)?;
-    let from = run_telling(&mut bare, order.processors());
+    let from = run_to_last_move(&mut bare, order.processors());
     if !is_quiet(&bare) {
         return Ok(None);
     }
@@ -80,7 +80,7 @@ pub(crate) fn barrel_order<A: Allocator, B: Allocator>(
 }
 
 /// Makes these turns of the barrel, and says from which turn on no step moved.
-pub(crate) fn run_telling<A: Allocator>(bare: &mut BareMachine<A>, order: &[PpNo]) -> u32
+pub(crate) fn run_to_last_move<A: Allocator>(bare: &mut BareMachine<A>, order: &[PpNo]) -> u32
     requires { length order.now < 2 ^ 32 }
     ensures ran { (turns : ℕ) (m : MachineState) → order.now ≡ barrel m.profile turns
         → StandsFor bare.old m → StandsFor bare.new (after_turns turns m) }
@@ -89,7 +89,7 @@ pub(crate) fn run_telling<A: Allocator>(bare: &mut BareMachine<A>, order: &[PpNo
 {
     let mut from = 0;
     for (turn, n) in order.iter().enumerate() {
-        if step_telling(bare, *n) {
+        if step_moves(bare, *n) {
             from = turn as u32 + 1;
         }
     }

@@ -1,14 +1,9 @@
 //! The text of the races of a run.
 
-ghost use Rattle.std.specs.Prelude.{◌≡◌, ◌≢◌, ◌≤◌, ℕ, true, [], length, take, Err, OnErr, OnOk};
-ghost use Rattle.std.specs.List.{list_all};
-ghost use Rattle.pp_machine.specs.Run.{run};
-ghost use Rattle.pp_run.specs.Determinacy.{IsDeterminate};
+ghost use Rattle.std.specs.Prelude.{length};
 ghost use Rattle.pp_text.specs.TextWriter.{Prints};
-ghost use Rattle.pp_text.specs.Written.{IsReportWritten};
-ghost use Rattle.pp_races.specs.Findings.{findings};
-ghost use Rattle.pp_races.specs.RacesText.{is_going_on, races_text, verdict_line};
-ghost use Rattle.pp_races.specs.RaceFree.{IsRaceFreeSoFar};
+ghost use Rattle.pp_races.specs.RacesAnswer.{AnswersRaces};
+ghost use Rattle.pp_races.specs.RacesText.{verdict_line};
 ghost use Rattle.pp_races.specs.Watch.{unwatched};
 ghost use Rattle.pp_races.specs.WatchTables.{AreTables};
 
@@ -38,16 +33,8 @@ pub fn write_races<A: Allocator + Copy, W: Write>(
     machine: &mut Machine<A>,
     order: &Order<A>,
 ) -> Result<(), ReportFault>
-    ensures written { IsReportWritten (races_text order.now machine.old)
-        result (W.contents writer.old) (W.contents writer.new) }
-    ensures same { result ≢ Err ReportFault.Memory → findings order.now machine.old ≡ []
-        → IsDeterminate order.now machine.old }
-    ensures no_race { result ≢ Err ReportFault.Memory
-        → list_all is_going_on (findings order.now machine.old) ≡ true
-        → IsRaceFreeSoFar order.now machine.old }
-    ensures ran { OnOk result (machine.new ≡ run order.now machine.old) }
-    ensures cut { OnErr result ((done : ℕ) × (done ≤ length order.now)
-        × (machine.new ≡ run (take done order.now) machine.old)) }
+    ensures { AnswersRaces order.now machine.old machine.new result
+        (W.contents writer.old) (W.contents writer.new) }
 {
     let Ok(events) = event_counts(alloc, machine, order) else {
         return Err(ReportFault::Memory);
@@ -69,16 +56,8 @@ fn write_watched<A: Allocator, W: Write>(
     tables: &mut WatchTables<A>,
 ) -> Result<(), ReportFault>
     requires { AreTables tables.old (length machine.old.central) unwatched }
-    ensures written { IsReportWritten (races_text order.now machine.old)
-        result (W.contents writer.old) (W.contents writer.new) }
-    ensures same { result ≢ Err ReportFault.Memory → findings order.now machine.old ≡ []
-        → IsDeterminate order.now machine.old }
-    ensures no_race { result ≢ Err ReportFault.Memory
-        → list_all is_going_on (findings order.now machine.old) ≡ true
-        → IsRaceFreeSoFar order.now machine.old }
-    ensures ran { OnOk result (machine.new ≡ run order.now machine.old) }
-    ensures cut { OnErr result ((done : ℕ) × (done ≤ length order.now)
-        × (machine.new ≡ run (take done order.now) machine.old)) }
+    ensures { AnswersRaces order.now machine.old machine.new result
+        (W.contents writer.old) (W.contents writer.new) }
 {
     let mut text = TextWriter::new(writer);
     match print_run(&mut text, machine, order, tables) {

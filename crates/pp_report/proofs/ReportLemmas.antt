@@ -31,7 +31,7 @@ use Rattle.pp_numbers.proofs.ProfileLemmas.{most_processors}
 use Rattle.pp_machine.specs.Run.{run}
 use Rattle.pp_processor.specs.Replay.{OfChannel, fits, contribution, replayed, collected_along, events_given}
 use Rattle.pp_processor.proofs.ReplayLemmas.{Gives, Gives-counted, Gives-to}
-use Rattle.pp_runner.proofs.LabourLemmas.{events_by}
+use Rattle.pp_runner.proofs.WorkerStateLemmas.{events_by}
 use Rattle.pp_runner.specs.Accesses.{AreAccessesOf, HasAccessed, HaveAccessed}
 use Rattle.pp_numbers.specs.Limits.{RunLimits}
 use Rattle.pp_runner.specs.Report.{IsReportOf}

@@ -27,7 +27,7 @@ use Rattle.pp_processor.specs.Processor.{Processor}
 use Rattle.pp_processor.specs.Replay.{OfChannel, contribution, fits, given_count, replayed}
 use Rattle.pp_processor.proofs.ReplayLemmas.{Gives, Gives-counted}
 use Rattle.pp_runner.specs.Accesses.{accesses_by, AreAccessesOf}
-use Rattle.pp_runner.specs.Labour.{HasMade, HasLooked, IsAnswered}
+use Rattle.pp_runner.specs.WorkerState.{HasMade, HasLooked, IsAnswered}
 use Rattle.pp_runner.specs.WorkerReport.{IsBySize}
 
 -- the word that an operation found last has the number of its answer

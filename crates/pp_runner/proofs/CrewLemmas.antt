@@ -14,11 +14,11 @@ use Rattle.pp_machine.specs.MachineState.{MachineState, processor_of}
 use Rattle.pp_processor.specs.Processor.{Processor}
 use Rattle.pp_numbers.specs.PpNo.{processor_count, processor_index}
 use Rattle.pp_processor.specs.Replay.{looks_and_events}
-use Rattle.pp_runner.proofs.LabourLemmas.{work_begun}
+use Rattle.pp_runner.proofs.WorkerStateLemmas.{work_begun}
 use Rattle.pp_runner.proofs.LogLemmas.{stands_done}
 use Rattle.pp_runner.proofs.LineLemmas.{operated_least, same_line_still, same_line_twice}
 use Rattle.pp_runner.specs.Crew.{AreReady, IsEnded, HasOpened}
-use Rattle.pp_runner.specs.Labour.{IsAtWork, HasSeen, IsSameLine, HasOperated}
+use Rattle.pp_runner.specs.WorkerState.{IsAtWork, HasSeen, IsSameLine, HasOperated}
 use Rattle.pp_runner.specs.End.{IsEnd, WornWithCause}
 use Rattle.pp_runner.specs.WorkerReport.{events_in, sights_in}
 use Rattle.pp_runner.specs.declared.end.End.TheVariants.{Patience}

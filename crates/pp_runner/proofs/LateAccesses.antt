@@ -14,7 +14,7 @@ use Rattle.pp_line.specs.Order.{entries_among, writes_among, words_after, times,
 use Rattle.pp_runner.specs.Types.{Access, Entry, Event, OnChannel, Read, Worker, Write}
 use Rattle.pp_processor.specs.Processor.{Processor}
 use Rattle.pp_runner.specs.Accesses.{HasAccessed}
-use Rattle.pp_runner.specs.Labour.{HasMade, NoneOlder}
+use Rattle.pp_runner.specs.WorkerState.{HasMade, NoneOlder}
 
 module _ {X : Type 0} where
   -- what holds of each item holds of each that stands among them

@@ -8,4 +8,4 @@ mod CrewLemmas
 mod OpeningLemmas
 mod ReportLemmas
 -- facts of the definitions, which proofs of other crates cite
-pub mod LabourLemmas
+pub mod WorkerStateLemmas

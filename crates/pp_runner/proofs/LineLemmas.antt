@@ -21,7 +21,7 @@ use Rattle.pp_processor.specs.NeedAndEffect.{need}
 use Rattle.pp_processor.specs.Processor.{Processor}
 use Rattle.pp_runner.proofs.ReplyLemmas.{line_reply_fits, sight_of}
 use Rattle.pp_line.proofs.OrderLemmas.{length-extended}
-use Rattle.pp_runner.specs.Labour.{AreFoundByOne, NoneOlder, IsSameLine, HasOperated, operations}
+use Rattle.pp_runner.specs.WorkerState.{AreFoundByOne, NoneOlder, IsSameLine, HasOperated, operations}
 use Rattle.pp_runner.specs.End.{WasHeld}
 
 -- nothing came

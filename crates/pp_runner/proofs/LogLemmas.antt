@@ -10,7 +10,7 @@ use Rattle.pp_numbers.proofs.LastElements.{last_or-push}
 use Rattle.pp_line.specs.LineLog.{LogState, appended, looked, is_event, is_look_at}
 use Rattle.pp_runner.specs.Types.{Did, Entry, Saw, Seen}
 use Rattle.pp_processor.specs.Replay.{OfChannel}
-use Rattle.pp_runner.specs.Labour.{HasEntries}
+use Rattle.pp_runner.specs.WorkerState.{HasEntries}
 use Rattle.pp_runner.specs.WorkerReport.{event_in, events_in, sights_in}
 use Rattle.pp_numbers.specs.Subsequence.{IsSubsequence}
 use Rattle.pp_numbers.proofs.Subsequences.{stands_more}

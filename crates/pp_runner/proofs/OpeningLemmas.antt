@@ -15,7 +15,7 @@ use Rattle.pp_line.proofs.MergeLemmas.{times_within}
 use Rattle.pp_line.proofs.OpeningLemmas.{opening_more, opening_same}
 use Rattle.pp_machine.specs.Headline.{opening_history}
 use Rattle.pp_machine.specs.MachineState.{MachineState, is_opened}
-use Rattle.pp_runner.specs.Labour.{HasSeen}
+use Rattle.pp_runner.specs.WorkerState.{HasSeen}
 
 -- the opening histories of the channels before a place
 abbrev pub opened_before : ℕ → MachineState → ℕ → List Event

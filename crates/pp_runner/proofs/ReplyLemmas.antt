@@ -11,7 +11,7 @@ use Rattle.pp_channel.specs.History.{history_on}
 use Rattle.pp_processor.proofs.ReplayLemmas.{held_fits, made_fits, shown_fits, tells_where_fits}
 use Rattle.pp_processor.specs.Replay.{OfChannel, fits, reply_fits, contribution}
 use Rattle.pp_runner.proofs.AccessLemmas.{all_made, channel_accessed, no_writes}
-use Rattle.pp_runner.specs.Labour.{IsAnswered, IsNoted}
+use Rattle.pp_runner.specs.WorkerState.{IsAnswered, IsNoted}
 
 answer_fits : (h after : List Event) (op : ChanOp) (reply : Reply) → IsAnswer h op reply after → reply_fits op reply ≡ true
 answer_fits h after op reply is = grind (arith, made_fits, shown_fits)

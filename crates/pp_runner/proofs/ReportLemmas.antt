@@ -17,7 +17,7 @@ use Rattle.pp_runner.proofs.EndLemmas.{worn_later}
 use Rattle.pp_runner.proofs.LateAccesses.{is_late, late_accessed}
 use Rattle.pp_runner.specs.Accesses.{HaveAccessed}
 use Rattle.pp_runner.specs.Crew.{IsEnded, HasEnded, worker_of}
-use Rattle.pp_runner.specs.Labour.{HasSeen, NoneOlder}
+use Rattle.pp_runner.specs.WorkerState.{HasSeen, NoneOlder}
 use Rattle.pp_runner.specs.End.{WornWithCause}
 use Rattle.pp_runner.specs.WorkerReport.{AreWorkers}
 

@@ -10,7 +10,7 @@ use Rattle.pp_machine.specs.Headline.{opening_history}
 use Rattle.pp_machine.specs.MachineState.{MachineState}
 use Rattle.pp_processor.specs.Processor.{Processor}
 use Rattle.pp_numbers.specs.PpNo.{processor_count}
-use Rattle.pp_runner.specs.Labour.{HasMade, HasSeen, IsSameLine}
+use Rattle.pp_runner.specs.WorkerState.{HasMade, HasSeen, IsSameLine}
 use Rattle.pp_runner.specs.End.{WornWithCause}
 use Rattle.pp_runner.specs.WorkerReport.{IsWorker}
 
@@ -59,5 +59,5 @@ abbrev pub HasBegun : {A : Type 0} → Processor → ℕ → ℕ → LineState �
 HasBegun load size steps family (Begun.Here number line) = IsSplitFrom family (2 * steps + 1) line
 HasBegun load size steps family (Begun.Apart child) =
     IsSplitFrom family (2 * steps + 1) child.promise.line.value
-    × (child.promise.load.value ≡ load) × (child.promise.site.value.size ≡ size)
-    × (child.promise.site.value.limits.steps ≡ steps)
+    × (child.promise.load.value ≡ load) × (child.promise.run.value.size ≡ size)
+    × (child.promise.run.value.limits.steps ≡ steps)

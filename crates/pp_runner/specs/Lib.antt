@@ -5,5 +5,5 @@ pub mod Accesses
 pub mod Report
 -- cited only by private contracts: nobody has to read these to believe what the crate promises
 pub mod Banks
-pub mod Labour
+pub mod WorkerState
 pub mod Crew

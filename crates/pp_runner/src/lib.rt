@@ -5,15 +5,15 @@
 mod crew;
 mod end;
 mod gate;
-mod labour;
 mod locked_central;
 mod opening;
 mod report;
+mod run_context;
 mod run_fault;
-mod site;
 mod spinning;
 mod threads;
 mod worker;
+mod worker_state;
 
 pub use end::End;
 pub use gate::{Gate, NoGate};

@@ -8,7 +8,7 @@ ghost use Rattle.pp_runner.specs.Report.{IsReportOf};
 
 use crate::crew::run_crew;
 use crate::opening::opening_line;
-use crate::site::Site;
+use crate::run_context::RunContext;
 use crate::spinning::Spinning;
 use crate::worker::workers;
 use crate::{Gate, Report, RunFault};
@@ -63,14 +63,14 @@ pub fn run_threads<R: Threads + Wait + Sync, G: Gate + Sync, A: Allocator + Copy
     machine.is_sound();
     // Two entries an answer at most, and a look at which the worker gives up.
     let (first, lines) = open_family(alloc, machine, 2 * limits.steps() + 1)?;
-    let site = Site {
+    let run = RunContext {
         alloc,
         size: machine.central().size(),
         limits,
         family: Snapshot::of(&first),
         spinning: Spinning::of_run(rt),
     };
-    let crew = run_crew(rt, &site, gate, machine, lines)?;
+    let crew = run_crew(rt, &run, gate, machine, lines)?;
     // The events of the line that opened channels stand in no worker's log.
     let Closed { logs, channels } = first.close_with(crew)?;
     Ok(Report {

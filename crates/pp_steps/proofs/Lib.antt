@@ -1,8 +1,8 @@
 mod WhereLemmas
 mod LineLemmas
 mod PlaceLemmas
-mod RunCountLemmas
-mod CountedRuns
+mod SpellLemmas
+mod CountedSpells
 mod ChosenSteps
 mod EventLawLemmas
 mod StepLawLemmas

@@ -8,13 +8,13 @@ use Rattle.pp_numbers.specs.PpNo.{processor_count, processor_index}
 use Rattle.pp_run.specs.RunSteps.{RunStep, seen_of}
 use Rattle.pp_run.proofs.RunStepLemmas.{seen-append, seen_more, seen_other}
 use Rattle.pp_steps.specs.Cursor.{each_cursor, line_at, no_cursor, past_step}
-use Rattle.pp_steps.specs.HeldRuns.{HeldSpells, each_spells, last_of, no_spells, progress_of, with_step, is_held_with}
+use Rattle.pp_steps.specs.HeldSpells.{Spells, each_spells, last_of, no_spells, progress_of, with_step, is_held_with}
 use Rattle.pp_steps.specs.StepsText.{kind_text, line_kind, line_text, lines_from, with_lines}
 use Rattle.pp_steps.specs.declared.{cursor.Cursor.Cursor, cursor.LineKind.LineKind}
 use Rattle.pp_steps.specs.declared.cursor.LineKind.TheVariants.{NoLine, HeldSteps}
 use Rattle.pp_run.specs.declared.progress.Progress.{Progress}
-use Rattle.pp_steps.proofs.CountedRuns.{made_at}
-use Rattle.pp_steps.proofs.RunCountLemmas.{line_is, first_of, with_other, with_same}
+use Rattle.pp_steps.proofs.CountedSpells.{made_at}
+use Rattle.pp_steps.proofs.SpellLemmas.{line_is, first_of, with_other, with_same}
 use Rattle.std.specs.Prelude.{replicate}
 use Rattle.pp_channel.specs.declared.flags.Flags.{Flags}
 use Rattle.pp_steps.specs.StepsLaw.{is_by, is_running, line_steps, steps_on}
@@ -43,32 +43,32 @@ pub nothing_so_far : (all : List RunStep) → IsSoFar all [] all []
 nothing_so_far all = refl
 
 -- a turn more
-pub turn_told : (is_chosen : Bool) (all past future : List RunStep) (runs : List HeldSpells) (cursors : List Cursor) (step : RunStep) (did : Progress) (kind : LineKind) (text : List ℕ)
-    → processor_index step.processor < processor_count → did ≡ progress_of step → runs ≡ each_spells all → cursors ≡ each_cursor past
+pub turn_told : (is_chosen : Bool) (all past future : List RunStep) (spells : List Spells) (cursors : List Cursor) (step : RunStep) (did : Progress) (kind : LineKind) (text : List ℕ)
+    → processor_index step.processor < processor_count → did ≡ progress_of step → spells ≡ each_spells all → cursors ≡ each_cursor past
     → past ++ cond is_chosen (step ∷ future) future ≡ all
-    → kind ≡ cond is_chosen (line_at (get_or runs (processor_index step.processor) no_spells) (get_or cursors (processor_index step.processor) no_cursor) did) NoLine
+    → kind ≡ cond is_chosen (line_at (get_or spells (processor_index step.processor) no_spells) (get_or cursors (processor_index step.processor) no_cursor) did) NoLine
     → IsSoFar all past (cond is_chosen (step ∷ future) future) text
     → IsSoFar all (cond is_chosen (past ++ step ∷ []) past) future (text ++ kind_text kind step.processor step.before)
-turn_told true all past future runs cursors step did kind text low made counted followed parts line so_far =
+turn_told true all past future spells cursors step did kind text low made counted followed parts line so_far =
     let n = step.processor in
     let own = seen_of progress_of n past in
     let coming = seen_of progress_of n future in
-    let spells = get_or runs (processor_index n) no_spells in
+    let own_spells = get_or spells (processor_index n) no_spells in
     let cursor = get_or cursors (processor_index n) no_cursor in
-    let spells_are : spells ≡ fold with_step no_spells (own ++ progress_of step ∷ coming) =
-    made_at with_step no_spells runs all n low counted
+    let spells_are : own_spells ≡ fold with_step no_spells (own ++ progress_of step ∷ coming) =
+    made_at with_step no_spells spells all n low counted
     ∙ ap (λ (steps : List RunStep). fold with_step no_spells (seen_of progress_of n steps)) (sym parts)
     ∙ ap (fold with_step no_spells) (seen-append progress_of n past (step ∷ future) ∙ ap (λ (ps : List Progress). own ++ ps) (seen_first step future)) in
     let is : kind ≡ line_kind (last_of own) (progress_of step) coming =
     line
-    ∙ ap (line_at spells cursor) made
-    ∙ ap (λ (x : HeldSpells). line_at x cursor (progress_of step)) spells_are
+    ∙ ap (line_at own_spells cursor) made
+    ∙ ap (λ (x : Spells). line_at x cursor (progress_of step)) spells_are
     ∙ ap (λ (x : Cursor). line_at (fold with_step no_spells (own ++ progress_of step ∷ coming)) x (progress_of step)) (made_at past_step no_cursor cursors past n low followed)
     ∙ line_is own (progress_of step) coming in
     append_assoc text (kind_text kind n step.before) (flat_map line_text (lines_from (past ++ step ∷ []) future))
     ∙ ap (λ (x : LineKind). text ++ (kind_text x n step.before ++ flat_map line_text (lines_from (past ++ step ∷ []) future))) is
     ∙ so_far
-turn_told false all past future runs cursors step did kind text low made counted followed parts line so_far = grind (arith, append-nil)
+turn_told false all past future spells cursors step did kind text low made counted followed parts line so_far = grind (arith, append-nil)
 
 pub everything : (all past : List RunStep) (text : List ℕ) → IsSoFar all past [] text → text ≡ flat_map line_text (with_lines all)
 everything all past text h = sym (append-nil text) ∙ h

@@ -1,6 +1,6 @@
 pub mod Choice
 pub mod StepLine
-pub mod HeldRuns
+pub mod HeldSpells
 pub mod StepsText
 pub mod StepsLaw
 pub mod ShownStep

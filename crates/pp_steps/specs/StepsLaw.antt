@@ -9,7 +9,7 @@ use Rattle.pp_machine.specs.declared.{trace.Trace.Trace}
 use Rattle.pp_processor.specs.declared.need.Need.TheVariants.{Channel}
 use Rattle.pp_run.specs.RunSteps.{is_of}
 use Rattle.pp_steps.specs.Choice.{chooses_channel, chooses_turn}
-use Rattle.pp_steps.specs.HeldRuns.{progress_of}
+use Rattle.pp_steps.specs.HeldSpells.{progress_of}
 use Rattle.pp_steps.specs.declared.{choice.Choice.Choice, cursor.LineKind.LineKind}
 use Rattle.pp_steps.specs.StepsText.{StepWithLine}
 use Rattle.pp_steps.specs.declared.cursor.LineKind.TheVariants.{NoLine, OneStep, HeldSteps}

@@ -5,7 +5,7 @@ use Rattle.pp_machine.specs.MachineState.{MachineState}
 use Rattle.pp_machine.specs.MachineStep.{stepped}
 use Rattle.pp_run.specs.RunSteps.{RunStep, seen_of}
 use Rattle.pp_steps.specs.Choice.{chosen_steps}
-use Rattle.pp_steps.specs.HeldRuns.{is_held_with, last_of, progress_of}
+use Rattle.pp_steps.specs.HeldSpells.{is_held_with, last_of, progress_of}
 use Rattle.pp_steps.specs.StepLine.{held_line, step_line}
 use Rattle.pp_steps.specs.declared.{choice.Choice.Choice, cursor.LineKind.LineKind}
 use Rattle.pp_steps.specs.declared.cursor.LineKind.TheVariants.{NoLine, OneStep, HeldSteps}

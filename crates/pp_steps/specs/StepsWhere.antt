@@ -12,7 +12,7 @@ use Rattle.pp_run.specs.declared.progress.Progress.TheVariants.{AtRest, Moved, H
 use Rattle.pp_text.specs.Written.{IsReportWritten}
 use Rattle.pp_text.specs.declared.report_fault.ReportFault.{ReportFault}
 use Rattle.pp_steps.specs.Choice.{chosen_steps}
-use Rattle.pp_steps.specs.HeldRuns.{progress_of}
+use Rattle.pp_steps.specs.HeldSpells.{progress_of}
 use Rattle.pp_steps.specs.StepsText.{StepWithLine, line_text}
 use Rattle.pp_steps.specs.declared.{choice.Choice.Choice, cursor.LineKind.LineKind}
 use Rattle.pp_steps.specs.declared.cursor.LineKind.TheVariants.{NoLine, OneStep, HeldSteps}

@@ -1,9 +1,9 @@
-//! How far a processor has come in the times that it is held.
+//! How far a processor has come in the spells in which it is held.
 
 ghost use Rattle.std.specs.Prelude.{◌≡◌, ◌+◌, ◌<◌, ◌^◌};
 ghost use Rattle.pp_steps.specs.Cursor.{line_at, past_step};
 
-use crate::held_runs::{HeldRuns, goes_on};
+use crate::held_spells::{HeldSpells, continues_spell};
 use pp_run::Progress;
 use std::alloc::Allocator;
 
@@ -18,30 +18,30 @@ pub(crate) enum LineKind {
     HeldSteps(u32),
 }
 
-/// How many times a processor has been held, and its last step.
+/// In how many spells a processor has been held, and its last step.
 #[derive(Clone, Copy)]
 pub(crate) struct Cursor {
-    pub(crate) times: usize,
+    pub(crate) spells: usize,
     pub(crate) last: Progress,
 }
 
 impl Cursor {
     /// Goes past a step, and says which line it has: how many steps in a row are held from it on
     /// was counted before.
-    pub(crate) fn pass<A: Allocator>(&mut self, runs: &HeldRuns<A>, step: Progress) -> LineKind
-        requires { self.old.times + 1 < 2 ^ 64 }
+    pub(crate) fn pass<A: Allocator>(&mut self, spells: &HeldSpells<A>, step: Progress) -> LineKind
+        requires { self.old.spells + 1 < 2 ^ 64 }
         ensures cursor { self.new ≡ past_step self.old step }
-        ensures line { result ≡ line_at runs.now self.old step }
+        ensures line { result ≡ line_at spells.now self.old step }
     {
-        let goes_on = goes_on(&self.last, &step);
+        let continues = continues_spell(&self.last, &step);
         self.last = step;
         match step {
             Progress::AtRest => LineKind::NoLine,
             Progress::Moved => LineKind::OneStep,
-            Progress::Held(_) if goes_on => LineKind::NoLine,
+            Progress::Held(_) if continues => LineKind::NoLine,
             Progress::Held(_) => {
-                let count = runs.count(self.times);
-                self.times += 1;
+                let count = spells.count(self.spells);
+                self.spells += 1;
                 LineKind::HeldSteps(count)
             }
         }

@@ -6,7 +6,7 @@ ghost use Rattle.std.specs.List.{All, filter, flat_map};
 ghost use Rattle.pp_machine.specs.MachineState.{MachineState};
 ghost use Rattle.pp_machine.specs.Run.{run};
 ghost use Rattle.pp_steps.specs.Choice.{chosen_steps};
-ghost use Rattle.pp_steps.specs.HeldRuns.{progress_of};
+ghost use Rattle.pp_steps.specs.HeldSpells.{progress_of};
 ghost use Rattle.pp_steps.specs.StepsLaw.{is_by, is_chosen_event, is_running, line_event, line_steps};
 ghost use Rattle.pp_condition.specs.declared.condition.Condition.{Condition};
 ghost use Rattle.pp_run.specs.RunSteps.{RunStep, seen_of};

@@ -4,9 +4,9 @@
 
 mod choice;
 mod cursor;
-mod held_runs;
+mod held_spells;
 mod laws;
-mod run_counts;
+mod spell_counts;
 mod step_line;
 mod steps_text;
 mod steps_where;

@@ -5,7 +5,7 @@ ghost use Rattle.pp_steps.specs.StepsText.{steps_text};
 
 use crate::Choice;
 use crate::cursor::{Cursor, LineKind};
-use crate::run_counts::counted_runs;
+use crate::spell_counts::counted_spells;
 use crate::step_line::{print_held_line, print_step_line};
 use pp_machine::{Machine, PROCESSORS};
 use pp_run::{BareMachine, Order, Progress};
@@ -26,19 +26,19 @@ pub fn write_steps<A: Allocator + Copy, W: Write>(
     ensures { IsReportWritten (steps_text choice.now order.now machine.now)
         result (W.contents writer.old) (W.contents writer.new) }
 {
-    let runs = counted_runs(alloc, machine, choice, order).map_err(|_| ReportFault::Memory)?;
+    let spells = counted_spells(alloc, machine, choice, order).map_err(|_| ReportFault::Memory)?;
     let mut before = BareMachine::of(alloc, machine).map_err(|_| ReportFault::Memory)?;
     let mut after = BareMachine::of(alloc, machine).map_err(|_| ReportFault::Memory)?;
     let mut text = TextWriter::new(writer);
     let mut cursors = [Cursor {
-        times: 0,
+        spells: 0,
         last: Progress::AtRest,
     }; PROCESSORS];
     for n in order.processors() {
         let is_chosen = choice.has(&after, *n);
         let step = after.step(*n);
         let kind = if is_chosen {
-            cursors[n.index()].pass(&runs[n.index()], step)
+            cursors[n.index()].pass(&spells[n.index()], step)
         } else {
             LineKind::NoLine
         };

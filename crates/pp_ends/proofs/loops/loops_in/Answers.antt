@@ -21,8 +21,8 @@ use Rattle.pp_ends.proofs.loops.loops_in.Goals as goal
 in_list : (end : ℕ) (order : List ℕ) (p : Profile) (turn : ℕ) → order ≡ barrel p end → turn < end → turn < length order
 in_list end order p turn are low = omega (arith, low, ap length are, length-barrel p end)
 
-pub slice_bounds-run_telling-end : goal.slice_bounds-run_telling-end
-slice_bounds-run_telling-end g c = omega (arith, c.in-Some.ensures, length-take c.args.from c.processors-order.result.now, ap length (c.processors-order.ensures.are ∙ c.in_ok-order.ensures), length-barrel c.args.machine.now.profile c.in-Some.end)
+pub slice_bounds-run_to_last_move-end : goal.slice_bounds-run_to_last_move-end
+slice_bounds-run_to_last_move-end g c = omega (arith, c.in-Some.ensures, length-take c.args.from c.processors-order.result.now, ap length (c.processors-order.ensures.are ∙ c.in_ok-order.ensures), length-barrel c.args.machine.now.profile c.in-Some.end)
 
 pub bounds-order-turn : goal.bounds-order-turn
 bounds-order-turn g c = in_list c.in-Some.end _ c.args.machine.now.profile c.loop-turn.turn (c.processors-order.ensures.are ∙ c.in_ok-order.ensures) c.loop-turn-test.true
@@ -30,7 +30,7 @@ bounds-order-turn g c = in_list c.in-Some.end _ c.args.machine.now.profile c.loo
 pub loop-turn-init : goal.loop-turn-init
 loop-turn-init g c =
     (record {
-      ran = c.run_telling-still.ensures.ran c.args.from c.args.machine.now (ap (take c.args.from) (c.processors-order.ensures.are ∙ c.in_ok-order.ensures) ∙ take_barrel c.args.machine.now.profile c.in-Some.end c.args.from (omega (arith, c.in-Some.ensures))) c.in_ok-bare.ensures;
+      ran = c.run_to_last_move-still.ensures.ran c.args.from c.args.machine.now (ap (take c.args.from) (c.processors-order.ensures.are ∙ c.in_ok-order.ensures) ∙ take_barrel c.args.machine.now.profile c.in-Some.end c.args.from (omega (arith, c.in-Some.ensures))) c.in_ok-bare.ensures;
       on = omega arith;
       places = refl;
       loops = λ n names. rw (get_or-replicate {A = Option Loop} processor_count (processor_index n) None None (processor_places.place_below n names)) (λ turn i. omega (arith, i.from_on, i.before));
@@ -46,14 +46,14 @@ loop-turn-preserved g c =
     let names : IsTrue (names_processor n) = processor_places.named_below n c.pp.ensures.within in
     let on = c.loop-turn.invariant.on in
     record {
-      ran = subst (λ (k : MachineState). StandsFor c.step_telling-moved.new.bare k)
+      ran = subst (λ (k : MachineState). StandsFor c.step_moves-moved.new.bare k)
           (ap (λ (k : ℕ). stepped k (after_turns turn m)) is ∙ sym (barrel_more m.profile turn m))
-          (c.step_telling-moved.ensures.stepped (after_turns turn m) c.loop-turn.invariant.ran);
+          (c.step_moves-moved.ensures.stepped (after_turns turn m) c.loop-turn.invariant.ran);
       on = omega (arith, on);
-      places = ap length c.note.ensures ∙ noted_places c.loop-turn.loops n c.p-p.result c.step_telling-moved.result ∙ c.loop-turn.invariant.places;
+      places = ap length c.note.ensures ∙ noted_places c.loop-turn.loops n c.p-p.result c.step_moves-moved.result ∙ c.loop-turn.invariant.places;
       loops = subst (λ (loops : List (Option Loop)). TellLoops loops c.args.from (turn + 1) m) (sym c.note.ensures)
-          (loops_more c.loop-turn.loops c.args.from turn n c.p-p.result m c.step_telling-moved.result c.loop-turn.invariant.places on is names p
-          (c.step_telling-moved.ensures.moved (after_turns turn m) c.loop-turn.invariant.ran) c.loop-turn.invariant.loops);
+          (loops_more c.loop-turn.loops c.args.from turn n c.p-p.result m c.step_moves-moved.result c.loop-turn.invariant.places on is names p
+          (c.step_moves-moved.ensures.moved (after_turns turn m) c.loop-turn.invariant.ran) c.loop-turn.invariant.loops);
     }
 
 pub returns : goal.returns

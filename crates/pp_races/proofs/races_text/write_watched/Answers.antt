@@ -1,5 +1,5 @@
-use Rattle.std.proofs.Common.{◌≡◌, ◌≤◌, ℕ, take, [], inl, inr, length, sym, ap, ◌∙◌, Ok, Err, Result, arith, rules}
-use Rattle.std.specs.Prelude.{OnErr}
+use Rattle.std.proofs.Common.{◌≡◌, ◌≤◌, ℕ, take, [], refl, inl, inr, length, sym, ap, ◌∙◌, Ok, Err, Result, arith, rules}
+use Rattle.std.specs.Prelude.{OnErr, OnOk}
 use Rattle.std.proofs.lemmas.List.{take_all}
 use Rattle.pp_machine.specs.Run.{run}
 use Rattle.pp_text.specs.declared.report_fault.ReportFault.{ReportFault}
@@ -12,41 +12,53 @@ on_err : {X Y P : Type 0} (answer : Result X Y) → P → OnErr answer P
 on_err (Ok x) p = tt
 on_err (Err y) p = p
 
-pub returns-in-Ok-clause-cut : goal.returns-in-Ok-clause-cut
-returns-in-Ok-clause-cut g c =
+on_ok : {X Y P : Type 0} (answer : Result X Y) → P → OnOk answer P
+on_ok (Ok x) p = p
+on_ok (Err y) p = tt
+
+pub returns-in-Ok : goal.returns-in-Ok
+returns-in-Ok g c =
     let order = c.args.order.now in
     let cut : (done : ℕ) × (done ≤ length order) × (c.print_run.new.machine ≡ run (take done order) c.args.machine.now) =
     (length order, omega arith, c.in-Ok.ensures.ran ∙ ap (λ ns. run ns c.args.machine.now) (sym (take_all (length order) order (omega arith)))) in
-    on_err _ cut
-
-pub returns-in-Ok-clause-written : goal.returns-in-Ok-clause-written
-returns-in-Ok-clause-written g c =
     let printed = all_printed g.W.Write.contents _ _ _ c.in-Ok.verdict _ c.in-Ok.ensures.printed c.print_verdict.ensures in
     let written = c.finish.ensures.written _ _ (printed.goes_on _ [] c.new-text.ensures.nothing) in
-    search (rules, written)
+    record {
+      written = search (rules, written);
+      same = λ _. c.in-Ok.ensures.same;
+      no_race = λ _. c.in-Ok.ensures.no_race;
+      ran = on_ok _ c.in-Ok.ensures.ran;
+      cut = on_err _ cut;
+    }
 
-pub returns-in-Same-clause-written : goal.returns-in-Same-clause-written
-returns-in-Same-clause-written g c =
+pub returns-in-Same : goal.returns-in-Same
+returns-in-Same g c =
     let printed = nothing_printed g.W.Write.contents _ _ c.in-Err.verdict _ c.in-Same.is c.in-Err.ensures.printed_first in
     let kept = cut_written g.W.Write.contents _ _ [] ReportFault.Memory c.finish-written.result _ _ printed c.new-text.ensures.nothing c.finish-written.ensures.written in
-    search (rules, kept)
+    record {
+      written = search (rules, kept);
+      same = λ other. absurd (other refl);
+      no_race = λ other. absurd (other refl);
+      ran = tt;
+      cut = c.in-Err.ensures.cut;
+    }
 
-pub returns-in-NoRaceSoFar-clause-written : goal.returns-in-NoRaceSoFar-clause-written
-returns-in-NoRaceSoFar-clause-written g c =
+pub returns-in-NoRaceSoFar : goal.returns-in-NoRaceSoFar
+returns-in-NoRaceSoFar g c =
     let printed = part_printed g.W.Write.contents _ _ c.in-Err.verdict _ c.in-Err.ensures.printed_first in
     let written = cut_written g.W.Write.contents _ _ (races_text c.args.order.now c.args.machine.now) ReportFault.Write c.finish-written.result _ _ printed
     c.new-text.ensures.nothing c.finish-written.ensures.written in
-    search (rules, written)
-
-pub returns-in-NoRaceSoFar-clause-same : goal.returns-in-NoRaceSoFar-clause-same
-returns-in-NoRaceSoFar-clause-same g c = λ written none.
-    absurd (some_printed g.W.Write.contents _ _ c.in-Err.verdict _ c.in-Err.ensures.printed_first (λ same. elim c.in-NoRaceSoFar.is [
-      | inl is ↦ (let bad : NoRaceSoFar ≡ Same = sym is ∙ same in cc)
-      | inr is ↦ (let bad : MayDiffer ≡ Same = sym is ∙ same in cc)
-    ]) none)
-
-pub returns-in-NoRaceSoFar-clause-no_race : goal.returns-in-NoRaceSoFar-clause-no_race
-returns-in-NoRaceSoFar-clause-no_race g c = λ written going. elim c.in-NoRaceSoFar.is [
-  | inl is ↦ absurd (c.in-Err.ensures.of_steps is)
-  | inr is ↦ absurd (some_race g.W.Write.contents _ _ c.in-Err.verdict _ c.in-Err.ensures.printed_first is going)
-]
+    record {
+      written = search (rules, written);
+      same = λ _ none.
+          absurd (some_printed g.W.Write.contents _ _ c.in-Err.verdict _ c.in-Err.ensures.printed_first (λ same. elim c.in-NoRaceSoFar.is [
+            | inl is ↦ (let bad : NoRaceSoFar ≡ Same = sym is ∙ same in cc)
+            | inr is ↦ (let bad : MayDiffer ≡ Same = sym is ∙ same in cc)
+          ]) none);
+      no_race = λ _ going. elim c.in-NoRaceSoFar.is [
+        | inl is ↦ absurd (c.in-Err.ensures.of_steps is)
+        | inr is ↦ absurd (some_race g.W.Write.contents _ _ c.in-Err.verdict _ c.in-Err.ensures.printed_first is going)
+      ];
+      ran = tt;
+      cut = c.in-Err.ensures.cut;
+    }

@@ -6,9 +6,9 @@ use Rattle.pp_runner.proofs.crew.finish.Goals.{in-Here, in-Apart}
 
 pub returns : goal.returns
 returns g c loads all =
-    let size = c.args.site.now.size in
-    let steps = c.args.site.now.limits.steps in
-    let family = c.args.site.now.family.value in
+    let size = c.args.run.now.size in
+    let steps = c.args.run.now.limits.steps in
+    let family = c.args.run.now.family.value in
     let one : HasEnded size steps family c.args.load.now c.match-begun.last = elim c.match-begun.branch [
       | in-Here w ↦ rw w.last-is (record { line = w.in-Here.line; fresh = rw w.in-Here.is at c.requires.begun; has = w.work-last.ensures.ended })
       | in-Apart w ↦

@@ -12,15 +12,15 @@ use Rattle.pp_text.proofs.PrintingLemmas.{prints_nothing, prints_then}
 use Rattle.pp_run.specs.BareMachine.{StandsFor, progress}
 use Rattle.pp_steps.specs.Choice.{chosen_steps, is_chosen}
 use Rattle.pp_steps.specs.Cursor.{each_cursor, line_at, no_cursor, past_step}
-use Rattle.pp_steps.specs.HeldRuns.{each_spells, no_spells, with_step}
+use Rattle.pp_steps.specs.HeldSpells.{each_spells, no_spells, with_step}
 use Rattle.pp_steps.specs.declared.cursor.Cursor.{Cursor}
 use Rattle.pp_steps.specs.declared.cursor.LineKind.TheVariants.{NoLine}
 use Rattle.pp_numbers.proofs.TableLemmas.{length-tabulate}
 use Rattle.pp_steps.specs.StepsText.{kind_text, steps_text}
 use Rattle.pp_steps.proofs.ChosenSteps.{chosen_from, chosen_more, chosen_parts, few_chosen, next_chosen, none_left, step_in}
 use Rattle.pp_steps.proofs.StepLawLemmas.{IsSoFar, everything, nothing_so_far, turn_told}
-use Rattle.pp_steps.proofs.CountedRuns.{made_few, made_here, made_more, none_made}
-use Rattle.pp_steps.proofs.RunCountLemmas.{times_grow}
+use Rattle.pp_steps.proofs.CountedSpells.{made_few, made_here, made_more, none_made}
+use Rattle.pp_steps.proofs.SpellLemmas.{spells_grow}
 use Rattle.pp_steps.proofs.LineLemmas.{kept_ok}
 use Rattle.pp_steps.proofs.steps_text.write_steps.Goals as goal
 use Rattle.pp_steps.proofs.steps_text.write_steps.Goals.{then-is_chosen, else-is_chosen, in-NoLine, in-OneStep, in-HeldSteps}
@@ -42,8 +42,8 @@ pass-kind-requires g c =
     let t = c.loop-n.n-index in
     omega (
       arith,
-      ap (λ (i : ℕ). (get_or c.loop-n.cursors i no_cursor).times) c.index.ensures.place,
-      made_few past_step no_cursor (λ (x : Cursor). x.times) times_grow c.loop-n.cursors (chosen_steps c.args.choice.now (take t order) m) c.n-item.result c.step-step.ensures.within c.loop-n.invariant.followed,
+      ap (λ (i : ℕ). (get_or c.loop-n.cursors i no_cursor).spells) c.index.ensures.place,
+      made_few past_step no_cursor (λ (x : Cursor). x.spells) spells_grow c.loop-n.cursors (chosen_steps c.args.choice.now (take t order) m) c.n-item.result c.step-step.ensures.within c.loop-n.invariant.followed,
       few_chosen c.args.choice.now order t m,
       c.loop-n-test.true,
       c.processors-n-items.ensures.few,
@@ -53,8 +53,8 @@ pass-kind-requires g c =
 pub index-requires-then-is_chosen-2 : goal.index-requires-then-is_chosen-2
 index-requires-then-is_chosen-2 g c =
     let m = c.args.machine.now in
-    let counted : c.in_ok-runs.runs.items ≡ each_spells (chosen_steps c.args.choice.now c.args.order.now m) = search rules in
-    let long : length c.in_ok-runs.runs.items ≡ processor_count = ap length counted ∙ length-tabulate processor_count _ in
+    let counted : c.in_ok-spells.spells.items ≡ each_spells (chosen_steps c.args.choice.now c.args.order.now m) = search rules in
+    let long : length c.in_ok-spells.spells.items ≡ processor_count = ap length counted ∙ length-tabulate processor_count _ in
     omega (arith, c.index-then-is_chosen.ensures.below, long)
 
 pub loop-n-preserved : goal.loop-n-preserved
@@ -83,14 +83,14 @@ loop-n-preserved g c =
     ap (λ (x : Bool). cond x (past ++ step ∷ []) past) chosen ∙ chosen_more choice order t m n low is in
     let parts : past ++ cond b (step ∷ future) future ≡ all = ap (λ (steps : List RunStep). past ++ steps) (sym come) ∙ chosen_parts choice order t m in
     let kind = c.if-is_chosen.kind in
-    let counted : c.in_ok-runs.runs.items ≡ each_spells all = search rules in
+    let counted : c.in_ok-spells.spells.items ≡ each_spells all = search rules in
     let cursors : c.if-is_chosen.cursors ≡ cond b (slice_set c.loop-n.cursors (processor_index n) (past_step (get_or c.loop-n.cursors (processor_index n) no_cursor) c.step-step.result)) c.loop-n.cursors = elim c.if-is_chosen.branch [
       | then-is_chosen w ↦ rw (w.cursors-is, w.if-is_chosen.true) (search rules)
       | else-is_chosen w ↦ rw (w.cursors-is, w.if-is_chosen.false)
     ] in
-    let line : kind ≡ cond b (line_at (get_or c.in_ok-runs.runs.items (processor_index n) no_spells) (get_or c.loop-n.cursors (processor_index n) no_cursor) c.step-step.result) NoLine = elim c.if-is_chosen.branch [
+    let line : kind ≡ cond b (line_at (get_or c.in_ok-spells.spells.items (processor_index n) no_spells) (get_or c.loop-n.cursors (processor_index n) no_cursor) c.step-step.result) NoLine = elim c.if-is_chosen.branch [
       | then-is_chosen w ↦
-          let here = made_here with_step no_spells w.index-then-is_chosen-2.result.now c.in_ok-runs.runs.items all n w.index-then-is_chosen.result w.index-then-is_chosen.ensures.place w.index-then-is_chosen.ensures.below counted w.index-then-is_chosen-2.ensures in
+          let here = made_here with_step no_spells w.index-then-is_chosen-2.result.now c.in_ok-spells.spells.items all n w.index-then-is_chosen.result w.index-then-is_chosen.ensures.place w.index-then-is_chosen.ensures.below counted w.index-then-is_chosen-2.ensures in
           rw (w.kind-is, w.if-is_chosen.true, w.pass-kind.ensures.line, here, w.index.ensures.place)
       | else-is_chosen w ↦ rw (w.kind-is, w.if-is_chosen.false)
     ] in
@@ -108,7 +108,7 @@ loop-n-preserved g c =
         text ++ kind_text kind n old,
         prints_then _ _ _ _ text _ prints told,
         subst (λ (steps : List RunStep). IsSoFar all steps future (text ++ kind_text kind n old)) gone
-            (turn_told b all past future c.in_ok-runs.runs.items c.loop-n.cursors step c.step-step.result kind text place made counted c.loop-n.invariant.followed parts line
+            (turn_told b all past future c.in_ok-spells.spells.items c.loop-n.cursors step c.step-step.result kind text place made counted c.loop-n.invariant.followed parts line
             (subst (λ (steps : List RunStep). IsSoFar all past steps text) come so_far)),
       );
     }
