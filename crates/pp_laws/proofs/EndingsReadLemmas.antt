@@ -1,15 +1,12 @@
 -- The orders that are read from the text of all endings are those that it was printed of.
-use Rattle.std.proofs.Common.{◌≡◌, ℕ, ◌+◌, ◌/◌, ◌%◌, Bool, false, eqb, [], ◌++◌, Option, None, Some, refl, arith, add-one, zero, suc, ◌≤◌, true, cond, List, ◌∷◌, append-nil, length, take, sym, ap, ◌∙◌, subst}
+use Rattle.std.proofs.Common.{◌≡◌, ℕ, ◌+◌, ◌/◌, ◌%◌, Bool, false, [], ◌++◌, Option, None, Some, refl, arith, add-one, zero, suc, ◌≤◌, true, cond, List, ◌∷◌, append-nil, length, take, sym, ap, ◌∙◌, subst}
 use Rattle.std.specs.Prelude.{codes, All, slice_index_or}
 use Rattle.std.proofs.lemmas.Bool.{ne_eqb}
 use Rattle.pp_word.specs.Numeral.{octal, short_decimal}
 use Rattle.pp_channel.specs.declared.flags.Flags.{Flags}
 use Rattle.pp_machine.specs.MachineState.{MachineState, processor_of}
 use Rattle.pp_processor.specs.declared.{block.Block.Block, block.BlockKind.BlockKind, need.Need.Need, outcome.Outcome.Outcome}
-use Rattle.pp_processor.specs.declared.block.BlockKind.TheVariants.{Input, Output}
-use Rattle.pp_processor.specs.declared.need.Need.TheVariants.{Channel}
-use Rattle.pp_processor.specs.declared.outcome.Outcome.TheVariants.{Held}
-use Rattle.pp_deck.specs.DeckLine.{Line, central_size, central_words, section, start, words}
+use Rattle.pp_deck.specs.DeckLine.{Line}
 use Rattle.pp_deck.proofs.FieldTextLemmas.{octal_plain, is_plain, plain_joined}
 use Rattle.pp_listing.specs.ListedLine.{line_text, deck_line}
 use Rattle.pp_text.specs.InstructionText.{block_text, running_text}
@@ -43,47 +40,29 @@ use Rattle.pp_laws.proofs.PrintedTextLemmas.{Says, says_below, says_both, says_n
 -- ---- how a processor stands
 
 block_plain : (kind : BlockKind) → IsPlain (block_text kind)
-block_plain (Input c) = search octal_plain
-block_plain (Output c) = search octal_plain
-block_plain kind = refl
+block_plain kind = grind (arith, octal_plain)
 
 running_plain : (block : Option Block) (place word m : ℕ) → IsPlain (running_text block place word m)
-running_plain None place word m = instruction_plain place word m
-running_plain (Some block) place word m = block_plain block.kind
+running_plain block place word m = grind (arith, instruction_plain, block_plain)
 
 block_place_plain : (block : Option Block) → IsPlain (block_place_text block)
 block_place_plain None = refl
 block_place_plain (Some block) = plain_append (codes " BLOCK ") (octal 4 block.place) refl (octal_plain 4 block.place)
 
 flags_plain : (flags : Flags) → IsPlain (flags_text flags)
-flags_plain flags =
-    plain_if flags.active _ (codes "INACTIVE")
-    (plain_if flags.full (codes "ACTIVE FULL") (codes "ACTIVE EMPTY") refl refl) refl
+flags_plain flags = grind (arith, plain_if)
 
 held_plain : (x : Need) (outcome : Outcome) (m : MachineState) → IsPlain (held_text x outcome m 0)
-held_plain (Channel c op) Held m = search (plain_append, octal_plain, flags_plain)
-held_plain (Channel c op) other m = refl
-held_plain x outcome m = refl
-
-going_plain : (goes_on : Bool) → IsPlain (going_text goes_on)
-going_plain goes_on = plain_if goes_on (codes " GOES ON") [] refl refl
+held_plain x outcome m = grind (arith, plain_append, octal_plain, flags_plain)
 
 standing_plain : (n : ℕ) (m : MachineState) → IsPlain (standing n m 0)
 standing_plain n m = search (plain_append, plain_state, running_plain, block_place_plain, held_plain)
 
 pub said_plain : (n : ℕ) (m : MachineState) (goes_on : Bool) → IsPlain (standing n m 0 ++ going_text goes_on)
-said_plain n m goes_on = plain_append (standing n m 0) (going_text goes_on) (standing_plain n m) (going_plain goes_on)
+said_plain n m goes_on = search (plain_append, standing_plain, plain_if)
 
 pub line_no_order : (line : Line) → names_order (line_text line) ≡ false
-line_no_order (central_size n) = refl
-line_no_order (central_words a ws) = refl
-line_no_order (section n) = refl
-line_no_order (start p a) = refl
-line_no_order (words x ws) =
-    let first = x / 8 / 8 / 8 % 8 in
-    let other : eqb (48 + first) 79 ≡ false = ne_eqb (48 + first) 79 (λ e. absurd (omega (arith, e))) in
-    rw other refl
-line_no_order line = refl
+line_no_order line = grind (arith, ne_eqb)
 
 module _ (profile : Profile) where
   -- these orders are read of a text
@@ -116,8 +95,7 @@ module _ (profile : Profile) where
       (other_line (processor_body n (processor_of n m) said) (plain_processor n (processor_of n m) said (said_plain n m (is_named going n))) refl))
     where
       by_name : (b : Bool) (text : List ℕ) → Says Reads text [] → Says Reads (cond b text []) []
-      by_name true text says = says
-      by_name false text says = λ rest more is. is
+      by_name b text says = grind arith
 
   passes_deck_line : (line : Line) → Says Reads (deck_line line) []
   passes_deck_line line = other_line (line_text line) (bare_plain line) (line_no_order line)
@@ -129,8 +107,7 @@ module _ (profile : Profile) where
       subst (λ text. Says Reads text []) (sym (channel_line_is c e h)) (other_line _ (plain_joined (channel_field c ∷ fields) (are_channel_fields c _ _)) (by_fields fields))
     where
       by_fields : (fields : List (List ℕ)) → names_order (join_with_byte 32 (channel_field c ∷ fields)) ≡ false
-      by_fields [] = refl
-      by_fields (field ∷ fields) = refl
+      by_fields fields = grind arith
 
   passes_changes : (before after : MachineState) → Says Reads (changes_text before after) []
   unfolding changes_text
@@ -181,5 +158,4 @@ module _ (profile : Profile) where
 pub says_all : (deck : LoadedDeck) (text : List ℕ) (orders : List (List ℕ)) (going : List (List Bool)) (more : Bool) → text ≡ endings_text deck orders going more
     → ¬ SaysMore text → more ≡ false
 unfolding endings_text
-says_all deck text orders going true is no_more = absurd (no_more (length orders, each_below (length orders) (ending_at deck orders going), is))
-says_all deck text orders going false is no_more = refl
+says_all deck text orders going more is no_more = grind arith

@@ -1,5 +1,5 @@
 -- A run that goes on, and one from its dump, step by step.
-use Rattle.std.proofs.Common.{◌≡◌, ◌≢◌, ℕ, ◌+◌, ◌^◌, ◌<◌, ◌≤◌, Bool, true, false, cond, IsTrue, List, [], ◌∷◌, ◌++◌, append-nil, append_assoc, length, map, Option, Some, None, Ok, refl, sym, ap, ◌∙◌, subst, inl, inr, arith}
+use Rattle.std.proofs.Common.{◌≡◌, ◌≢◌, ℕ, ◌+◌, ◌^◌, ◌<◌, ◌≤◌, Bool, false, cond, IsTrue, List, [], ◌∷◌, ◌++◌, append-nil, append_assoc, length, map, Option, Some, None, Ok, refl, sym, ap, ◌∙◌, subst, inl, inr, arith}
 use Rattle.std.specs.Prelude.{filter_map, nat_lt, slice_get}
 use Rattle.std.specs.Option.{option_to_list}
 use Rattle.std.proofs.Math.ListN.{get_or-map}
@@ -8,9 +8,9 @@ use Rattle.std.proofs.lemmas.List.{get_or-replicate, get_or_past, length-map, le
 use Rattle.pp_numbers.specs.ChannelNo.{all_channels, channel_count, channel_index, channel_number, channel_places, names_channel}
 use Rattle.pp_numbers.specs.PpNo.{all_processors, processor_count, processor_index}
 use Rattle.pp_numbers.specs.Tables.{tabulate}
-use Rattle.pp_channel.specs.Answer.{channel_state, event_by, event_of}
+use Rattle.pp_channel.specs.Answer.{channel_state}
 use Rattle.pp_channel.specs.History.{IsLawful, active}
-use Rattle.pp_channel.specs.declared.{channel_state.ChannelState.ChannelState, event.Event.Event}
+use Rattle.pp_channel.specs.declared.{event.Event.Event}
 use Rattle.pp_channel.specs.declared.event.Event.TheVariants.{Activate}
 use Rattle.pp_channel.proofs.LawLemmas.{law_of_lawful}
 use Rattle.pp_machine.specs.Headline.{HoldsOnChannel}
@@ -21,7 +21,6 @@ use Rattle.pp_processor.specs.Processor.{Processor, IsAtRest, no_processor}
 use Rattle.pp_machine.specs.Run.{run, run_order}
 use Rattle.pp_processor.specs.declared.{need.Need.Need, pp_state.PpState.PpState}
 use Rattle.pp_machine.specs.declared.{trace.Trace.Trace}
-use Rattle.pp_processor.specs.declared.need.Need.TheVariants.{Channel}
 use Rattle.pp_processor.specs.declared.pp_state.PpState.TheVariants.{Running, Stopped, Fault}
 use Rattle.pp_machine.proofs.MachineStepLemmas.{stepped_at_rest}
 use Rattle.pp_machine.proofs.OrderLemmas.{length-run_order}
@@ -53,20 +52,11 @@ abbrev entry : ℕ → ℕ → ℕ → Event → Trace
 entry turn n c e = record { turn = turn; pp = n; channel = c; event = e }
 
 entries : (turns one other n c : ℕ) (o : Option Event) → one ≡ turns + other → map (entry one n c) (option_to_list o) ≡ map (later turns) (map (entry other n c) (option_to_list o))
-entries turns one other n c None count = refl
-entries turns one other n c (Some e) count = ap (λ (turn : ℕ). entry turn n c e ∷ []) count
+entries turns one other n c o count = grind arith
 
 events_alike : (turns n : ℕ) (before : List Trace) (one other : MachineState) → ChannelsAlike one other → one.turns ≡ turns + other.turns → one.trace ≡ before ++ map (later turns) other.trace → (x : Need)
     → trace_after n x one ≡ before ++ map (later turns) (trace_after n x other)
-events_alike turns n before one other alike count same (Channel c op) =
-    let o = event_of op (history_of c other) in
-    let made : event_of op (history_of c one) ≡ o = ap (λ (s : ChannelState). event_by op s.flags s.register) (sym (alike c)) in
-    ap (λ (e : Option Event). one.trace ++ map (entry one.turns n c) (option_to_list e)) made
-    ∙ ap (λ (es : List Trace). es ++ map (entry one.turns n c) (option_to_list o)) same
-    ∙ append_assoc before (map (later turns) other.trace) (map (entry one.turns n c) (option_to_list o))
-    ∙ ap (λ (es : List Trace). before ++ (map (later turns) other.trace ++ es)) (entries turns one.turns other.turns n c o count)
-    ∙ ap (λ (es : List Trace). before ++ es) (sym (map-append (later turns) other.trace (map (entry other.turns n c) (option_to_list o))))
-events_alike turns n before one other alike count same rest = same
+events_alike turns n before one other alike count same x = grind (arith, append_assoc, entries, map-append)
 
 -- ---- a step of both
 
@@ -124,9 +114,7 @@ module _ (turns n : ℕ) (dumped one other : MachineState) (l : IsSound one) (k 
       }
 
   pub step_beside : (s : PpState) → (processor_of n dumped).state ≡ s → IsBeside turns dumped (stepped n one) (stepped n other)
-  step_beside Running is = step_running is
-  step_beside Stopped is = step_at_rest (λ e. let bad : Stopped ≡ Running = sym is ∙ e in absurd (cc))
-  step_beside (Fault number) is = step_at_rest (λ e. let bad : Fault number ≡ Running = sym is ∙ e in absurd (cc))
+  step_beside s is = grind (arith, step_running, step_at_rest)
 
 pub run_beside : (turns : ℕ) (ns : List ℕ) (dumped one other : MachineState) → IsSound one → IsSound other → IsBeside turns dumped one other → one.turns + length ns < 2 ^ 64 → IsBeside turns dumped (run ns one) (run ns other)
 run_beside turns [] dumped one other l k b few = b
@@ -143,8 +131,7 @@ none_first [] (y ∷ ys) e = absurd (cc)
 none_first (x ∷ xs) ys e = absurd (cc)
 
 not_active : (c : ℕ) (b : Bool) → cond b (Some (Active c)) None ≡ None → b ≡ false
-not_active c true e = absurd (cc)
-not_active c false e = refl
+not_active c b e = grind arith
 
 -- between programs no channel is active
 none_active : (m : MachineState) (c : ℕ) → IsTrue (names_channel c) → first_busy m ≡ None → active (history_of c m) ≡ false
@@ -185,10 +172,7 @@ module _ (deck : LoadedDeck) where
   each_history = length-replicate {A = List Event} channel_count []
 
   no_history : (c : ℕ) → history_of c (deck_to_go_on deck).machine ≡ []
-  no_history c = elim (cases_lt (channel_index c) channel_count) [
-    | inl below ↦ get_or-replicate channel_count (channel_index c) [] [] below
-    | inr past ↦ get_or_past (deck_to_go_on deck).machine.histories (channel_index c) [] (omega (arith, past, each_history))
-  ]
+  no_history c = grind (arith, cases_lt, get_or-replicate, get_or_past, each_history)
 
   pub sound_to_go_on : length deck.machine.processors ≡ processor_count → IsSound (deck_to_go_on deck).machine
   sound_to_go_on all = record {
@@ -200,16 +184,7 @@ module _ (deck : LoadedDeck) where
   }
 
   pub starts_beside : (turns : ℕ) → deck.machine.turns ≡ turns → length deck.machine.histories ≡ channel_count → first_busy deck.machine ≡ None → IsBeside turns deck.machine deck.machine (deck_to_go_on deck).machine
-  starts_beside turns count all between = record {
-    goes_on = record {
-      running = λ n was. left_there n ∙ ap (λ (s : PpState). left_of s (processor_of n deck.machine)) was;
-      at_rest = λ n was. subst (RestAlike (processor_of n deck.machine)) (sym (left_there n)) (rest_left (processor_of n deck.machine).state (processor_of n deck.machine) refl was);
-      central = refl;
-      channels = λ c. ap channel_state (no_history c) ∙ as_unused deck.machine c all between;
-      events = sym (append-nil deck.machine.trace);
-    };
-    count = omega (arith, count);
-  }
+  starts_beside turns count all between = grind (arith, left_there, rest_left, no_history, as_unused, append-nil)
 
 -- ---- the whole run
 
@@ -237,8 +212,7 @@ goes_on_in_order deck first p turns more sound none few between = grind (arith, 
 -- a text that means a deck is no longer than a deck may be
 fits_if : (profile : Profile) (text : List ℕ) (deck : LoadedDeck) (b : Bool) → nat_lt 1048576 (length text) ≡ b → deck_meaning profile text ≡ Ok deck → length text ≤ 1048576
 unfolding deck_meaning
-fits_if profile text deck true long meant = let bad = rw long at meant in absurd (cc)
-fits_if profile text deck false short meant = ltb-false 1048576 (length text) short
+fits_if profile text deck b long meant = grind (arith, ltb-false)
 
 pub meant_fits : (profile : Profile) (text : List ℕ) (deck : LoadedDeck) → deck_meaning profile text ≡ Ok deck → length text ≤ 1048576
 meant_fits profile text deck meant = fits_if profile text deck (nat_lt 1048576 (length text)) refl meant

@@ -1,5 +1,5 @@
 -- Where one list of steps has the only ending of a machine, any list of all its endings has one.
-use Rattle.std.proofs.Common.{◌≡◌, ℕ, ◌<◌, ◌≤◌, List, [], ◌∷◌, length, sym, subst, inl, inr, arith}
+use Rattle.std.proofs.Common.{◌≡◌, ℕ, ◌<◌, ◌≤◌, List, [], ◌∷◌, length, subst, inl, inr, arith}
 use Rattle.std.specs.Prelude.{slice_index_or}
 use Rattle.std.proofs.lemmas.Bool.{cases_lt}
 use Rattle.pp_machine.specs.Headline.{IsMachine}
@@ -44,8 +44,4 @@ module _ (m : MachineState) (whole : IsMachine m) (ns : List ℕ) (only : AreAll
   ]
 
   pub one_ending : AreAllEndings m orders → (length orders ≡ 1) × StandAlike (run ns m) (after_order m orders 0)
-  one_ending all =
-      let ends = quiet_end m orders all ns quiet in
-      let few : length orders ≤ 1 = at_most_one all.endings in
-      let at : 0 ≡ ends.0 = omega (arith, few, ends.1) in
-      (omega (arith, few, ends.1), subst (λ (i : ℕ). StandAlike (run ns m) (after_order m orders i)) (sym at) ends.2)
+  one_ending all = grind (arith, quiet_end, at_most_one)

@@ -15,7 +15,6 @@ use Rattle.pp_text.proofs.Telling.{decimal_digit, short_decimal_pass, short_deci
 use Rattle.pp_listing.proofs.OrderCommentLemmas.{row_pass}
 use Rattle.pp_numbers.specs.Profile.{has_processor, processor_in_turn, processors_in}
 use Rattle.pp_numbers.specs.declared.profile.Profile.{Profile}
-use Rattle.pp_numbers.specs.declared.profile.Profile.TheVariants.{Ten, Twenty}
 use Rattle.pp_numbers.proofs.PpNoLemmas.{processor_fits}
 use Rattle.pp_numbers.proofs.ProfileLemmas.{has_at, most_processors, processor_named, rest_within}
 use Rattle.pp_machine.specs.Run.{barrel}
@@ -42,10 +41,7 @@ unpadded_short (suc most) (suc k) n h =
 
 decimal_length : (n : ℕ) → n ≤ 999999 → (1 ≤ length (short_decimal n)) × (length (short_decimal n) ≤ 6)
 unfolding short_decimal
-decimal_length n few =
-    let short = unpadded_short 19 5 (n / 10) (omega (arith, few)) in
-    let all = length-append (unpadded 19 (n / 10)) (digit (n % 10)) in
-    (omega (arith, all), omega (arith, all, short))
+decimal_length n few = grind (arith, unpadded_short, length-append)
 
 pub count_read : (n : ℕ) → n ≤ 999999 → numeral 10 6 (short_decimal n) ≡ Some n
 unfolding numeral
@@ -75,9 +71,7 @@ row_lacks row = row_pass (λ c. not (eqb c 44)) (digit_other 44 refl) refl row
 
 rows_split : (row : StepsInARow) (rows : List StepsInARow) → slice_split is_comma (join_with_byte 44 (map row_text (row ∷ rows))) ≡ map row_text (row ∷ rows)
 rows_split row [] = slice_split_none is_comma (row_text row) (each_lacks 44 (row_text row) (row_lacks row))
-rows_split row (next ∷ rows) =
-    slice_split_at is_comma (row_text row) 44 (join_with_byte 44 (map row_text (next ∷ rows))) (each_lacks 44 (row_text row) (row_lacks row)) refl
-    ∙ ap (λ (texts : List (List ℕ)). row_text row ∷ texts) (rows_split next rows)
+rows_split row (next ∷ rows) = grind (arith, slice_split_at, each_lacks, row_lacks, rows_split next rows)
 
 -- ---- an item
 
@@ -99,13 +93,10 @@ colon_at (c ∷ text) rest lacks =
     ap (λ (b : Bool). cond b (1 + position_or_len is_colon (text ++ 58 ∷ rest)) 0) parts.0 ∙ omega (arith, further)
 
 pub first_colon : (text rest : List ℕ) → Lacks 58 text → position is_colon (text ++ 58 ∷ rest) ≡ Some (length text)
-first_colon text rest lacks =
-    let within : length text < length (text ++ 58 ∷ rest) = omega (arith, length-append text (58 ∷ rest)) in
-    position_at (text ++ 58 ∷ rest) (length text) (colon_at text rest lacks) ∙ ap (λ (b : Bool). cond b (Some (length text)) None) (lt-ltb (length text) (length (text ++ 58 ∷ rest)) within)
+first_colon text rest lacks = grind (arith, length-append, position_at, colon_at, lt-ltb)
 
 steps_some : (n k : ℕ) → 1 ≤ k → steps_of (Some n) (Some k) ≡ Some (replicate k n)
-steps_some n zero some = absurd (omega (arith, some))
-steps_some n (suc k) some = refl
+steps_some n k some = grind arith
 
 module _ (profile : Profile) where
   number_read : (n : ℕ) → IsTrue (has_processor profile n) → numbered (has_processor profile) (short_octal 2 n) ≡ Some n
@@ -124,8 +115,7 @@ module _ (profile : Profile) where
 
   item_by_count : (n k : ℕ) (b : Bool) → eqb k 1 ≡ b → IsTrue (has_processor profile n) → 1 ≤ k → k ≤ 999999 → item_steps profile (short_octal 2 n ++ cond b [] (codes ":" ++ short_decimal k)) ≡ Some (replicate k n)
   unfolding item_steps
-  item_by_count n k true one has some few = rw (append-nil (short_octal 2 n), no_colon (short_octal 2 n) (octal_lacks 58 n (digit_other 58 refl)), number_read n has, eqb-true k 1 one) refl
-  item_by_count n k false other has some few = item_more n k has some few
+  item_by_count n k b one has some few = grind (arith, append-nil, no_colon, octal_lacks, digit_other, number_read, eqb-true, item_more)
 
   item_read : (row : StepsInARow) → IsTrue (has_processor profile row.processor) → 1 ≤ row.count → row.count ≤ 999999 → item_steps profile (row_text row) ≡ Some (replicate row.count row.processor)
   item_read row has some few = item_by_count row.processor row.count (eqb row.count 1) refl has some few
@@ -159,8 +149,7 @@ step_by P n row rows same other = by (eqb row.processor n) refl
 
 step_in : (n : ℕ) (rows : List StepsInARow) → steps_in (step_and_rows n rows) ≡ n ∷ steps_in rows
 unfolding steps_in
-step_in n [] = refl
-step_in n (row ∷ rows) = step_by (λ all. steps_in all ≡ n ∷ steps_in (row ∷ rows)) n row rows (λ same. rw (add-one, same) refl) refl
+step_in n rows = grind (arith, step_by, add-one)
 
 pub steps_are : (ns : List ℕ) → steps_in (rows_of ns) ≡ ns
 unfolding rows_of steps_in
@@ -169,8 +158,7 @@ steps_are (n ∷ ns) = step_in n (rows_of ns) ∙ ap (λ (ks : List ℕ). n ∷ 
 
 step_exists : (Is : ℕ → Type 0) (n : ℕ) (rows : List StepsInARow) → Is n → Exist Is rows → Exist Is (step_and_rows n rows)
 unfolding Exist
-step_exists Is n [] has exist = ((has, omega arith), tt)
-step_exists Is n (row ∷ rows) has exist = step_by (Exist Is) n row rows (λ _. ((exist.0.0, omega arith), exist.1)) ((has, omega arith), exist)
+step_exists Is n rows has exist = grind (arith, step_by)
 
 pub rows_exist : (Is : ℕ → Type 0) (ns : List ℕ) → All Is ns → Exist Is (rows_of ns)
 unfolding rows_of Exist
@@ -188,10 +176,7 @@ items_are n ns = some_rows n (rows_of ns)
 pub read_back : (profile : Profile) (order : List ℕ) → 0 < length order → length order ≤ 999999 → All (λ n. IsTrue (has_processor profile n)) order → listed_steps profile (order_text order) ≡ Some order
 unfolding listed_steps
 read_back profile [] some few all = absurd (omega (arith, some))
-read_back profile (n ∷ ns) some few all =
-    let order = n ∷ ns in
-    let are = steps_are order in
-    rw (items_are n ns, all_read profile (rows_of order) (rows_exist (λ n. IsTrue (has_processor profile n)) order all) (omega (arith, few, ap length are)), are, le-leb (length order) 999999 few) refl
+read_back profile (n ∷ ns) some few all = grind (arith, steps_are, items_are, all_read, rows_exist, le-leb)
 
 -- ---- what is left of an order
 
@@ -214,16 +199,11 @@ unfolding order_left
 left_has profile first steps all = All-drop (Has profile) steps (first ++ barrel profile (turns_of_rounds profile (steps - length first))) (All-append (Has profile) first (barrel profile (turns_of_rounds profile (steps - length first))) all (barrel_has profile (turns_of_rounds profile (steps - length first))))
 
 few_left : (profile : Profile) (listed steps : ℕ) → listed ≤ 999999 → listed + turns_of_rounds profile (steps - listed) - steps ≤ 999999
-few_left Ten listed steps few = omega (arith, few)
-few_left Twenty listed steps few = omega (arith, few)
+few_left profile listed steps few = grind arith
 
 left_few : (profile : Profile) (first : List ℕ) (steps : ℕ) → length first ≤ 999999 → length (order_left first profile steps) ≤ 999999
 unfolding order_left
-left_few profile first steps few =
-    let turns = turns_of_rounds profile (steps - length first) in
-    let all = length-append first (barrel profile turns) in
-    let made = length-barrel profile turns in
-    omega (arith, length-drop steps (first ++ barrel profile turns), all, made, few_left profile (length first) steps few)
+left_few profile first steps few = grind (arith, length-append, length-barrel, length-drop, few_left)
 
 pub left_read : (profile : Profile) (first : List ℕ) (steps : ℕ) → length first ≤ 999999 → All (λ n. IsTrue (has_processor profile n)) first → 0 < length (order_left first profile steps)
     → listed_steps profile (order_text (order_left first profile steps)) ≡ Some (order_left first profile steps)

@@ -96,8 +96,7 @@ front_turns [] (suc k) = refl
 front_turns (e ∷ trace) (suc k) = ap (λ (more : List ℕ). e.turn ∷ more) (front_turns trace k)
 
 fits_by_turn : (opened : List Bool) (before : List TraceLine) (line : TraceLine) (turn : ℕ) → turn_of line ≡ Some turn → IfSome (last_turn before) (λ last. last < turn) → Fits opened before line
-fits_by_turn opened before (AtTurn t c e) turn is less = grind arith
-fits_by_turn opened before line turn is less = absurd (cc)
+fits_by_turn opened before line turn is less = grind arith
 
 lawful_events : (named : List Bool) (m : MachineState) (opened : List Bool) → IsPrintable named m → AreOpenedBy m opened → IsLawfulTrace opened (map at_turn m.trace)
 unfolding last_turn
@@ -135,12 +134,7 @@ printed_events named m opened is opens c = (printed_read named m opened is opens
 -- ---- the ends of threads
 
 plain_end : (finish : End) → list_all is_plain (end_text finish) ≡ true
-plain_end End.Stopped = refl
-plain_end (End.Fault number) = octal_plain 1 number
-plain_end End.Steps = refl
-plain_end End.Patience = refl
-plain_end End.Memory = refl
-plain_end End.Worn = refl
+plain_end finish = grind (arith, octal_plain)
 
 -- ---- the events of a channel
 
@@ -228,8 +222,7 @@ module _ (opened : List Bool) (histories : List (List Event)) where
 -- ---- the parts of the text
 
 shown_worker : {Z : Type 0} (opened : List Bool) (events : List TraceLine) (n : ℕ) (o : Option (Worker Z)) → IsTrue (names_processor n) → IsShown opened events (worker_line n o)
-shown_worker opened events n None names = shown_none opened events
-shown_worker opened events n (Some worker) names = shown_processor opened events n worker.pp (end_text worker.finish) (plain_end worker.finish) names
+shown_worker opened events n o names = grind (arith, shown_none, shown_processor, plain_end)
 
 -- a report over what was open before, with what the lines of its text want
 pub record StandsOver {Z : Type 0} (named : List Bool) (report : Report Z) (opened : List Bool) : Type 0 where

@@ -16,12 +16,10 @@ use Rattle.pp_numbers.specs.PpNo.{names_processor, processor_number}
 use Rattle.pp_processor.specs.Processor.{Processor}
 use Rattle.pp_processor.specs.declared.{pp_state.PpState.PpState}
 use Rattle.pp_machine.specs.declared.{trace.Trace.Trace}
-use Rattle.pp_processor.specs.declared.pp_state.PpState.TheVariants.{Fault}
 use Rattle.pp_word.specs.Numeral.{decimal, is_digit, numeral, octal}
 use Rattle.pp_word.proofs.NumeralLemmas.{decimal_are, decimal_read, octal_read}
 use Rattle.pp_listing.proofs.ListedLineLemmas.{plain_append}
 use Rattle.pp_report.specs.PrintedReport.{line_by}
-use Rattle.pp_channel.specs.ChannelText.{channel_text}
 use Rattle.pp_text.specs.PrintedText.{channel_line as printed_channel_line, event_line, event_text, line_end, processor_line, state_text}
 use Rattle.pp_text.specs.TextLaw.{EventFits}
 use Rattle.pp_check.specs.TraceLine.{channel_in, channel_line, empty, parsed_event, full_with, inactive, is_processor, parsed_line, number_after, numbered_line, parsed_state, turn_line}
@@ -59,8 +57,7 @@ channel_no_processor c = refl
 
 -- a field of digits is neither
 digit_first : (first second : ℕ) (text : List ℕ) → 58 ≤ first → list_all (is_digit 10) text ≡ true → bytes_eq (take 2 text) (first ∷ second ∷ []) ≡ false
-digit_first first second [] late is = refl
-digit_first first second (c ∷ text) late is = grind (arith, and_parts, ltb-true, ne_eqb)
+digit_first first second text late is = grind (arith, and_parts, ltb-true, ne_eqb)
 
 pub count_no_processor : (n : ℕ) → is_processor (decimal n) ≡ false
 unfolding is_processor number_after
@@ -88,8 +85,6 @@ are_event_fields (Function w) = (record { some = omega arith; ink = refl }, (oct
 
 -- behind another field
 event_joined : (field : List ℕ) (e : Event) → field ++ 32 ∷ event_text e ≡ join_with_byte 32 (field ∷ event_fields e)
-event_joined field Activate = refl
-event_joined field Disconnect = refl
 event_joined field e = grind arith
 
 event_read : (e : Event) → HasTwelveBitWord e → parsed_event (event_fields e) ≡ Some e
@@ -127,8 +122,7 @@ unfolding processor_line
 processor_line_is n pp said = simp append_assoc
 
 pub plain_state : (state : PpState) → list_all is_plain (state_text state) ≡ true
-plain_state (Fault number) = octal_plain 1 number
-plain_state state = refl
+plain_state state = grind (arith, octal_plain)
 
 pub plain_processor : (n : ℕ) (pp : Processor) (said : List ℕ) → list_all is_plain said ≡ true → list_all is_plain (processor_body n pp said) ≡ true
 plain_processor n pp said plain = search (plain_append, octal_plain, plain)
@@ -146,20 +140,14 @@ abbrev pub numbered_fields : ℕ → ℕ → ℕ → Event → List (List ℕ)
 numbered_fields c number n e = channel_field c ∷ decimal number ∷ processor_field n ∷ event_fields e
 
 pub numbered_line_is : (c number place : ℕ) (e : Event) → line_by c number e (Some place) ≡ line_of (numbered_fields c number (processor_number place) e)
-numbered_line_is c number place e =
-    ap (λ more. codes "CH" ++ (octal 2 c ++ (codes " " ++ more))) (regrouped (decimal number) (codes " PP") (octal 2 (processor_number place)) (codes " ") (event_text e) line_end)
-    ∙ ap (λ more. (channel_field c ++ (32 ∷ decimal number ++ (32 ∷ more))) ++ line_end) (event_joined (processor_field (processor_number place)) e)
-  where
-    regrouped : (d p o s e l : List ℕ) → ((((d ++ p) ++ o) ++ s) ++ e) ++ l ≡ (d ++ (p ++ (o ++ (s ++ e)))) ++ l
-    regrouped d p o s e l = simp append_assoc
+numbered_line_is c number place e = grind (arith, event_joined, append_assoc)
 
 pub are_numbered_fields : (c number n : ℕ) (e : Event) → AllByRecursion IsField (numbered_fields c number n e)
 are_numbered_fields c number n e = (is_channel_field c, (decimal_is_field number, (is_processor_field n, are_event_fields e)))
 
 pub numbered_line_read : (c number n : ℕ) (e : Event) → IsTrue (names_channel c) → number < 10 ^ 19 → IsTrue (names_processor n) → HasTwelveBitWord e → parsed_line (numbered_fields c number n e) ≡ Some (Numbered number c e)
 unfolding parsed_line channel_line numbered_line
-numbered_line_read c number n e names below author bits =
-    rw (channel_no_processor c, channel_read c names, decimal_read number below, processor_read n author, event_read e bits) refl
+numbered_line_read c number n e names below author bits = grind (arith, channel_no_processor, channel_read, decimal_read, processor_read, event_read)
 
 -- ---- the line of a channel
 
@@ -175,21 +163,11 @@ shown_state true None = empty
 shown_state false None = inactive
 
 pub channel_line_is : (c : ℕ) (e : Event) (h : List Event) → printed_channel_line c (e ∷ h) ≡ line_of (channel_field c ∷ state_fields (active (e ∷ h)) (waiting (e ∷ h)))
-channel_line_is c e h = by_state (active (e ∷ h)) (waiting (e ∷ h))
-  where
-    by_state : (is_active : Bool) (word : Option ℕ) → codes "CH" ++ octal 2 c ++ codes " " ++ channel_text is_active word ++ line_end ≡ line_of (channel_field c ∷ state_fields is_active word)
-    by_state is_active word = grind arith
+channel_line_is c e h = grind arith
 
 pub are_channel_fields : (c : ℕ) (is_active : Bool) (word : Option ℕ) → AllByRecursion IsField (channel_field c ∷ state_fields is_active word)
-are_channel_fields c is_active (Some w) = (is_channel_field c, (record { some = omega arith; ink = refl }, (record { some = omega arith; ink = refl }, (octal_is_field 4 w (omega arith), tt))))
-are_channel_fields c true None = (is_channel_field c, (record { some = omega arith; ink = refl }, (record { some = omega arith; ink = refl }, tt)))
-are_channel_fields c false None = (is_channel_field c, (record { some = omega arith; ink = refl }, tt))
+are_channel_fields c is_active word = grind (arith, is_channel_field, octal_is_field)
 
 pub channel_line_read : (c : ℕ) (is_active : Bool) (word : Option ℕ) → IsTrue (names_channel c) → IfSome word (λ w. w < 2 ^ 12) → parsed_line (channel_field c ∷ state_fields is_active word) ≡ Some (Standing c (shown_state is_active word))
 unfolding parsed_line channel_line parsed_state numeral
-channel_line_read c is_active word names bits = rw (channel_no_processor c, channel_read c names) (by_word is_active word bits)
-  where
-    by_word : (is_active : Bool) (word : Option ℕ) → IfSome word (λ w. w < 2 ^ 12) → channel_line c (state_fields is_active word) ≡ Some (Standing c (shown_state is_active word))
-    by_word is_active (Some w) bits = rw (octal_read 4 4 w (omega arith) (omega arith) (omega (arith, bits))) refl
-    by_word true None bits = refl
-    by_word false None bits = refl
+channel_line_read c is_active word names bits = grind (arith, channel_no_processor, channel_read, octal_read)

@@ -1,7 +1,7 @@
 -- Texts of whole lines, read one after another.
-use Rattle.std.proofs.Common.{All, ◌≡◌, ◌∙◌, ℕ, zero, suc, ◌<◌, Bool, true, false, List, [], ◌∷◌, ◌++◌, map, Some, refl, sym, ap, subst, append_assoc, arith}
+use Rattle.std.proofs.Common.{All, ◌≡◌, ◌∙◌, ℕ, zero, suc, ◌<◌, Bool, true, List, [], ◌∷◌, ◌++◌, map, Some, refl, sym, ap, subst, append_assoc, arith}
 use Rattle.std.specs.Prelude.{IsSome, IsTrue, if◌then◌else◌}
-use Rattle.std.specs.List.{AllByRecursion, filter_map, flat_map, list_all, slice_split}
+use Rattle.std.specs.List.{AllByRecursion, flat_map, list_all, slice_split}
 use Rattle.std.proofs.lemmas.List.{append-nil}
 use Rattle.std.proofs.lemmas.List.Elements.{All-append, All-cons, All-head, All-nil, All-tail, filter_map-append}
 use Rattle.std.proofs.lemmas.List.Splits.{slice_split_at}
@@ -47,8 +47,7 @@ module _ {A : Type 0} (Reads : List ℕ → List A → Type 0) where
   says_none text (x ∷ xs) each = says_both (text x) (flat_map text xs) [] [] (each x) (says_none text xs each)
 
   pub says_if : (b : Bool) (text : List ℕ) (xs : List A) → (IsTrue b → Says text xs) → Says (if b then text else []) (if b then xs else [])
-  says_if true text xs says = says refl
-  says_if false text xs says = λ rest more is. is
+  says_if b text xs says = grind arith
 
   pub says_below : (k : ℕ) (text : ℕ → List ℕ) (f : ℕ → List A) → ((n : ℕ) → n < k → Says (text n) (f n)) → Says (each_below k text) (each_below k f)
   unfolding each_below
@@ -66,12 +65,7 @@ pub record Tells (text : List ℕ) (lines : List TraceLine) : Type 0 where
 
 tells_line : (body : List ℕ) (line : TraceLine) → list_all is_plain body ≡ true → parsed_line (fields_of body) ≡ Some line → Says Tells (body ++ line_end) (line ∷ [])
 unfolding lines_of parsed_lines
-tells_line body line plain is rest more told =
-    let first = ap (map fields_of) (split_line body rest plain) in
-    record {
-      said = rw first (All-cons (λ l. IsSome (parsed_line l)) (fields_of body) (lines_of rest) (rw is refl) told.said);
-      are = rw (first, is) (ap (λ ls. line ∷ ls) told.are);
-    }
+tells_line body line plain is rest more told = grind (arith, split_line)
 
 pub tells_fields : (fields : List (List ℕ)) (line : TraceLine) → AllByRecursion IsField fields → parsed_line fields ≡ Some line → Says Tells (line_of fields) (line ∷ [])
 tells_fields fields line all is = tells_line _ line (plain_joined fields all) (ap parsed_line (fields_read fields all) ∙ is)
@@ -79,10 +73,7 @@ tells_fields fields line all is = tells_line _ line (plain_joined fields all) (a
 -- behind the last line feed stands a line without fields
 no_text : Tells [] (Other ∷ [])
 unfolding lines_of parsed_lines parsed_line
-no_text = record {
-  said = subst (λ fields. All (λ l. IsSome (parsed_line l)) (fields ∷ [])) (sym no_fields) (All-cons (λ l. IsSome (parsed_line l)) [] [] refl (All-nil (λ l. IsSome (parsed_line l))));
-  are = ap (λ fields. filter_map parsed_line (fields ∷ [])) no_fields;
-}
+no_text = grind (arith, no_fields)
 
 -- ---- lines that only show how things stand
 
@@ -93,9 +84,7 @@ Shows opened lines Other = Unit {0}
 Shows opened lines line = ⊥
 
 shows_none : (opened : List Bool) (lines : List TraceLine) (line : TraceLine) → Shows opened lines line → TellsNone line
-shows_none opened lines (Standing c state) shows = state_told c state
-shows_none opened lines Other shows = nothing_told
-shows_none opened lines line shows = absurd shows
+shows_none opened lines line shows = grind (arith, state_told, nothing_told)
 
 shows_fit : (opened : List Bool) (lines : List TraceLine) (line : TraceLine) → Shows opened lines line → Fits opened lines line
 shows_fit opened lines line shows = grind arith
@@ -145,8 +134,7 @@ module _ (opened : List Bool) (events : List TraceLine) where
   shown_each P text (x ∷ xs) all each = shown_both (text x) (flat_map text xs) (each x (All-head P x xs all)) (shown_each P text xs (All-tail P x xs all) each)
 
   pub shown_if : (b : Bool) (text : List ℕ) → (IsTrue b → IsShown text) → IsShown (if b then text else [])
-  shown_if true text shown = shown refl
-  shown_if false text shown = shown_none
+  shown_if b text shown = grind (arith, shown_none)
 
   pub shown_processor : (n : ℕ) (pp : Processor) (said : List ℕ) → list_all is_plain said ≡ true → IsTrue (names_processor n) → IsShown (processor_line n pp said)
   shown_processor n pp said plain names = record {

@@ -6,7 +6,7 @@ use Rattle.std.specs.Option.{option_map, unwrap_or}
 use Rattle.std.proofs.lemmas.Bool.{and_parts}
 use Rattle.std.proofs.lemmas.List.Folds.{list_all-append}
 use Rattle.std.proofs.lemmas.List.Sums.{fold-append}
-use Rattle.pp_word.specs.Numeral.{digit, octal, short_decimal, unpadded}
+use Rattle.pp_word.specs.Numeral.{octal, short_decimal}
 use Rattle.pp_word.proofs.NumeralLemmas.{Pass, digits_pass}
 use Rattle.pp_numbers.specs.ChannelNo.{channel_index}
 use Rattle.pp_channel.specs.History.{active, waiting}
@@ -14,7 +14,6 @@ use Rattle.pp_channel.specs.declared.event.Event.TheVariants.{Put, Function}
 use Rattle.pp_machine.specs.MachineState.{MachineState, history_of, processor_of}
 use Rattle.pp_numbers.specs.PpNo.{processor_index}
 use Rattle.pp_processor.specs.declared.pp_state.PpState.{PpState}
-use Rattle.pp_processor.specs.declared.pp_state.PpState.TheVariants.{Fault}
 use Rattle.pp_channel.specs.ChannelText.{channel_text}
 use Rattle.pp_text.specs.PrintedText.{each_below, state_text}
 use Rattle.pp_numbers.specs.declared.window.Window.{Window}
@@ -46,7 +45,6 @@ plain-append : (a b : List ℕ) → is_plain a ≡ true → is_plain b ≡ true 
 plain-append a b first more = rw (list_all-append is_plain_character a b, first) more
 
 plain_digits : Pass 10 is_plain_character
-plain_digits zero low = refl
 plain_digits n low = grind arith
 
 plain_octal : (width n : ℕ) → is_plain (octal width n) ≡ true
@@ -65,12 +63,10 @@ plain_face (Processor (HeldBy c)) = (refl, refl, plain_name (codes "CH") c refl)
 plain_face look = (refl, refl, refl)
 
 plain_class : (is_lost : Bool) (look : Look) → is_plain (cond is_lost (codes "l") (face_of look).class) ≡ true
-plain_class true look = refl
-plain_class false look = (plain_face look).0
+plain_class is_lost look = grind (arith, plain_face)
 
 plain_lost : (is_lost : Bool) → is_plain (cond is_lost (codes " lost") []) ≡ true
-plain_lost true = refl
-plain_lost false = refl
+plain_lost is_lost = grind arith
 
 plain_standing : (is_active : Bool) (word : Option ℕ) → is_plain (channel_text is_active word) ≡ true
 plain_standing is_active (Some word) = plain-append (codes "ACTIVE FULL ") (octal 4 word) refl (plain_octal 4 word)
@@ -78,8 +74,7 @@ plain_standing true None = refl
 plain_standing false None = refl
 
 plain_state : (state : PpState) → is_plain (state_text state) ≡ true
-plain_state (Fault number) = plain-append (codes "FAULT ") (octal 1 number) refl (plain_octal 1 number)
-plain_state named = refl
+plain_state state = grind (arith, plain-append, plain_octal)
 
 abbrev read : Reader → List ℕ → Reader
 read reader text = fold read_on reader text
@@ -91,16 +86,10 @@ IsBalanced text = (outer : List ℕ) (others : List (List ℕ)) → read (betwee
 -- ---- a reader stays where it is while it reads plain text
 
 text_sign : (outer : List ℕ) (others : List (List ℕ)) (s : Sign) (c : ℕ) → is_plain_sign s ≡ true → read_at (between (outer ∷ others)) s c ≡ between (outer ∷ others)
-text_sign outer others letter c h = refl
-text_sign outer others other c h = refl
-text_sign outer others space c h = refl
-text_sign outer others sign c h = absurd (cc)
+text_sign outer others s c h = grind arith
 
 quoted_sign : (attributes within : List (List ℕ)) (s : Sign) (c : ℕ) → is_plain_sign s ≡ true → read_at (quoted attributes within) s c ≡ quoted attributes within
-quoted_sign attributes within letter c h = refl
-quoted_sign attributes within other c h = refl
-quoted_sign attributes within space c h = refl
-quoted_sign attributes within sign c h = absurd (cc)
+quoted_sign attributes within s c h = grind arith
 
 stays : (reader : Reader) → ((s : Sign) (c : ℕ) → is_plain_sign s ≡ true → read_at reader s c ≡ reader) → (text : List ℕ) → is_plain text ≡ true → read reader text ≡ reader
 stays reader same [] h = refl
@@ -126,8 +115,7 @@ balanced-append : (a b : List ℕ) → IsBalanced a → IsBalanced b → IsBalan
 balanced-append a b first more outer others = fold-append read_on (between (outer ∷ others)) a b ∙ ap (λ (r : Reader). read r b) (first outer others) ∙ more outer others
 
 balanced-if : (b : Bool) (text : List ℕ) → IsBalanced text → IsBalanced (cond b text [])
-balanced-if true text h = h
-balanced-if false text h = λ outer others. refl
+balanced-if b text h = grind arith
 
 balanced_each : (count : ℕ) (said : ℕ → List ℕ) → ((k : ℕ) → IsBalanced (said k)) → IsBalanced (each_below count said)
 unfolding each_below

@@ -96,9 +96,7 @@ no_digit r = not (is_digit 10 (get_or r 0 0))
 
 pub run_tells : {X : Type 0} {Fits : X → Type 0} (p : ℕ → Bool) (text : X → List ℕ) (back : List ℕ → X) → ((x : X) → Fits x → list_all p (text x) ≡ true) → ((x : X) → Fits x → back (text x) ≡ x)
     → (x y : X) (r s : List ℕ) → Fits x → Fits y → not (p (get_or r 0 0)) ≡ true → not (p (get_or s 0 0)) ≡ true → text x ++ r ≡ text y ++ s → (x ≡ y) × (r ≡ s)
-run_tells p text back are read x y r s fits also ends other e =
-    let both = cut p (text x) (text y) r s ends other (are x fits) (are y also) e in
-    (sym (read x fits) ∙ ap back both.0 ∙ read y also, both.1)
+run_tells p text back are read x y r s fits also ends other e = grind (arith, cut)
 
 -- characters that pass a test, up to one that does not, which are read back
 abbrev pub run_of : {X : Type 0} {Fits : X → Type 0} (p : ℕ → Bool) (text : X → List ℕ) (back : List ℕ → X) → ((x : X) → Fits x → list_all p (text x) ≡ true) → ((x : X) → Fits x → back (text x) ≡ x) → Format Fits
@@ -208,8 +206,7 @@ rows_fit Fits f fits = rows_all Fits f 0 0o100 fits
 -- texts of some things each, by those of all of them
 pub flat_map_each : {A B : Type 0} (line : A → List ℕ) (text : B → List ℕ) (h : A → List B) → ((x : A) → line x ≡ flat_map text (h x)) → (xs : List A) → flat_map line xs ≡ flat_map text (flat_map h xs)
 flat_map_each line text h each [] = refl
-flat_map_each line text h each (x ∷ xs) =
-    (λ j. each x j ++ flat_map_each line text h each xs j) ∙ sym (flat_map-append text (h x) (flat_map h xs))
+flat_map_each line text h each (x ∷ xs) = grind (arith, flat_map-append, flat_map_each line text h each xs)
 
 -- what there may be of each number from 0 to 77 (octal), each with it
 abbrev pub maybe_rows : {X : Type 0} → (ℕ → Option X) → List (ℕ × X)

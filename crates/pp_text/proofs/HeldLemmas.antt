@@ -4,11 +4,10 @@ use Rattle.std.specs.Prelude.{IsTrue, is_some, if◌then◌else◌}
 use Rattle.pp_channel.specs.Answer.{channel_state, event_of, flags_of, only_looks, reply_by, reply_made, reply_shown}
 use Rattle.pp_channel.specs.History.{active}
 use Rattle.pp_channel.specs.declared.{chan_op.ChanOp.ChanOp, event.Event.Event, flags.Flags.Flags, reply.Reply.Reply}
-use Rattle.pp_channel.specs.declared.event.Event.TheVariants as events
 use Rattle.pp_channel.specs.declared.reply.Reply.TheVariants as replies
 use Rattle.pp_channel.proofs.AnswerLemmas.{held_at, look_makes_none, look_not_held}
 use Rattle.pp_machine.specs.MachineState.{MachineState, history_of, processor_of}
-use Rattle.pp_machine.specs.MachineStep.{answer_to, step_outcome}
+use Rattle.pp_machine.specs.MachineStep.{step_outcome}
 use Rattle.pp_processor.specs.NeedAndEffect.{is_held, need, outcome, if_running, next_step}
 use Rattle.pp_processor.specs.Processor.{Processor}
 use Rattle.pp_processor.specs.Step.{need_of}
@@ -16,13 +15,11 @@ use Rattle.pp_processor.specs.declared.{answer.Answer.Answer, block.Block.Block,
 use Rattle.pp_processor.specs.declared.answer.Answer.TheVariants as answers
 use Rattle.pp_processor.specs.declared.need.Need.TheVariants as needs
 use Rattle.pp_processor.specs.declared.outcome.Outcome.TheVariants.{Held, Moved, AtRest}
-use Rattle.pp_processor.specs.declared.pp_state.PpState.TheVariants.{Running, Stopped, Fault}
+use Rattle.pp_processor.specs.declared.pp_state.PpState.TheVariants.{Running}
 
 -- a processor that needs a channel is running
 running : (state : PpState) (pp : Processor) (c : ℕ) (op : ChanOp) → if_running state (need_of (next_step pp)) needs.Nothing ≡ needs.Channel c op → state ≡ Running
-running Running pp c op e = refl
-running Stopped pp c op e = cc
-running (Fault number) pp c op e = cc
+running state pp c op e = grind arith
 
 outcome_running : (pp : Processor) (c : ℕ) (op : ChanOp) (answer : Answer) → need pp ≡ needs.Channel c op → outcome pp answer ≡ cond (is_held pp.block answer) Held Moved
 unfolding need outcome
@@ -32,9 +29,7 @@ outcome_running pp c op answer e = ap (λ s. if_running s (if is_held pp.block a
 by_answer : (n c : ℕ) (op : ChanOp) (m : MachineState) → need (processor_of n m) ≡ needs.Channel c op
     → step_outcome n m ≡ cond (is_held (processor_of n m).block (answers.Channel (reply_by op (channel_state (history_of c m)) (event_of op (history_of c m))))) Held Moved
 unfolding step_outcome
-by_answer n c op m e =
-    ap (λ x. outcome (processor_of n m) (answer_to x m)) e
-    ∙ outcome_running (processor_of n m) c op (answer_to (needs.Channel c op) m) e
+by_answer n c op m e = grind (arith, outcome_running)
 
 -- whether a block goes on, by whether its channel is active
 unfoldable pub goes_on : Option Block → Bool → Bool
@@ -42,9 +37,7 @@ goes_on None is_active = true
 goes_on (Some block) is_active = is_active
 
 not_where_made : (block : Option Block) (e : Event) → is_held block (answers.Channel (reply_made e)) ≡ false
-not_where_made None events.Activate = refl
-not_where_made (Some block) events.Activate = refl
-not_where_made block e = refl
+not_where_made block e = grind arith
 
 not_unless_held : (block : Option Block) (reply : Reply) → ((f : Flags) → reply ≢ replies.Held f) → is_held block (answers.Channel reply) ≡ false
 not_unless_held None (replies.Held f) other = absurd (other f refl)
@@ -53,8 +46,7 @@ not_unless_held block reply other = refl
 
 held_at_flags : (block : Option Block) (f : Flags) → is_held block (answers.Channel (replies.Held f)) ≡ goes_on block f.active
 unfolding goes_on
-held_at_flags None f = refl
-held_at_flags (Some block) f = refl
+held_at_flags block f = grind arith
 
 held_where_shown : (block : Option Block) (op : ChanOp) (h : List Event) → only_looks op ≡ false → is_held block (answers.Channel (reply_shown op (channel_state h))) ≡ goes_on block (active h)
 held_where_shown block op h acts = ap (λ reply. is_held block (answers.Channel reply)) (held_at op (channel_state h) acts) ∙ held_at_flags block (flags_of h)
@@ -83,19 +75,16 @@ not_held : (o : Outcome) → o ≡ Moved → (IsTrue false → o ≡ Held) × (o
 not_held o moved = (λ (f : IsTrue false). absurd (cc), λ (held : o ≡ Held). absurd (cc))
 
 held_by : (b : Bool) (o : Outcome) → o ≡ cond b Held Moved → (IsTrue b → o ≡ Held) × (o ≡ Held → IsTrue b)
-held_by true o is = (λ (f : IsTrue true). is, λ (held : o ≡ Held). refl)
-held_by false o is = not_held o is
+held_by b o is = grind (arith, not_held)
 
 pub test_looked : (n c : ℕ) (op : ChanOp) (m : MachineState) → need (processor_of n m) ≡ needs.Channel c op → only_looks op ≡ true → (IsTrue false → step_outcome n m ≡ Held) × (step_outcome n m ≡ Held → IsTrue false)
 test_looked n c op m need_is looks = not_held (step_outcome n m) (moves_where_looked n c op m need_is looks)
 
 some_event : (o : Option Event) → is_some o ≡ true → (e : Event) × (o ≡ Some e)
-some_event None is = cc
-some_event (Some e) is = (e, refl)
+some_event o is = grind arith
 
 no_event : (o : Option Event) → is_some o ≡ false → o ≡ None
-no_event None is = refl
-no_event (Some e) is = cc
+no_event o is = grind arith
 
 pub test_made : (n c : ℕ) (op : ChanOp) (m : MachineState) (o : Option Event) (h : List Event) → need (processor_of n m) ≡ needs.Channel c op → h ≡ history_of c m → o ≡ event_of op h → is_some o ≡ true → (IsTrue false → step_outcome n m ≡ Held) × (step_outcome n m ≡ Held → IsTrue false)
 test_made n c op m o h need_is here is some = grind (arith, some_event, not_held, moves_where_made)

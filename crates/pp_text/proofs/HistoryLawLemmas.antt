@@ -1,10 +1,10 @@
 -- What is shown of a machine tells the history of each of its channels: the text has the events of the
 -- trace, and they tell whether an Activate of dead start stands in front of them.
-use Rattle.std.proofs.Common.{◌≡◌, ◌∙◌, Bool, true, false, List, [], ◌∷◌, ◌++◌, Option, Some, None, refl, sym, ap, arith}
+use Rattle.std.proofs.Common.{◌≡◌, ◌∙◌, Bool, true, false, List, [], ◌∷◌, ◌++◌, Option, Some, None, sym, ap, arith}
 use Rattle.std.specs.Prelude.{◌↔◌, if◌then◌else◌}
 use Rattle.pp_channel.specs.History.{IsLawful}
 use Rattle.pp_channel.specs.declared.event.Event.{Event}
-use Rattle.pp_channel.specs.declared.event.Event.TheVariants.{Activate, Function}
+use Rattle.pp_channel.specs.declared.event.Event.TheVariants.{Activate}
 use Rattle.pp_channel.proofs.HistoryLemmas.{state_at}
 use Rattle.pp_channel.proofs.HistoryWalk.{State, Inactive, Empty, step, walk, walk_none}
 use Rattle.pp_machine.specs.Headline.{HoldsOnEachChannel, events_on, opening_history}
@@ -28,9 +28,7 @@ goes_on o events s is none = grind (arith, walk_none, walk)
 
 -- no event is allowed both on an inactive channel and on one that was just opened
 not_both : (e : Event) → (step Inactive e ≡ None → ⊥) → (step Empty e ≡ None → ⊥) → ⊥
-not_both Activate inactive empty = empty refl
-not_both (Function w) inactive empty = empty refl
-not_both e inactive empty = inactive refl
+not_both e inactive empty = grind arith
 
 -- so one of two histories with the same later events can't be opened alone
 not_opened_alone : (events : List Event) → IsLawful (Activate ∷ events) → IsLawful events → is_used (Activate ∷ events) ≡ is_used events → ⊥
@@ -42,10 +40,7 @@ not_opened_alone (e ∷ events) opened closed used =
 
 opened_alike : (a b : Bool) (events : List Event) → IsLawful (opening a ++ events) → IsLawful (opening b ++ events)
     → is_used (opening a ++ events) ≡ is_used (opening b ++ events) → opening a ++ events ≡ opening b ++ events
-opened_alike true true events _ _ _ = refl
-opened_alike false false events _ _ _ = refl
-opened_alike true false events opened closed used = absurd (not_opened_alone events opened closed used)
-opened_alike false true events closed opened used = absurd (not_opened_alone events opened closed (sym used))
+opened_alike a b events opened closed used = grind (arith, not_opened_alone)
 
 -- two histories of a channel, each its opening history followed by the same events
 pub one_history : (a b : Bool) (events h other : List Event) → h ≡ opening a ++ events → other ≡ opening b ++ events → IsLawful h → IsLawful other

@@ -15,7 +15,6 @@ use Rattle.pp_word.specs.Address.{relative_to}
 use Rattle.pp_word.specs.Numeral.{octal}
 use Rattle.pp_word.specs.Opcode.{opcode_at, row_of}
 use Rattle.pp_word.specs.declared.opcode.Opcode.{Opcode}
-use Rattle.pp_word.specs.declared.opcode.Opcode.TheVariants.{PSN}
 use Rattle.pp_numbers.specs.Tables.{tabulate}
 use Rattle.pp_numbers.proofs.TableLemmas.{tabulate_is}
 use Rattle.pp_text.specs.InstructionText.{block_text, instruction_text, operands_of, operands_text, running_text}
@@ -35,8 +34,7 @@ three xs long = sym (tabulate_is 0 xs 3 (λ i. get_or xs i 0) long (λ i below. 
 
 -- a mnemonic has three letters
 pub three_letters : (op : Opcode) → length ((row_of op).mnemonic) ≡ 3
-three_letters PSN = refl
-three_letters op = refl
+three_letters op = grind arith
 
 -- after a mnemonic nine of thirteen columns are left
 padded_more : (a b c : ℕ) (text : List ℕ) → padded 13 ((a ∷ b ∷ c ∷ []) ++ codes " " ++ text) ≡ a ∷ b ∷ c ∷ 32 ∷ padded 9 text

@@ -43,11 +43,7 @@ no_rows = refl
 join_row : (n k : ℕ) (ns : List ℕ) (b : Bool) → eqb k n ≡ b → rows_of (k ∷ ns) ≡ first_row k ns ∷ rows_of (drop (in_front k ns) ns)
     → step_and_rows n (rows_of (k ∷ ns)) ≡ first_row n (k ∷ ns) ∷ rows_of (drop (in_front n (k ∷ ns)) (k ∷ ns))
 unfolding first_row
-join_row n k ns true same is =
-    let one : k ≡ n = eqb-true k n same in
-    let more : in_front n ns + 1 + 1 ≡ suc (in_front n ns) + 1 = omega arith in
-    ap (step_and_rows n) is ∙ rw (same, front_same n k ns same, one) (ap (λ (c : ℕ). record { processor = n; count = c } ∷ rows_of (drop (in_front n ns) ns)) more)
-join_row n k ns false same is = ap (step_and_rows n) is ∙ rw (same, front_other n k ns same) (ap (λ (rows : List StepsInARow). record { processor = n; count = 1 } ∷ rows) (sym is))
+join_row n k ns b same is = grind (arith, eqb-true, front_same, front_other)
 
 pub rows_next : (n : ℕ) (ns : List ℕ) → rows_of (n ∷ ns) ≡ first_row n ns ∷ rows_of (drop (in_front n ns) ns)
 unfolding first_row rows_of
@@ -71,8 +67,7 @@ some_behind n ms ns e = rw e refl
 
 row_and_behind : (row : StepsInARow) (ns : List ℕ) → join_with_byte 44 (row_text row ∷ map row_text (rows_of ns)) ≡ row_text row ++ behind ns
 unfolding behind order_text
-row_and_behind row [] = rw no_rows (sym (append-nil (row_text row)))
-row_and_behind row (n ∷ ns) = rw (rows_next n ns) refl
+row_and_behind row ns = grind (arith, no_rows, append-nil, rows_next)
 
 text_next : (n : ℕ) (ns : List ℕ) → order_text (n ∷ ns) ≡ row_text (first_row n ns) ++ behind (drop (in_front n ns) ns)
 unfolding order_text
@@ -98,9 +93,7 @@ module _ (order text : List ℕ) (place n count : ℕ) (so_far : IsPrintedTo ord
 
   dropped : drop (place + count) order ≡ drop (in_front n rest) rest
   unfolding rest
-  dropped =
-      let there : place + count ≡ place + 1 + in_front n (drop (place + 1) order) = omega (arith, count_is) in
-      ap (λ (k : ℕ). drop k order) there ∙ sym (drop-drop (in_front n (drop (place + 1) order)) (place + 1) order)
+  dropped = grind (arith, count_is, drop-drop)
 
   pub some : 0 < count
   some = omega (arith, count_is)
@@ -114,12 +107,7 @@ module _ (order text : List ℕ) (place n count : ℕ) (so_far : IsPrintedTo ord
   row_is = ap (λ (k : ℕ). record { processor = n; count = k }) (count_is ∙ sym (add-one (in_front n rest)))
 
   printed : (text ++ row_text (record { processor = n; count = count })) ++ behind (drop (place + count) order) ≡ order_text order
-  printed =
-      append_assoc text _ _
-      ∙ ap (λ (row : StepsInARow). text ++ (row_text row ++ behind (drop (place + count) order))) row_is
-      ∙ ap (λ (ns : List ℕ). text ++ (row_text (first_row n rest) ++ behind ns)) dropped
-      ∙ ap (λ (ns : List ℕ). text ++ ns) (sym (text_next n rest) ∙ ap order_text (sym split))
-      ∙ so_far.whole
+  printed = grind (arith, append_assoc, row_is, rest, dropped, text_next, split)
 
   pub with_comma : place + count < length order → IsPrintedTo order ((text ++ row_text (record { processor = n; count = count })) ++ 44 ∷ []) (place + count)
   with_comma further = record {
@@ -131,18 +119,11 @@ module _ (order text : List ℕ) (place n count : ℕ) (so_far : IsPrintedTo ord
   }
 
   pub without : length order ≤ place + count → IsPrintedTo order (text ++ row_text (record { processor = n; count = count })) (place + count)
-  without past = record {
-    within = row_within;
-    whole = ap (λ (ns : List ℕ). (text ++ row_text (record { processor = n; count = count })) ++ ns)
-        (sym (none_behind (drop (place + count) order) (drop_all (place + count) order past)))
-        ∙ printed;
-  }
+  without past = grind (arith, row_within, none_behind, drop_all, printed)
 
 no_text : order_text [] ≡ []
 unfolding order_text rows_of
 no_text = refl
 
 pub all_printed : (order text : List ℕ) (place : ℕ) → IsPrintedTo order text place → length order ≤ place → text ≡ order_text order
-all_printed order text place so_far past =
-    let nothing : order_text (drop place order) ≡ [] = ap order_text (drop_all place order past) ∙ no_text in
-    sym (append-nil text) ∙ ap (λ (ns : List ℕ). text ++ ns) (sym nothing) ∙ so_far.whole
+all_printed order text place so_far past = grind (arith, drop_all, no_text, append-nil)

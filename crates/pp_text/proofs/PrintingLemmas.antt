@@ -1,5 +1,5 @@
 -- Texts that are printed one after another.
-use Rattle.std.proofs.Common.{◌≡◌, ℕ, zero, suc, ◌+◌, Bool, true, false, List, [], ◌∷◌, ◌++◌, Option, refl, sym, ap, ◌∙◌, add-one, append_assoc, arith, subst}
+use Rattle.std.proofs.Common.{◌≡◌, ℕ, zero, suc, ◌+◌, Bool, List, [], ◌∷◌, ◌++◌, Option, refl, sym, ap, ◌∙◌, add-one, append_assoc, arith, subst}
 use Rattle.std.specs.Prelude.{IsTrue, if◌then◌else◌}
 use Rattle.std.specs.List.{flat_map, range_with_len}
 use Rattle.std.proofs.lemmas.List.{append-nil}
@@ -89,9 +89,7 @@ walk_more {X} line number k = grind (arith, tabulate_more, flat_map-append, appe
 pub flat_of_flat : {X : Type 0} (line : X → List ℕ) (f : ℕ → List X) (ks : List ℕ)
     → flat_map (λ k. flat_map line (f k)) ks ≡ flat_map line (flat_map f ks)
 flat_of_flat line f [] = refl
-flat_of_flat line f (k ∷ ks) =
-    ap (λ (rest : List ℕ). flat_map line (f k) ++ rest) (flat_of_flat line f ks)
-    ∙ sym (flat_map-append line (f k) (flat_map f ks))
+flat_of_flat line f (k ∷ ks) = grind (arith, flat_map-append, flat_of_flat line f ks)
 
 -- what there is of numbers from 0 on, one after another
 pub each_is_flat : (k : ℕ) (f : ℕ → List ℕ) → each_below k f ≡ flat_map f (range_with_len 0 k)
@@ -119,8 +117,7 @@ unfolding all_channels tabulate channel_number names_channel is_number number_of
 where_named f = refl
 
 not_named : (b : Bool) (xs : List ℕ) → (IsTrue b → ⊥) → (if b then xs else []) ≡ []
-not_named true xs none = absurd (none refl)
-not_named false xs none = refl
+not_named b xs none = grind arith
 
 pub channels_by_number : (f : ℕ → List ℕ)
     → flat_map f all_channels

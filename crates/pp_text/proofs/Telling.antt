@@ -70,11 +70,7 @@ pass_more p a b one other = list_all-append p a b ∙ and_from _ _ one other
 
 pub unpadded_pass : (p : ℕ → Bool) → Pass 10 p → (most n : ℕ) → list_all p (unpadded most n) ≡ true
 unpadded_pass p pass zero n = refl
-unpadded_pass p pass (suc most) n =
-    elim (cases_eq n 0) [
-      | inl none ↦ rw none refl
-      | inr some ↦ rw (ne_eqb n 0 some) (pass_more p (unpadded most (n / 10)) (digit (n % 10)) (unpadded_pass p pass most (n / 10)) (rw (pass (n % 10) (omega arith)) refl))
-    ]
+unpadded_pass p pass (suc most) n = grind (arith, cases_eq, ne_eqb, pass_more, unpadded_pass p pass most (n / 10))
 
 pub short_decimal_pass : (p : ℕ → Bool) → Pass 10 p → (n : ℕ) → list_all p (short_decimal n) ≡ true
 unfolding short_decimal

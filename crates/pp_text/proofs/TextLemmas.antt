@@ -1,5 +1,5 @@
 -- Steps of what prints.
-use Rattle.std.proofs.Common.{◌≡◌, ◌≢◌, ℕ, ◌-◌, ◌/◌, ◌%◌, ◌^◌, ◌<◌, zero, suc, List, [], ◌∷◌, ◌++◌, refl, append_assoc, arith, codes}
+use Rattle.std.proofs.Common.{◌≡◌, ◌≢◌, ℕ, ◌-◌, ◌/◌, ◌%◌, ◌^◌, ◌<◌, List, ◌++◌, refl, append_assoc, arith, codes}
 use Rattle.pp_channel.specs.Answer.{flags_of}
 use Rattle.pp_channel.specs.declared.{chan_op.ChanOp.ChanOp, flags.Flags.Flags}
 use Rattle.pp_machine.specs.MachineState.{MachineState, history_of, processor_of}
@@ -14,8 +14,7 @@ use Rattle.pp_text.specs.PrintedText.{event_line, event_text, line_end}
 
 -- a number that is not 0 ends with its last digit
 pub unpadded_more : (most n : ℕ) → 0 < most → n ≢ 0 → unpadded most n ≡ unpadded (most - 1) (n / 10) ++ digit (n % 10)
-unpadded_more zero n h k = absurd (omega arith)
-unpadded_more (suc most) n h k = grind arith
+unpadded_more most n h k = grind arith
 
 -- the line of an event: what stands before the last six digits of its turn, those digits and the numbers, the event
 pub event_line_in_pieces : (upper heading tail : List ℕ) (e : Trace) → upper ≡ unpadded 14 (e.turn / 10 ^ 6)
