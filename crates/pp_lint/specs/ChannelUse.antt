@@ -33,8 +33,10 @@ use_in profile c n (two_words place word m) = use_of profile c n place word
 
 -- the first instruction of processor n for channel c that the listing shows
 unfoldable pub first_use : LoadedDeck → ℕ → ℕ → Option ChannelUse
-first_use deck c n = if is_named deck.named n then slice_get (filter_map
-    (use_in deck.machine.profile c n) (instructions_listed (processor_of n deck.machine))) 0 else None
+first_use deck c n =
+    let uses = filter_map (use_in deck.machine.profile c n)
+    (instructions_listed (processor_of n deck.machine)) in
+    if is_named deck.named n then slice_get uses 0 else None
 
 -- the only one, if it is no function code
 abbrev pub alone_among : List ChannelUse → Option ChannelUse

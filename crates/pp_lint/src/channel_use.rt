@@ -225,7 +225,8 @@ fn print_alone<W: Write>(
 }
 
 /// Prints `channel 05 is used by PP 0 alone`.
-#[tactic(auto, using(pp_numbers::proofs::PpNoLemmas::processor_fits, pp_numbers::proofs::ChannelNoLemmas::channel_fits))]
+#[tactic(auto, using(pp_numbers::proofs::PpNoLemmas::processor_fits, // two digits
+pp_numbers::proofs::ChannelNoLemmas::channel_fits))]
 fn print_alone_text<W: Write>(text: &mut TextWriter<W>, n: PpNo, c: ChannelNo)
     ensures { Prints W.contents text.old text.new (alone_text n c) }
 {

@@ -42,7 +42,8 @@ pub(crate) fn print_run_findings<A: Allocator, W: Write>(
         (given before.now.section (said_after before.now (fields_of line.now))).kind
         (said_after before.now (fields_of line.now)))) }
     ensures found { (k : ℕ) (notes : List Note) → Shows deck.now.firsts notes → number ≡ k + 1
-        → result ≡ is_something_found (run_findings before.now.profile k line.now notes deck.now.alone.items reached.now
+        → result ≡ is_something_found (run_findings before.now.profile k line.now notes
+        deck.now.alone.items reached.now
         (given before.now.section (said_after before.now (fields_of line.now))).kind
         (said_after before.now (fields_of line.now))) }
 {

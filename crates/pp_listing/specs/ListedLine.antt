@@ -35,7 +35,8 @@ pub data ListedLine : Type 0 where
 
 -- an instruction as a line
 abbrev pub listed_line : ListedInstruction → ListedLine
-listed_line i = if i.has_second then two_words i.place i.word i.next else one_word i.place i.word i.next
+listed_line i =
+    if i.has_second then two_words i.place i.word i.next else one_word i.place i.word i.next
 
 -- what it says as a line of a deck
 abbrev pub says : ListedLine → Line
