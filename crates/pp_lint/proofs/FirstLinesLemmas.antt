@@ -1,5 +1,5 @@
 -- A table of the first lines that give things, as more are noted.
-use Rattle.std.proofs.Common.{◌≡◌, ◌≢◌, ℕ, ◌+◌, ◌<◌, Bool, true, false, List, [], ◌∷◌, ◌++◌, length, get_or, map, Option, Some, None, refl, sym, ap, ◌∙◌, arith, append_assoc}
+use Rattle.std.proofs.Common.{◌≡◌, ◌≢◌, ℕ, ◌+◌, ◌<◌, ◌≤◌, Bool, true, false, List, [], ◌∷◌, ◌++◌, length, get_or, map, Option, Some, None, refl, sym, ap, ◌∙◌, arith, append_assoc}
 use Rattle.std.specs.Prelude.{◌&&◌, ◌==◌, IsTrue, find, if◌then◌else◌, option_map, slice_index, slice_set}
 use Rattle.std.specs.List.{range_with_len}
 use Rattle.std.specs.Option.{option_or}
@@ -26,8 +26,37 @@ Same a p b q = (is_kind a b && q == p) ≡ true
 processor_same : (n m p q : ℕ) → n ≡ m → q ≡ p → (n == m && q == p) ≡ true
 processor_same n m p q same at = rw (eq-eqb n m same, eq-eqb q p at) refl
 
+-- each kind has keys of its own, from one on, and up to another
+first_key : Kind → ℕ
+first_key Fault = 0
+first_key (Name n) = 1
+first_key (Start n) = 21
+first_key (Word n) = 41
+first_key Central = 81961
+first_key Dead = 213033
+first_key (Target n) = 213034
+
+past_keys : Kind → ℕ
+past_keys Fault = 1
+past_keys (Name n) = 21
+past_keys (Start n) = 41
+past_keys (Word n) = 81961
+past_keys Central = 213033
+past_keys Dead = 213034
+past_keys (Target n) = 294954
+
+key_within : (a : Kind) (p : ℕ) → IsThing a p → (first_key a ≤ key a p) × (key a p < past_keys a)
+unfolding first_key past_keys
+key_within Fault p s = (omega arith, s.within)
+key_within (Name n) p s = (omega arith, omega (arith, s.within, below n s.processor))
+key_within (Start n) p s = (omega arith, omega (arith, s.within, below n s.processor))
+key_within (Word n) p s = (omega arith, omega (arith, s.within, below n s.processor))
+key_within Central p s = (omega arith, omega (arith, s.within))
+key_within Dead p s = (omega arith, omega (arith, s.within))
+key_within (Target n) p s = (omega arith, omega (arith, s.within, below n s.processor))
+
 one_key : (a b : Kind) (p q : ℕ) → IsThing a p → IsThing b q → key a p ≡ key b q → Same a p b q
-unfolding Same
+unfolding Same first_key past_keys
 one_key Fault Fault p q s t is = eq-eqb q p (sym is)
 one_key (Name n) (Name m) p q s t is =
     let a = below n s.processor in let b = below m t.processor in
@@ -42,48 +71,7 @@ one_key Dead Dead p q s t is = eq-eqb q p (omega (arith, is))
 one_key (Target n) (Target m) p q s t is =
     let index : processor_index n ≡ processor_index m = omega (arith, is, s.within, t.within) in
     processor_same n m p q (processor_places.one_place m n t.processor index) (omega (arith, is, index))
-one_key Fault (Name m) p q s t is = absurd (omega (arith, is, s.within))
-one_key Fault (Start m) p q s t is = absurd (omega (arith, is, s.within))
-one_key Fault (Word m) p q s t is = absurd (omega (arith, is, s.within))
-one_key Fault Central p q s t is = absurd (omega (arith, is, s.within))
-one_key (Name n) Fault p q s t is = absurd (omega (arith, is, t.within))
-one_key (Name n) (Start m) p q s t is = absurd (omega (arith, is, s.within, below n s.processor))
-one_key (Name n) (Word m) p q s t is = absurd (omega (arith, is, s.within, below n s.processor))
-one_key (Name n) Central p q s t is = absurd (omega (arith, is, s.within, below n s.processor))
-one_key (Start n) Fault p q s t is = absurd (omega (arith, is, t.within))
-one_key (Start n) (Name m) p q s t is = absurd (omega (arith, is, t.within, below m t.processor))
-one_key (Start n) (Word m) p q s t is = absurd (omega (arith, is, s.within, below n s.processor))
-one_key (Start n) Central p q s t is = absurd (omega (arith, is, s.within, below n s.processor))
-one_key (Word n) Fault p q s t is = absurd (omega (arith, is, t.within))
-one_key (Word n) (Name m) p q s t is = absurd (omega (arith, is, t.within, below m t.processor))
-one_key (Word n) (Start m) p q s t is = absurd (omega (arith, is, t.within, below m t.processor))
-one_key (Word n) Central p q s t is = absurd (omega (arith, is, s.within, below n s.processor))
-one_key Central Fault p q s t is = absurd (omega (arith, is, t.within))
-one_key Central (Name m) p q s t is = absurd (omega (arith, is, t.within, below m t.processor))
-one_key Central (Start m) p q s t is = absurd (omega (arith, is, t.within, below m t.processor))
-one_key Central (Word m) p q s t is = absurd (omega (arith, is, t.within, below m t.processor))
-one_key Fault Dead p q s t is = absurd (omega (arith, is, s.within))
-one_key Fault (Target m) p q s t is = absurd (omega (arith, is, s.within))
-one_key (Name n) Dead p q s t is = absurd (omega (arith, is, s.within, below n s.processor))
-one_key (Name n) (Target m) p q s t is = absurd (omega (arith, is, s.within, below n s.processor))
-one_key (Start n) Dead p q s t is = absurd (omega (arith, is, s.within, below n s.processor))
-one_key (Start n) (Target m) p q s t is = absurd (omega (arith, is, s.within, below n s.processor))
-one_key (Word n) Dead p q s t is = absurd (omega (arith, is, s.within, below n s.processor))
-one_key (Word n) (Target m) p q s t is = absurd (omega (arith, is, s.within, below n s.processor))
-one_key Central Dead p q s t is = absurd (omega (arith, is, s.within))
-one_key Central (Target m) p q s t is = absurd (omega (arith, is, s.within))
-one_key Dead Fault p q s t is = absurd (omega (arith, is, t.within))
-one_key Dead (Name m) p q s t is = absurd (omega (arith, is, t.within, below m t.processor))
-one_key Dead (Start m) p q s t is = absurd (omega (arith, is, t.within, below m t.processor))
-one_key Dead (Word m) p q s t is = absurd (omega (arith, is, t.within, below m t.processor))
-one_key Dead Central p q s t is = absurd (omega (arith, is, t.within))
-one_key Dead (Target m) p q s t is = absurd (omega (arith, is, s.within))
-one_key (Target n) Fault p q s t is = absurd (omega (arith, is, t.within))
-one_key (Target n) (Name m) p q s t is = absurd (omega (arith, is, t.within, below m t.processor))
-one_key (Target n) (Start m) p q s t is = absurd (omega (arith, is, t.within, below m t.processor))
-one_key (Target n) (Word m) p q s t is = absurd (omega (arith, is, t.within, below m t.processor))
-one_key (Target n) Central p q s t is = absurd (omega (arith, is, t.within))
-one_key (Target n) Dead p q s t is = absurd (omega (arith, is, t.within))
+one_key a b p q s t is = let one = key_within a p s in let other = key_within b q t in absurd (omega (arith, is, one.0, one.1, other.0, other.1))
 
 both : (a b : Bool) → (a && b) ≡ true → (a ≡ true) × (b ≡ true)
 both true b is = (refl, is)
@@ -104,48 +92,7 @@ same_key (Word n) (Word m) p q is = same_processor n m p q (λ x y. key (Word x)
 same_key Central Central p q is = ap (λ x. 81961 + x) (sym (eqb-true q p is))
 same_key Dead Dead p q is = ap (λ x. 213033 + x) (sym (eqb-true q p is))
 same_key (Target n) (Target m) p q is = same_processor n m p q (λ x y. key (Target x) y) is
-same_key Fault (Name m) p q is = absurd (cc)
-same_key Fault (Start m) p q is = absurd (cc)
-same_key Fault (Word m) p q is = absurd (cc)
-same_key Fault Central p q is = absurd (cc)
-same_key (Name n) Fault p q is = absurd (cc)
-same_key (Name n) (Start m) p q is = absurd (cc)
-same_key (Name n) (Word m) p q is = absurd (cc)
-same_key (Name n) Central p q is = absurd (cc)
-same_key (Start n) Fault p q is = absurd (cc)
-same_key (Start n) (Name m) p q is = absurd (cc)
-same_key (Start n) (Word m) p q is = absurd (cc)
-same_key (Start n) Central p q is = absurd (cc)
-same_key (Word n) Fault p q is = absurd (cc)
-same_key (Word n) (Name m) p q is = absurd (cc)
-same_key (Word n) (Start m) p q is = absurd (cc)
-same_key (Word n) Central p q is = absurd (cc)
-same_key Central Fault p q is = absurd (cc)
-same_key Central (Name m) p q is = absurd (cc)
-same_key Central (Start m) p q is = absurd (cc)
-same_key Central (Word m) p q is = absurd (cc)
-same_key Fault Dead p q is = absurd (cc)
-same_key Fault (Target m) p q is = absurd (cc)
-same_key (Name n) Dead p q is = absurd (cc)
-same_key (Name n) (Target m) p q is = absurd (cc)
-same_key (Start n) Dead p q is = absurd (cc)
-same_key (Start n) (Target m) p q is = absurd (cc)
-same_key (Word n) Dead p q is = absurd (cc)
-same_key (Word n) (Target m) p q is = absurd (cc)
-same_key Central Dead p q is = absurd (cc)
-same_key Central (Target m) p q is = absurd (cc)
-same_key Dead Fault p q is = absurd (cc)
-same_key Dead (Name m) p q is = absurd (cc)
-same_key Dead (Start m) p q is = absurd (cc)
-same_key Dead (Word m) p q is = absurd (cc)
-same_key Dead Central p q is = absurd (cc)
-same_key Dead (Target m) p q is = absurd (cc)
-same_key (Target n) Fault p q is = absurd (cc)
-same_key (Target n) (Name m) p q is = absurd (cc)
-same_key (Target n) (Start m) p q is = absurd (cc)
-same_key (Target n) (Word m) p q is = absurd (cc)
-same_key (Target n) Central p q is = absurd (cc)
-same_key (Target n) Dead p q is = absurd (cc)
+same_key a b p q is = absurd (cc)
 
 -- ---- one note more
 

@@ -18,7 +18,7 @@ use Rattle.pp_lint.specs.LineFault.{before_line, fault_after, said_after}
 use Rattle.pp_lint.specs.RowOfLine.{Gives, central_row, named_row, place_in_second, start_row, words_row}
 use Rattle.pp_instructions.specs.WordsInFields.{word_in, words_in_fields}
 use Rattle.pp_lint.specs.declared.{line_fault.Before.Before, row.Kind.Kind, row.Row.Row}
-use Rattle.pp_lint.specs.declared.row.Kind.TheVariants.{Central, Dead, Fault, Name, Start, Target, Word}
+use Rattle.pp_lint.specs.declared.row.Kind.TheVariants.{Central, Dead, Fault, Name}
 use Rattle.pp_lint.proofs.FindingLemmas.{begins_is, fields_at}
 use Rattle.pp_lint.proofs.WordsLemmas.{words_have_room, words_said}
 use Rattle.std.specs.List.{flat_map, range_with_len}
@@ -362,12 +362,7 @@ fault_gives b fields code is = given_fault b.section ∙ ap (given b.section) (s
 
 fault_kind : (b : Before) (line : List ℕ) (kind : Kind) → kind ≡ Fault → Gives b line kind
 fault_kind b line Fault is = record { clean = λ sets. absurd (cc); start = λ n start. absurd (cc) }
-fault_kind b line (Name n) is = absurd (cc)
-fault_kind b line (Start n) is = absurd (cc)
-fault_kind b line (Word n) is = absurd (cc)
-fault_kind b line Central is = absurd (cc)
-fault_kind b line Dead is = absurd (cc)
-fault_kind b line (Target n) is = absurd (cc)
+fault_kind b line kind is = absurd (cc)
 
 pub fault_is_given : (b : Before) (line : List ℕ) (given : Row) → given ≡ row Fault 0 1 → Gives b line given.kind
 fault_is_given b line given is = fault_kind b line given.kind (ap (λ (r : Row). r.kind) is)

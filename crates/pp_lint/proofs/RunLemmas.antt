@@ -12,7 +12,7 @@ use Rattle.pp_lint.specs.RunFindings.{run_findings}
 use Rattle.pp_lint.specs.StraightLine.{behind_all, behind_line, fault_findings, reached_at}
 use Rattle.pp_instructions.specs.declared.instruction.Instruction.{Instruction}
 use Rattle.pp_lint.specs.declared.{channel_use.ChannelUse.ChannelUse, row.Kind.Kind, row.Row.Row}
-use Rattle.pp_lint.specs.declared.row.Kind.TheVariants.{Central, Dead, Fault, Name, Start, Target, Word}
+use Rattle.pp_lint.specs.declared.row.Kind.TheVariants.{Name, Start, Target, Word}
 
 -- whether the words of a line are for a processor
 abbrev pub is_word : Kind → Bool
@@ -42,13 +42,9 @@ module _ (profile : Profile) (said : Option Line) where
 
   none_within : (number : ℕ) (kind : Kind) → is_word kind ≡ false → is_start kind ≡ false → notes_within number profile kind said ≡ []
   unfolding notes_within
-  none_within number Fault word start = refl
-  none_within number (Name n) word start = refl
   none_within number (Start n) word start = absurd (cc)
   none_within number (Word n) word start = absurd (cc)
-  none_within number Central word start = refl
-  none_within number Dead word start = refl
-  none_within number (Target n) word start = refl
+  none_within number kind word start = refl
 
   pub same_within : (number : ℕ) (kind : Kind) (noted : List Note) → is_word kind ≡ false → is_start kind ≡ false → noted ≡ noted ++ notes_within number profile kind said
   same_within number kind noted word start = sym (ap (λ ns. noted ++ ns) (none_within number kind word start) ∙ append-nil noted)
@@ -64,23 +60,14 @@ module _ (profile : Profile) (noted : List Note) (said : Option Line) (reached :
 
   pub behind_other : (kind : Kind) → is_word kind ≡ false → is_name kind ≡ false → reached ≡ behind_line profile noted kind said reached
   unfolding behind_line
-  behind_other Fault word name = refl
   behind_other (Name n) word name = absurd (cc)
-  behind_other (Start n) word name = refl
   behind_other (Word n) word name = absurd (cc)
-  behind_other Central word name = refl
-  behind_other Dead word name = refl
-  behind_other (Target n) word name = refl
+  behind_other kind word name = refl
 
   pub run_none : (alone : List ChannelUse) (k : ℕ) (line : List ℕ) (kind : Kind) → is_word kind ≡ false → run_findings profile k line noted alone reached kind said ≡ []
   unfolding run_findings
-  run_none alone k line Fault word = refl
-  run_none alone k line (Name n) word = refl
-  run_none alone k line (Start n) word = refl
   run_none alone k line (Word n) word = absurd (cc)
-  run_none alone k line Central word = refl
-  run_none alone k line Dead word = refl
-  run_none alone k line (Target n) word = refl
+  run_none alone k line kind word = refl
 
 -- by the row that the line gives
 module _ (profile : Profile) (noted : List Note) (alone : List ChannelUse) (said : Option Line) (reached : Option ℕ) (k : ℕ) (line : List ℕ) (s : Option ℕ) (row : Row) where

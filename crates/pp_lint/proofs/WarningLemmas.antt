@@ -10,7 +10,7 @@ use Rattle.std.proofs.lemmas.List.Folds.{find-append, list_any-append}
 use Rattle.pp_word.specs.Address.{place_count}
 use Rattle.pp_word.specs.Numeral.{octal, short_octal}
 use Rattle.pp_numbers.proofs.GrowingLists.{range_more}
-use Rattle.pp_deck.specs.DeckLine.{Line, central_size, central_words, dead_start, nothing, section, start, words}
+use Rattle.pp_deck.specs.DeckLine.{Line, nothing}
 use Rattle.pp_lint.specs.Finding.{Finding}
 use Rattle.pp_lint.specs.FirstLines.{line_in}
 use Rattle.pp_lint.specs.Given.{Note, first_line, given, start_place}
@@ -141,22 +141,9 @@ lacking_of k line notes kind p = []
 module _ (k : ℕ) (line : List ℕ) (notes : List Note) where
   lacking_is : (s : Option ℕ) (said : Option Line) → lacking_findings k line notes s said ≡ lacking_of k line notes (given s said).kind (start_place said)
   unfolding given
-  lacking_is None None = refl
   lacking_is None (Some nothing) = refl
-  lacking_is None (Some (central_size size)) = refl
-  lacking_is None (Some (central_words a ws)) = refl
-  lacking_is None (Some (section m)) = refl
-  lacking_is None (Some (start p a)) = refl
-  lacking_is None (Some (words x ws)) = refl
-  lacking_is None (Some dead_start) = refl
-  lacking_is (Some n) None = refl
   lacking_is (Some n) (Some nothing) = refl
-  lacking_is (Some n) (Some (central_size size)) = refl
-  lacking_is (Some n) (Some (central_words a ws)) = refl
-  lacking_is (Some n) (Some (section m)) = refl
-  lacking_is (Some n) (Some (start p a)) = refl
-  lacking_is (Some n) (Some (words x ws)) = refl
-  lacking_is (Some n) (Some dead_start) = refl
+  lacking_is s said = refl
 
   warnings_by : (s : Option ℕ) (said : Option Line) (row : Row) (kind : Kind) → row ≡ given s said → row.kind ≡ kind
       → warnings k line notes s said ≡ twice_findings k line notes row ++ lacking_of k line notes kind (start_place said)

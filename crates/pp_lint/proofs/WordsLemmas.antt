@@ -10,7 +10,7 @@ use Rattle.pp_word.specs.Address.{place_count}
 use Rattle.pp_word.specs.Numeral.{numeral}
 use Rattle.pp_numbers.specs.Profile.{has_processor}
 use Rattle.pp_numbers.specs.declared.profile.Profile.{Profile}
-use Rattle.pp_deck.specs.DeckLine.{◌>>=◌, Line, central_line, central_size, central_words, central_words_line, dead_start, ends_with, keyword_of, line_after, nothing, number_then, section, section_line, start, start_from, start_line, words, words_in, words_line}
+use Rattle.pp_deck.specs.DeckLine.{◌>>=◌, Line, central_line, central_size, central_words, central_words_line, dead_start, ends_with, keyword_of, line_after, number_then, section, section_line, start, start_from, start_line, words, words_in, words_line}
 use Rattle.pp_deck.specs.DeckText.{Field, Fields, fields_of}
 use Rattle.pp_deck.specs.Flaw.{code_of}
 use Rattle.pp_deck.specs.OctalNumber.{number}
@@ -190,14 +190,8 @@ other_said b first rest false false false false false is1 is2 is3 is4 is5 none =
 
 nothing_in_comment : (k : ℕ) (line : List ℕ) (said : Option Line) → says_words said ≡ false → comment_findings k line said ≡ []
 unfolding comment_findings
-nothing_in_comment k line None none = refl
-nothing_in_comment k line (Some nothing) none = refl
-nothing_in_comment k line (Some (central_size n)) none = refl
-nothing_in_comment k line (Some (central_words a ws)) none = refl
-nothing_in_comment k line (Some (section n)) none = refl
-nothing_in_comment k line (Some (start p a)) none = refl
 nothing_in_comment k line (Some (words x ws)) none = absurd (cc)
-nothing_in_comment k line (Some dead_start) none = refl
+nothing_in_comment k line said none = refl
 
 pub no_words_said : (k : ℕ) (b : Before) (line : List ℕ) (first : Field) (rest : Fields) → is_ascii_digit (slice_index first 0) ≡ false
     → comment_findings k line (said_after b (first ∷ rest)) ≡ []
@@ -209,27 +203,15 @@ blank_said k b line = refl
 
 pub no_comment_said : (k : ℕ) (line : List ℕ) (said : Option Line) → comment_place line ≡ None → comment_findings k line said ≡ []
 unfolding comment_findings
-no_comment_said k line None none = refl
-no_comment_said k line (Some nothing) none = refl
-no_comment_said k line (Some (central_size n)) none = refl
-no_comment_said k line (Some (central_words a ws)) none = refl
-no_comment_said k line (Some (section n)) none = refl
-no_comment_said k line (Some (start p a)) none = refl
 no_comment_said k line (Some (words x ws)) none = rw none refl
-no_comment_said k line (Some dead_start) none = refl
+no_comment_said k line said none = refl
 
 -- ---- the instructions of a line
 
 nothing_run : (said : Option Line) → says_words said ≡ false → ([] ≡ instructions_of said) × (0 ≡ first_place said)
 unfolding instructions_of first_place
-nothing_run None none = (refl, refl)
-nothing_run (Some nothing) none = (refl, refl)
-nothing_run (Some (central_size n)) none = (refl, refl)
-nothing_run (Some (central_words a ws)) none = (refl, refl)
-nothing_run (Some (section n)) none = (refl, refl)
-nothing_run (Some (start p a)) none = (refl, refl)
 nothing_run (Some (words x ws)) none = absurd (cc)
-nothing_run (Some dead_start) none = (refl, refl)
+nothing_run said none = (refl, refl)
 
 run_are : (x : ℕ) (ws : List ℕ) → (instructions x ws ≡ instructions_of (Some (words x ws))) × (x ≡ first_place (Some (words x ws)))
 unfolding instructions_of first_place
@@ -265,14 +247,8 @@ words_run b line first rest begins digit none =
 -- ---- the word that it sets at a place
 
 nothing_set : (place : ℕ) (said : Option Line) → says_words said ≡ false → None ≡ word_said place said
-nothing_set place None none = refl
-nothing_set place (Some nothing) none = refl
-nothing_set place (Some (central_size n)) none = refl
-nothing_set place (Some (central_words a ws)) none = refl
-nothing_set place (Some (section n)) none = refl
-nothing_set place (Some (start p a)) none = refl
 nothing_set place (Some (words x ws)) none = absurd (cc)
-nothing_set place (Some dead_start) none = refl
+nothing_set place said none = refl
 
 pub none_set : (b : Before) (line : List ℕ) (place : ℕ) → fields_of line ≡ [] → None ≡ word_said place (said_after b (fields_of line))
 none_set b line place blank = nothing_set place _ (ap (λ fields. says_words (said_after b fields)) blank ∙ blank_runs b)
