@@ -1,23 +1,23 @@
 -- Channels that one processor alone uses.
-use Rattle.std.proofs.Common.{◌≡◌, ℕ, ◌+◌, ◌-◌, ◌<◌, ◌≤◌, Bool, true, false, List, [], ◌∷◌, ◌++◌, Option, Some, None, get_or, length, map, take, refl, sym, ap, ◌∙◌, arith, subst}
+use Rattle.std.proofs.Common.{◌≡◌, ℕ, ◌+◌, ◌-◌, ◌%◌, ◌^◌, ◌<◌, ◌≤◌, Bool, true, false, List, [], ◌∷◌, ◌++◌, Option, Some, None, get_or, length, map, take, refl, sym, ap, ◌∙◌, arith, subst}
 use Rattle.std.specs.Prelude.{◌||◌, codes, filter_map, if◌then◌else◌, is_some, option_to_list, slice_get}
-use Rattle.std.specs.List.{flat_map, range_with_len}
+use Rattle.std.specs.List.{flat_map, list_any, range_with_len}
+use Rattle.std.proofs.lemmas.List.Folds.{list_any-append, list_any_at}
+use Rattle.pp_word.specs.Address.{place_count}
 use Rattle.std.proofs.lemmas.List.{append-nil, map-append, take_all, take_more}
 use Rattle.std.proofs.lemmas.List.Concat.{flat_map-append}
 use Rattle.std.proofs.lemmas.List.Elements.{filter_map-append}
 use Rattle.pp_word.specs.Numeral.{octal, short_octal}
 use Rattle.pp_numbers.proofs.GrowingLists.{filter_map_more, range_append, range_more}
-use Rattle.pp_numbers.specs.PpNo.{is_named}
+use Rattle.pp_numbers.specs.PpNo.{processor_number}
 use Rattle.pp_numbers.specs.Tables.{tabulate}
 use Rattle.pp_numbers.specs.declared.profile.Profile.{Profile}
-use Rattle.pp_machine.specs.MachineState.{processor_of}
 use Rattle.pp_deck.specs.DeckLine.{Line}
 use Rattle.pp_deck.specs.DeckMeaning.{LoadedDeck}
 use Rattle.pp_instructions.specs.InstructionEffect.{channel_named}
 use Rattle.pp_listing.specs.ListedLine.{ListedLine, listed_line}
-use Rattle.pp_listing.specs.Listing.{instructions_listed}
 use Rattle.pp_listing.specs.declared.listed_instructions.ListedInstruction.{ListedInstruction}
-use Rattle.pp_lint.specs.ChannelUse.{alone_among, alone_finding, alone_findings, alone_text, first_use, is_in_line, use_in}
+use Rattle.pp_lint.specs.ChannelUse.{alone_finding, alone_findings, alone_text, is_in_line, use_in, use_of_one, user}
 use Rattle.pp_lint.specs.Finding.{Finding}
 use Rattle.pp_lint.specs.LintText.{finding_line, is_something_found}
 use Rattle.pp_lint.specs.StraightLine.{is_at}
@@ -52,34 +52,42 @@ module _ {A : Type 0} (of : ℕ → Option A) (number : ℕ → ℕ) where
 
 -- ---- the only processor
 
-not_alone_after : (of : ℕ → Option ChannelUse) (number : ℕ → ℕ) (k n : ℕ) (first second : ChannelUse) → k < n → filter_map of (tabulate k number) ≡ first ∷ [] → Some second ≡ of (number k)
-    → None ≡ alone_among (filter_map of (tabulate n number))
-not_alone_after of number k n first second within one is =
+not_alone_after : (deck : LoadedDeck) (c k n first second : ℕ) → k < n → filter_map (user deck c) (tabulate k processor_number) ≡ first ∷ [] → Some second ≡ user deck c (processor_number k)
+    → None ≡ use_of_one deck c (filter_map (user deck c) (tabulate n processor_number))
+not_alone_after deck c k n first second within one is =
+    let of = user deck c in
     let n_is : n ≡ (k + 1) + (n - (k + 1)) = omega (arith, within) in
-    let rest = filter_map of (map number (range_with_len (0 + (k + 1)) (n - (k + 1)))) in
-    sym (ap (λ i. alone_among (filter_map of (tabulate i number))) n_is
-    ∙ ap alone_among (and_others of number (k + 1) (n - (k + 1)) ∙ ap (λ us. us ++ rest) (one_here of number k (first ∷ []) second one is)))
+    let rest = filter_map of (map processor_number (range_with_len (0 + (k + 1)) (n - (k + 1)))) in
+    sym (ap (λ i. use_of_one deck c (filter_map of (tabulate i processor_number))) n_is
+    ∙ ap (use_of_one deck c) (and_others of processor_number (k + 1) (n - (k + 1)) ∙ ap (λ us. us ++ rest) (one_here of processor_number k (first ∷ []) second one is)))
 
 -- by the one found so far, if there is one
-pub not_alone : (of : ℕ → Option ChannelUse) (number : ℕ → ℕ) (k n : ℕ) (found : Option ChannelUse) (second : ChannelUse) → k < n → is_some found ≡ true → filter_map of (tabulate k number) ≡ option_to_list found → Some second ≡ of (number k)
-    → None ≡ alone_among (filter_map of (tabulate n number))
-not_alone of number k n (Some first) second within some one is = not_alone_after of number k n first second within one is
-not_alone of number k n None second within some one is = absurd (cc)
+pub not_alone : (deck : LoadedDeck) (c k n : ℕ) (found : Option ℕ) (second : ℕ) → k < n → is_some found ≡ true → filter_map (user deck c) (tabulate k processor_number) ≡ option_to_list found → Some second ≡ user deck c (processor_number k)
+    → None ≡ use_of_one deck c (filter_map (user deck c) (tabulate n processor_number))
+not_alone deck c k n (Some first) second within some one is = not_alone_after deck c k n first second within one is
+not_alone deck c k n None second within some one is = absurd (cc)
 
-pub first_found : (of : ℕ → Option ChannelUse) (number : ℕ → ℕ) (k : ℕ) (found : Option ChannelUse) (first : ChannelUse) → is_some found ≡ false → filter_map of (tabulate k number) ≡ option_to_list found → Some first ≡ of (number k)
-    → filter_map of (tabulate (k + 1) number) ≡ first ∷ []
-first_found of number k None first none so_far is = one_here of number k [] first so_far is
-first_found of number k (Some other) first none so_far is = absurd (cc)
+pub first_found : (deck : LoadedDeck) (c k : ℕ) (found : Option ℕ) (first : ℕ) → is_some found ≡ false → filter_map (user deck c) (tabulate k processor_number) ≡ option_to_list found → Some first ≡ user deck c (processor_number k)
+    → filter_map (user deck c) (tabulate (k + 1) processor_number) ≡ first ∷ []
+first_found deck c k None first none so_far is = one_here (user deck c) processor_number k [] first so_far is
+first_found deck c k (Some other) first none so_far is = absurd (cc)
 
--- ---- by whether the deck names the processor
+-- ---- words one by one
 
-pub unnamed : (deck : LoadedDeck) (c n : ℕ) → is_named deck.named n ≡ false → None ≡ first_use deck c n
-unfolding first_use
-unnamed deck c n not_named = rw not_named refl
+module _ (p : ℕ → Bool) (ws : List ℕ) (k at w : ℕ) (long : length ws ≡ place_count) (within : k < place_count) (at_is : at ≡ k % 2 ^ 12) (is : w ≡ get_or ws at 0) where
+  word_is : w ≡ get_or ws k 0
+  word_is = let same : at ≡ k = omega (arith, at_is, within) in is ∙ ap (λ i. get_or ws i 0) same
 
-pub of_named : (deck : LoadedDeck) (c n : ℕ) → is_named deck.named n ≡ true → slice_get (filter_map (use_in deck.machine.profile c n) (instructions_listed (processor_of n deck.machine))) 0 ≡ first_use deck c n
-unfolding first_use
-of_named deck c n names = rw names refl
+  pub none_among_more : list_any p (take k ws) ≡ false → false ≡ p w → list_any p (take (k + 1) ws) ≡ false
+  none_among_more none here =
+      ap (list_any p) (take_more ws k 0 (omega (arith, within, long)) ∙ ap (λ x. take k ws ++ x ∷ []) (sym word_is)) ∙ list_any-append p (take k ws) (w ∷ [])
+      ∙ ap (λ b. b || (p w || false)) none ∙ ap (λ b. b || false) (sym here)
+
+  pub one_among : true ≡ p w → true ≡ list_any p ws
+  one_among here = sym (list_any_at p ws k 0 (omega (arith, within, long)) (ap p (sym word_is) ∙ sym here))
+
+pub none_among : (p : ℕ → Bool) (ws : List ℕ) (k : ℕ) → length ws ≤ k → list_any p (take k ws) ≡ false → false ≡ list_any p ws
+none_among p ws k all none = sym none ∙ ap (list_any p) (take_all k ws all)
 
 -- ---- the first instruction
 

@@ -16,8 +16,6 @@ use Rattle.pp_deck.specs.Flaw.{code_of}
 use Rattle.pp_deck.specs.OctalNumber.{number}
 use Rattle.pp_instructions.specs.Claim.{claims, comment_place}
 use Rattle.pp_instructions.specs.Column.{column_of}
-use Rattle.pp_deck.specs.DeckLoad.{word_among}
-use Rattle.pp_lint.specs.ChannelUse.{word_said}
 use Rattle.pp_lint.specs.CommentFindings.{claims_findings, comment_findings}
 use Rattle.pp_lint.specs.FieldAtFault.{fault_in}
 use Rattle.pp_instructions.specs.Instruction.{instructions}
@@ -243,31 +241,6 @@ words_run b line first rest begins digit none =
     let same = ap (said_after b) begins ∙ is in
     let run = run_are (word_in first) (words_in_fields rest) in
     record { are = run.0 ∙ ap instructions_of (sym same); first = run.1 ∙ ap first_place (sym same) }
-
--- ---- the word that it sets at a place
-
-nothing_set : (place : ℕ) (said : Option Line) → says_words said ≡ false → None ≡ word_said place said
-nothing_set place (Some (words x ws)) none = absurd (cc)
-nothing_set place said none = refl
-
-pub none_set : (b : Before) (line : List ℕ) (place : ℕ) → fields_of line ≡ [] → None ≡ word_said place (said_after b (fields_of line))
-none_set b line place blank = nothing_set place _ (ap (λ fields. says_words (said_after b fields)) blank ∙ blank_runs b)
-
-pub others_set : (b : Before) (line : List ℕ) (place : ℕ) (first : Field) (rest : Fields) → fields_of line ≡ first ∷ rest → is_ascii_digit (slice_index first 0) ≡ false → None ≡ word_said place (said_after b (fields_of line))
-others_set b line place first rest begins other = nothing_set place _ (ap (λ fields. says_words (said_after b fields)) begins ∙ other_said b first rest _ _ _ _ _ refl refl refl refl refl other)
-
-pub words_set : (b : Before) (line : List ℕ) (place : ℕ) (first : Field) (rest : Fields) → fields_of line ≡ first ∷ rest → is_ascii_digit (slice_index first 0) ≡ true → fault_after b (fields_of line) ≡ None
-    → word_among (word_in first) (words_in_fields rest) place ≡ word_said place (said_after b (fields_of line))
-words_set b line place first rest begins digit none =
-    let said = words_said b first rest (ap (fault_after b) (sym begins) ∙ none) digit in
-    let at : word_in first ≡ said.place = ap (λ o. unwrap_or o 0) said.at in
-    sym (ap (λ fields. word_said place (said_after b fields)) begins ∙ ap (word_said place) said.is ∙ ap (λ x. word_among x (words_in_fields rest) place) (sym at))
-
-pub among_before : (first place : ℕ) (ws : List ℕ) → place < first → None ≡ word_among first ws place
-among_before first place ws early = grind (arith, early)
-
-pub among_from : (first place : ℕ) (ws : List ℕ) → (place < first → ⊥) → slice_get ws (place - first) ≡ word_among first ws place
-among_from first place ws late = grind (arith, late)
 
 pub first_is : (old new : List Instruction) (o : Option Instruction) → IfSome o (λ i. old ≡ i ∷ new) → IfNone o ((old ≡ []) × (new ≡ [])) → slice_get old 0 ≡ o
 first_is old new (Some i) some none = ap (λ is. slice_get is 0) some

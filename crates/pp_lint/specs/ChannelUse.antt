@@ -1,21 +1,21 @@
--- Channels that one processor alone uses, by the instructions that a listing of the deck shows.
--- Function codes go to equipment, which needs no second processor: a channel that a processor first
--- sends one on is not looked at.
+-- Channels that one processor alone uses: a listing of the deck shows an instruction of it for the
+-- channel, and no other processor has a word that would be one. Function codes go to equipment,
+-- which needs no second processor: a channel that a processor first sends one on is not looked at.
 use Rattle.std.specs.Prelude.{ℕ, ◌+◌, ◌-◌, ◌==◌, ◌&&◌, Bool, List, [], ◌∷◌, ◌++◌, codes, filter_map, slice_get, Option, None, Some, Result, Ok, Err, if◌then◌else◌}
-use Rattle.std.specs.List.{flat_map}
+use Rattle.std.specs.List.{flat_map, list_any}
 use Rattle.pp_word.specs.Numeral.{octal, short_octal}
 use Rattle.pp_numbers.specs.ChannelNo.{all_channels}
 use Rattle.pp_numbers.specs.PpNo.{all_processors, is_named}
 use Rattle.pp_numbers.specs.declared.profile.Profile.{Profile}
 use Rattle.pp_machine.specs.MachineState.{is_opened, processor_of}
 use Rattle.pp_deck.specs.DeckLine.{Line}
-use Rattle.pp_deck.specs.DeckLoad.{word_for}
 use Rattle.pp_deck.specs.DeckMeaning.{LoadedDeck}
 use Rattle.pp_deck.specs.declared.deck_fault.DeckFault.{DeckFault}
 use Rattle.pp_listing.specs.ListedLine.{ListedLine, bare, one_word, two_words}
 use Rattle.pp_listing.specs.Listing.{instructions_listed}
 use Rattle.pp_instructions.specs.InstructionEffect.{channel_named, sends_function}
 use Rattle.pp_lint.specs.Finding.{Finding}
+use Rattle.pp_lint.specs.InstructionsOfLine.{instructions_of}
 use Rattle.pp_lint.specs.StraightLine.{is_at}
 use Rattle.pp_lint.specs.Warnings.{field_finding}
 use Rattle.pp_lint.specs.declared.channel_use.ChannelUse.{ChannelUse}
@@ -33,20 +33,29 @@ use_in profile c n (two_words place word m) = use_of profile c n place word
 
 -- the first instruction of processor n for channel c that the listing shows
 unfoldable pub first_use : LoadedDeck → ℕ → ℕ → Option ChannelUse
-first_use deck c n =
-    let uses = filter_map (use_in deck.machine.profile c n)
-    (instructions_listed (processor_of n deck.machine)) in
-    if is_named deck.named n then slice_get uses 0 else None
+first_use deck c n = slice_get (filter_map (use_in deck.machine.profile c n)
+    (instructions_listed (processor_of n deck.machine))) 0
 
--- the only one, if it is no function code
-abbrev pub alone_among : List ChannelUse → Option ChannelUse
-alone_among (one ∷ []) = if sends_function one.word then None else Some one
-alone_among uses = None
+-- processor n, if the deck names it and it has a word that would be an instruction for channel c
+unfoldable pub user : LoadedDeck → ℕ → ℕ → Option ℕ
+user deck c n = if is_named deck.named n && list_any (λ word. is_at c
+    (channel_named deck.machine.profile word)) (processor_of n deck.machine).memory
+    then Some n else None
 
--- that of the only processor that uses a channel, which no dead start opens
+-- one that is no function code
+abbrev pub unless_function : Option ChannelUse → Option ChannelUse
+unless_function None = None
+unless_function (Some one) = if sends_function one.word then None else Some one
+
+-- of these processors, if it is only one, its first instruction for channel c
+abbrev pub use_of_one : LoadedDeck → ℕ → List ℕ → Option ChannelUse
+use_of_one deck c (n ∷ []) = unless_function (first_use deck c n)
+use_of_one deck c ns = None
+
+-- of the only processor for a channel, which no dead start opens
 unfoldable pub alone_use : LoadedDeck → ℕ → Option ChannelUse
 alone_use deck c = if is_opened c deck.machine then None
-    else alone_among (filter_map (first_use deck c) all_processors)
+    else use_of_one deck c (filter_map (user deck c) all_processors)
 
 -- of all channels, in order of number
 unfoldable pub alone_uses : LoadedDeck → List ChannelUse
@@ -61,14 +70,10 @@ unfoldable pub alone_text : ℕ → ℕ → List ℕ
 alone_text n c = codes "channel " ++ octal 2 c ++ codes " is used by PP " ++ short_octal 2 n
     ++ codes " alone"
 
--- the word that a line sets at a place
-abbrev pub word_said : ℕ → Option Line → Option ℕ
-word_said place None = None
-word_said place (Some line) = word_for place line
-
--- whether such an instruction stands in a line of processor n: the line sets its word there
+-- whether such an instruction stands in a line of processor n
 unfoldable pub is_in_line : ℕ → Option Line → ChannelUse → Bool
-is_in_line n said one = one.n == n && is_at one.word (word_said one.place said)
+is_in_line n said one = one.n == n
+    && list_any (λ i. i.place == one.place && i.word == one.word) (instructions_of said)
 
 -- in line k, whose first word is that of this place
 abbrev pub alone_finding : ℕ → List ℕ → ℕ → ℕ → Option Line → ChannelUse → List Finding

@@ -1,10 +1,10 @@
 //! Channels that one processor alone uses.
 
 ghost use Rattle.std.specs.Prelude.{ℕ, ◌≡◌, ◌+◌, IfOk, filter_map, option_to_list, slice_get};
-ghost use Rattle.std.specs.List.{flat_map};
+ghost use Rattle.std.specs.List.{flat_map, list_any};
 ghost use Rattle.pp_deck.specs.DeckText.{fields_of};
 ghost use Rattle.pp_instructions.specs.InstructionEffect.{channel_named};
-ghost use Rattle.pp_lint.specs.ChannelUse.{alone_among, alone_finding, alone_findings, alone_text, alone_use, alone_uses, first_use, is_in_line, use_in};
+ghost use Rattle.pp_lint.specs.ChannelUse.{alone_finding, alone_findings, alone_text, alone_use, alone_uses, first_use, is_in_line, unless_function, use_in, use_of_one, user};
 ghost use Rattle.pp_lint.specs.LineFault.{said_after};
 ghost use Rattle.pp_lint.specs.LintText.{finding_line, is_something_found};
 ghost use Rattle.pp_lint.specs.StraightLine.{is_at};
@@ -16,14 +16,15 @@ ghost use Rattle.pp_text.specs.TextWriter.{Prints};
 
 use crate::line_findings::print_place;
 use crate::word_line::WordLine;
-use crate::words::sets_word;
+use crate::words::has_instruction;
 use pp_channel::{CHANNELS, ChannelNo, Memory};
 use pp_deck::Deck;
 use pp_instructions::{Columns, Instruction};
-use pp_listing::{ListedInstruction, ListedInstructions};
+use pp_listing::ListedInstructions;
+use pp_machine::Pp;
 use pp_numbers::{PROCESSORS, PpNo, Profile};
 use pp_text::{TextWriter, octal2, print_short_octal};
-use pp_word::Word12;
+use pp_word::{PLACES, Word12};
 use std::alloc::Allocator;
 use std::io::Write;
 
@@ -53,8 +54,8 @@ pub(crate) fn alone_uses<A: Allocator>(
     Ok(uses)
 }
 
-/// The first instruction for a channel, if one processor alone uses it, which first sends no
-/// function code, and no dead start opens it.
+/// The first instruction for a channel, if one processor alone has words for it, the instruction
+/// sends no function code, and no dead start opens the channel.
 #[tactic(auto, unfolding(crate::specs::ChannelUse::alone_use))]
 fn alone_use<A: Allocator>(deck: &Deck<A>, c: ChannelNo) -> Option<ChannelUse>
     ensures { result ≡ alone_use
@@ -63,41 +64,85 @@ fn alone_use<A: Allocator>(deck: &Deck<A>, c: ChannelNo) -> Option<ChannelUse>
     if deck.machine.opened(c) {
         return None;
     }
-    alone_among(deck, c)
+    use_of_one(deck, c)
 }
 
-/// The first instruction for a channel, if one processor alone uses it, which first sends no
-/// function code.
-fn alone_among<A: Allocator>(deck: &Deck<A>, c: ChannelNo) -> Option<ChannelUse>
-    ensures { result ≡ alone_among (filter_map (first_use
-        (record { machine = deck.now.machine; named = deck.now.named }) c) all_processors) }
+/// The first instruction for a channel of the only processor that has words for it, unless it sends
+/// a function code.
+fn use_of_one<A: Allocator>(deck: &Deck<A>, c: ChannelNo) -> Option<ChannelUse>
+    ensures { result ≡ use_of_one (record { machine = deck.now.machine; named = deck.now.named }) c
+        (filter_map (user (record { machine = deck.now.machine; named = deck.now.named }) c)
+        all_processors) }
 {
     let mut found = None;
     for place in 0..PROCESSORS {
-        if let Some(first) = first_use(deck, c, PpNo::at(place)) {
+        if let Some(n) = user(deck, c, PpNo::at(place)) {
             if found.is_some() {
                 return None;
             }
-            found = Some(first);
+            found = Some(n);
         }
     }
-    unless_function(found)
+    use_of(deck, c, found)
+}
+
+/// The first instruction for a channel of a processor, if there is one, unless it sends a function
+/// code.
+fn use_of<A: Allocator>(deck: &Deck<A>, c: ChannelNo, found: Option<PpNo>) -> Option<ChannelUse>
+    ensures { result ≡ use_of_one (record { machine = deck.now.machine; named = deck.now.named }) c
+        (option_to_list found) }
+{
+    let n = found?;
+    unless_function(first_use(deck, c, n))
 }
 
 /// The first instruction of a processor for a channel that a listing of the deck shows.
+#[tactic(auto, unfolding(crate::specs::ChannelUse::first_use))]
 fn first_use<A: Allocator>(deck: &Deck<A>, c: ChannelNo, n: PpNo) -> Option<ChannelUse>
     ensures { result ≡ first_use
         (record { machine = deck.now.machine; named = deck.now.named }) c n }
 {
-    if !deck.named[n.index()] {
-        return None;
-    }
     first_of(
         deck.machine.profile(),
         c,
         n,
         &mut ListedInstructions::of(deck.machine.pp(n)),
     )
+}
+
+/// An instruction, unless it sends a function code.
+fn unless_function(found: Option<ChannelUse>) -> Option<ChannelUse>
+    ensures { result ≡ unless_function found }
+{
+    let found = found?;
+    if instruction_of(found.place, found.word).sends_function() {
+        return None;
+    }
+    Some(found)
+}
+
+/// A processor, if the deck names it and it has a word that would be an instruction for a channel.
+#[tactic(auto, unfolding(crate::specs::ChannelUse::user))]
+fn user<A: Allocator>(deck: &Deck<A>, c: ChannelNo, n: PpNo) -> Option<PpNo>
+    ensures { result ≡ user (record { machine = deck.now.machine; named = deck.now.named }) c n }
+{
+    if deck.named[n.index()] && has_word_for(deck.machine.profile(), c, deck.machine.pp(n)) {
+        Some(n)
+    } else {
+        None
+    }
+}
+
+/// Whether a processor has a word that would be an instruction for a channel.
+fn has_word_for(profile: Profile, c: ChannelNo, pp: &Pp) -> bool
+    ensures { result ≡ list_any (λ word. is_at c (channel_named profile word)) pp.now.memory }
+{
+    for place in 0..PLACES {
+        if is_for(profile, c, pp.get(Word12::truncated(place))) {
+            return true;
+        }
+    }
+    false
 }
 
 /// The first of these instructions of a processor that is for a channel.
@@ -110,7 +155,7 @@ fn first_of(
     ensures { result ≡ slice_get (filter_map (use_in profile c n) instructions.old) 0 }
 {
     while let Some(i) = instructions.next_instruction() {
-        if is_for(profile, c, &i) {
+        if is_for(profile, c, i.word) {
             return Some(ChannelUse {
                 n,
                 c,
@@ -122,11 +167,11 @@ fn first_of(
     None
 }
 
-/// Whether an instruction is for a channel.
-fn is_for(profile: Profile, c: ChannelNo, i: &ListedInstruction) -> bool
-    ensures { result ≡ is_at c (channel_named profile i.now.word) }
+/// Whether a word is an instruction for a channel.
+fn is_for(profile: Profile, c: ChannelNo, word: Word12) -> bool
+    ensures { result ≡ is_at c (channel_named profile word) }
 {
-    match instruction_of(i.place, i.word).channel_named(profile) {
+    match instruction_of(Word12::ZERO, word).channel_named(profile) {
         Some(named) => named.get() == c.get(),
         None => false,
     }
@@ -143,18 +188,7 @@ fn instruction_of(place: Word12, word: Word12) -> Instruction
     }
 }
 
-/// An instruction, if it sends no function code.
-fn unless_function(found: Option<ChannelUse>) -> Option<ChannelUse>
-    ensures { result ≡ alone_among (option_to_list found) }
-{
-    let found = found?;
-    if instruction_of(found.place, found.word).sends_function() {
-        return None;
-    }
-    Some(found)
-}
-
-/// Prints which of these instructions a line of words sets, and returns whether it sets one.
+/// Prints which of these instructions stand in a line of words, and returns whether one does.
 pub(crate) fn print_alone_findings<W: Write>(
     text: &mut TextWriter<W>,
     uses: &[ChannelUse],
@@ -176,8 +210,8 @@ pub(crate) fn print_alone_findings<W: Write>(
     is_found
 }
 
-/// Prints that a processor alone uses a channel, if a line sets its first instruction, and returns
-/// whether that is so.
+/// Prints that a processor alone uses a channel, if its first instruction stands in a line, and
+/// returns whether that is so.
 fn print_alone_finding<W: Write>(
     text: &mut TextWriter<W>,
     words: &WordLine,
@@ -199,13 +233,13 @@ fn print_alone_finding<W: Write>(
     true
 }
 
-/// Whether a line of words sets an instruction.
+/// Whether an instruction stands in a line of words.
 #[tactic(auto, unfolding(crate::specs::ChannelUse::is_in_line))]
 fn is_in_line(words: &WordLine, alone: &ChannelUse) -> bool
     ensures { (before : Before) → HasNoFault before words.now.line.now → result
         ≡ is_in_line words.now.n (said_after before (fields_of words.now.line.now)) alone.now }
 {
-    alone.n.get() == words.n.get() && sets_word(words.line, alone.place, alone.word)
+    alone.n.get() == words.n.get() && has_instruction(words.line, alone.place, alone.word)
 }
 
 /// Prints `3:6 channel 05 is used by PP 0 alone`, at a field of a line.
