@@ -1,32 +1,24 @@
 -- Channels that one processor alone uses.
-use Rattle.std.proofs.Common.{◌≡◌, ℕ, ◌+◌, ◌-◌, ◌%◌, ◌^◌, ◌<◌, ◌≤◌, Bool, true, false, List, [], ◌∷◌, ◌++◌, Option, Some, None, get_or, length, map, take, refl, sym, ap, ◌∙◌, arith, subst}
-use Rattle.std.specs.Prelude.{◌||◌, codes, filter_map, if◌then◌else◌, is_some, option_to_list, slice_get}
-use Rattle.std.specs.List.{flat_map, list_any, range_with_len}
-use Rattle.std.proofs.lemmas.List.Folds.{list_any-append, list_any_at}
+use Rattle.std.proofs.Common.{◌≡◌, ℕ, ◌+◌, ◌-◌, ◌%◌, ◌^◌, ◌<◌, ◌≤◌, Bool, true, false, List, [], ◌∷◌, ◌++◌, Option, Some, None, get_or, length, map, take, refl, sym, ap, ◌∙◌, arith}
+use Rattle.std.specs.Prelude.{◌||◌, codes, filter_map, if◌then◌else◌, is_some, option_to_list, position, slice_get}
+use Rattle.std.specs.List.{find, list_any, range_with_len}
+use Rattle.std.proofs.lemmas.Option.{slice_get-get_or, slice_get_past}
+use Rattle.std.proofs.lemmas.List.Folds.{find_at, list_any-append, list_any_at}
 use Rattle.pp_word.specs.Address.{place_count}
 use Rattle.std.proofs.lemmas.List.{append-nil, map-append, take_all, take_more}
-use Rattle.std.proofs.lemmas.List.Concat.{flat_map-append}
 use Rattle.std.proofs.lemmas.List.Elements.{filter_map-append}
 use Rattle.pp_word.specs.Numeral.{octal, short_octal}
 use Rattle.pp_numbers.proofs.GrowingLists.{filter_map_more, range_append, range_more}
 use Rattle.pp_numbers.specs.PpNo.{processor_number}
 use Rattle.pp_numbers.specs.Tables.{tabulate}
 use Rattle.pp_numbers.specs.declared.profile.Profile.{Profile}
-use Rattle.pp_deck.specs.DeckLine.{Line}
 use Rattle.pp_deck.specs.DeckMeaning.{LoadedDeck}
 use Rattle.pp_instructions.specs.InstructionEffect.{channel_named}
 use Rattle.pp_listing.specs.ListedLine.{ListedLine, listed_line}
 use Rattle.pp_listing.specs.declared.listed_instructions.ListedInstruction.{ListedInstruction}
-use Rattle.pp_lint.specs.ChannelUse.{alone_finding, alone_findings, alone_text, is_in_line, use_in, use_of_one, user}
-use Rattle.pp_lint.specs.Finding.{Finding}
-use Rattle.pp_lint.specs.LintText.{finding_line, is_something_found}
+use Rattle.pp_lint.specs.ChannelUse.{alone_text, use_in, use_of_one, user}
 use Rattle.pp_lint.specs.StraightLine.{is_at}
-use Rattle.pp_lint.specs.Warnings.{field_finding}
 use Rattle.pp_lint.specs.declared.channel_use.ChannelUse.{ChannelUse}
-use Rattle.pp_lint.proofs.FindingLemmas.{found_more}
-use Rattle.pp_lint.proofs.WarningLemmas.{prints_both}
-use Rattle.pp_text.specs.TextWriter.{Prints}
-use Rattle.pp_text.specs.declared.text_writer.TextWriter.{TextWriter}
 
 -- ---- what there is of some numbers, one after another
 
@@ -111,32 +103,9 @@ pub alone_pieces : (n m c : ℕ) (digits : List ℕ) → digits ≡ octal 2 c �
 unfolding alone_text
 alone_pieces n m c digits is same = rw (is, same) refl
 
-pub in_another : (k : ℕ) (line : List ℕ) (n first : ℕ) (said : Option Line) (one : ChannelUse) → false ≡ is_in_line n said one → alone_finding k line n first said one ≡ []
-in_another k line n first said one other = rw (← other) refl
+-- the first that passes a test, at its place
+pub use_found : (p : ChannelUse → Bool) (uses : List ChannelUse) (at : ℕ) (one : ChannelUse) → Some at ≡ position p uses → one ≡ get_or uses at one → Some one ≡ find p uses
+use_found p uses at one found is = grind (arith, find_at, slice_get-get_or)
 
-pub in_this : (k : ℕ) (line : List ℕ) (n first : ℕ) (said : Option Line) (one : ChannelUse) → true ≡ is_in_line n said one
-    → alone_finding k line n first said one ≡ field_finding (k + 1) line (one.place + 1 - first) (alone_text one.n one.c) ∷ []
-in_this k line n first said one here = rw (← here) refl
-
--- of one thing more
-module _ {A : Type 0} (of : A → List Finding) (things : List A) (k : ℕ) (thing : A) (within : k < length things) (is : thing ≡ get_or things k thing) where
-  pub findings_more : flat_map of (take k things) ++ of thing ≡ flat_map of (take (k + 1) things)
-  findings_more = sym (
-      ap (flat_map of) (take_more things k thing within ∙ ap (λ x. take k things ++ x ∷ []) (sym is)) ∙ flat_map-append of (take k things) (thing ∷ [])
-      ∙ ap (λ found. flat_map of (take k things) ++ found) (append-nil (of thing)))
-
-  pub found_one_more : (before here both : Bool) → before ≡ is_something_found (flat_map of (take k things)) → here ≡ is_something_found (of thing) → both ≡ (before || here)
-      → both ≡ is_something_found (flat_map of (take (k + 1) things))
-  found_one_more before here both some found either =
-      either ∙ ap (λ b. b || here) some ∙ ap (λ b. is_something_found (flat_map of (take k things)) || b) found
-      ∙ sym (found_more (flat_map of (take k things)) (of thing)) ∙ ap is_something_found findings_more
-
-pub prints_one_more : {W : Type 0} (contents : W → Option (List ℕ)) (from to out : TextWriter W) {A : Type 0} (of : A → List Finding) (things : List A) (k : ℕ) (thing : A) → k < length things → thing ≡ get_or things k thing
-    → Prints contents from to (flat_map finding_line (flat_map of (take k things))) → Prints contents to out (flat_map finding_line (of thing))
-    → Prints contents from out (flat_map finding_line (flat_map of (take (k + 1) things)))
-prints_one_more contents from to out of things k thing within is before here =
-    subst (λ found. Prints contents from out (flat_map finding_line found)) (findings_more of things k thing within is) (prints_both _ _ _ _ _ _ before here)
-
-pub all_of : (k : ℕ) (line : List ℕ) (n first : ℕ) (said : Option Line) (uses : List ChannelUse) (i : ℕ) → length uses ≤ i → flat_map (alone_finding k line n first said) (take i uses) ≡ alone_findings k line n first said uses
-unfolding alone_findings
-all_of k line n first said uses i all = ap (flat_map (alone_finding k line n first said)) (take_all i uses all)
+pub no_use : (p : ChannelUse → Bool) (uses : List ChannelUse) → None ≡ position p uses → None ≡ find p uses
+no_use p uses none = grind (arith, find_at, slice_get_past)

@@ -1,15 +1,23 @@
 -- What comes of the kind of things that a line gives.
-use Rattle.std.proofs.Common.{◌≡◌, ◌≢◌, ℕ, ◌+◌, Bool, true, false, List, [], ◌++◌, Option, Some, None, refl, sym, ap, ◌∙◌, add-one}
+use Rattle.std.proofs.Common.{◌≡◌, ◌≢◌, ℕ, ◌+◌, Bool, true, false, List, [], ◌∷◌, ◌++◌, arith, Option, Some, None, refl, sym, ap, ◌∙◌, add-one}
+use Rattle.std.specs.Prelude.{◌||◌}
 use Rattle.std.specs.List.{flat_map}
 use Rattle.std.proofs.lemmas.List.{append-nil}
 use Rattle.pp_numbers.specs.declared.profile.Profile.{Profile}
 use Rattle.pp_deck.specs.DeckLine.{Line}
 use Rattle.pp_deck.specs.DeckText.{Fields}
-use Rattle.pp_lint.specs.ChannelUse.{alone_findings}
+use Rattle.pp_lint.specs.ChannelUse.{alone_finding}
+use Rattle.pp_text.specs.TextWriter.{Prints}
+use Rattle.pp_text.specs.declared.text_writer.TextWriter.{TextWriter}
+use Rattle.pp_lint.specs.Finding.{Finding}
+use Rattle.pp_lint.specs.LintText.{finding_line, is_something_found}
+use Rattle.pp_lint.proofs.CommentLemmas.{or_on}
+use Rattle.pp_lint.proofs.FindingLemmas.{found_more}
+use Rattle.pp_lint.proofs.WarningLemmas.{prints_both}
 use Rattle.pp_lint.specs.Given.{Note, given, given_at, note_if, notes, notes_of_instruction, notes_within, said_at, start_place}
 use Rattle.pp_lint.specs.InstructionsOfLine.{first_place, instructions_of}
-use Rattle.pp_lint.specs.RunFindings.{run_findings}
-use Rattle.pp_lint.specs.StraightLine.{behind_all, behind_line, fault_findings, reached_at}
+use Rattle.pp_lint.specs.RunFindings.{instruction_findings, run_findings}
+use Rattle.pp_lint.specs.StraightLine.{behind, behind_all, behind_line, fault_finding, is_reached, reached_at}
 use Rattle.pp_instructions.specs.declared.instruction.Instruction.{Instruction}
 use Rattle.pp_lint.specs.declared.{channel_use.ChannelUse.ChannelUse, row.Kind.Kind, row.Row.Row}
 use Rattle.pp_lint.specs.declared.row.Kind.TheVariants.{Name, Start, Target, Word}
@@ -72,7 +80,7 @@ module _ (profile : Profile) (noted : List Note) (said : Option Line) (reached :
 -- by the row that the line gives
 module _ (profile : Profile) (noted : List Note) (alone : List ChannelUse) (said : Option Line) (reached : Option ℕ) (k : ℕ) (line : List ℕ) (s : Option ℕ) (row : Row) where
   pub run_words : (n first : ℕ) (is : List Instruction) → row ≡ given s said → row.kind ≡ Word n → first ≡ first_place said → is ≡ instructions_of said
-      → fault_findings profile k line noted n first reached is ++ alone_findings k line n first said alone
+      → instruction_findings profile k line noted alone n first reached is
       ≡ run_findings profile k line noted alone reached (given s said).kind said
   unfolding run_findings
   run_words n first is value kind from all = rw (sym value) (rw kind (rw from (rw all refl)))
@@ -92,3 +100,30 @@ reached_next profile lines k row said reached now is says comes behind =
 pub reached_first : (profile : Profile) (lines : List Fields) → None ≡ reached_at profile lines 0
 unfolding reached_at
 reached_first profile lines = refl
+
+-- ---- instructions one after another
+
+pub no_instruction : (profile : Profile) (k : ℕ) (line : List ℕ) (notes : List Note) (alone : List ChannelUse) (n first : ℕ) (reached : Option ℕ) → instruction_findings profile k line notes alone n first reached [] ≡ []
+unfolding instruction_findings
+no_instruction profile k line notes alone n first reached = refl
+
+-- the first of some instructions, which is reached or not, and those behind it
+module _ (profile : Profile) (k : ℕ) (line columns : List ℕ) (notes : List Note) (alone : List ChannelUse) (n first : ℕ) (reached now : Option ℕ) (all more : List Instruction) (i : Instruction) (here : Bool)
+    (same : columns ≡ line) (taken : all ≡ i ∷ more) (is_here : here ≡ is_reached notes n reached i.place) (is_now : now ≡ behind profile notes n reached i) where
+  abbrev faulty : List Finding
+  faulty = fault_finding profile k columns here first i
+
+  abbrev used : List Finding
+  used = alone_finding k columns alone n first i
+
+  parts : faulty ++ used ++ instruction_findings profile k line notes alone n first now more ≡ instruction_findings profile k line notes alone n first reached all
+  unfolding instruction_findings
+  parts = rw (same, is_here, is_now, taken) refl
+
+  pub first_prints : {W : Type 0} (contents : W → Option (List ℕ)) (old between new out : TextWriter W) → Prints contents old between (flat_map finding_line faulty) → Prints contents between new (flat_map finding_line used)
+      → Prints contents new out (flat_map finding_line (instruction_findings profile k line notes alone n first now more)) → Prints contents old out (flat_map finding_line (instruction_findings profile k line notes alone n first reached all))
+  first_prints contents old between new out fault alone_one others = rw (← parts) (prints_both contents old new out _ _ (prints_both contents old between new _ _ fault alone_one) others)
+
+  pub first_found : (before is_faulty is_alone : Bool) → is_faulty ≡ is_something_found faulty → is_alone ≡ is_something_found used
+      → (((before || is_faulty) || is_alone) || is_something_found (instruction_findings profile k line notes alone n first now more)) ≡ (before || is_something_found (instruction_findings profile k line notes alone n first reached all))
+  first_found before is_faulty is_alone fault alone_one = rw (← parts) (grind (arith, found_more, or_on))

@@ -1,22 +1,21 @@
 -- Channels that one processor alone uses: a listing of the deck shows an instruction of it for the
 -- channel, and no other processor has a word that would be one. Function codes go to equipment,
 -- which needs no second processor: a channel that a processor first sends one on is not looked at.
-use Rattle.std.specs.Prelude.{ℕ, ◌+◌, ◌-◌, ◌==◌, ◌&&◌, Bool, List, [], ◌∷◌, ◌++◌, codes, filter_map, slice_get, Option, None, Some, Result, Ok, Err, if◌then◌else◌}
-use Rattle.std.specs.List.{flat_map, list_any}
+use Rattle.std.specs.Prelude.{ℕ, ◌+◌, ◌==◌, ◌&&◌, Bool, List, [], ◌∷◌, ◌++◌, codes, filter_map, slice_get, Option, None, Some, Result, Ok, Err, if◌then◌else◌}
+use Rattle.std.specs.List.{find, list_any}
 use Rattle.pp_word.specs.Numeral.{octal, short_octal}
 use Rattle.pp_numbers.specs.ChannelNo.{all_channels}
 use Rattle.pp_numbers.specs.PpNo.{all_processors, is_named}
 use Rattle.pp_numbers.specs.declared.profile.Profile.{Profile}
 use Rattle.pp_machine.specs.MachineState.{is_opened, processor_of}
-use Rattle.pp_deck.specs.DeckLine.{Line}
 use Rattle.pp_deck.specs.DeckMeaning.{LoadedDeck}
 use Rattle.pp_deck.specs.declared.deck_fault.DeckFault.{DeckFault}
 use Rattle.pp_listing.specs.ListedLine.{ListedLine, bare, one_word, two_words}
 use Rattle.pp_listing.specs.Listing.{instructions_listed}
 use Rattle.pp_instructions.specs.InstructionEffect.{channel_named, sends_function}
 use Rattle.pp_lint.specs.Finding.{Finding}
-use Rattle.pp_lint.specs.InstructionsOfLine.{instructions_of}
-use Rattle.pp_lint.specs.StraightLine.{is_at}
+use Rattle.pp_instructions.specs.declared.instruction.Instruction.{Instruction}
+use Rattle.pp_lint.specs.StraightLine.{field_of, is_at}
 use Rattle.pp_lint.specs.Warnings.{field_finding}
 use Rattle.pp_lint.specs.declared.channel_use.ChannelUse.{ChannelUse}
 
@@ -70,16 +69,15 @@ unfoldable pub alone_text : ℕ → ℕ → List ℕ
 alone_text n c = codes "channel " ++ octal 2 c ++ codes " is used by PP " ++ short_octal 2 n
     ++ codes " alone"
 
--- whether such an instruction stands in a line of processor n
-unfoldable pub is_in_line : ℕ → Option Line → ChannelUse → Bool
-is_in_line n said one = one.n == n
-    && list_any (λ i. i.place == one.place && i.word == one.word) (instructions_of said)
+-- whether it is this instruction of processor n
+abbrev pub is_use : ℕ → Instruction → ChannelUse → Bool
+is_use n i one = one.n == n && one.place == i.place && one.word == i.word
 
--- in line k, whose first word is that of this place
-abbrev pub alone_finding : ℕ → List ℕ → ℕ → ℕ → Option Line → ChannelUse → List Finding
-alone_finding k line n first said one = if is_in_line n said one
-    then field_finding (k + 1) line (one.place + 1 - first) (alone_text one.n one.c) ∷ [] else []
+abbrev pub found_use : ℕ → List ℕ → ℕ → Instruction → Option ChannelUse → List Finding
+found_use k line first i None = []
+found_use k line first i (Some one) =
+    field_finding (k + 1) line (field_of first i) (alone_text one.n one.c) ∷ []
 
--- what is found in line k of words of processor n
-unfoldable pub alone_findings : ℕ → List ℕ → ℕ → ℕ → Option Line → List ChannelUse → List Finding
-alone_findings k line n first said uses = flat_map (alone_finding k line n first said) uses
+-- what is found in an instruction of line k of processor n, whose first word is that of this place
+unfoldable pub alone_finding : ℕ → List ℕ → List ChannelUse → ℕ → ℕ → Instruction → List Finding
+alone_finding k line uses n first i = found_use k line first i (find (is_use n i) uses)

@@ -66,11 +66,3 @@ found_fault k line first i (Some fault) =
 abbrev pub fault_finding : Profile → ℕ → List ℕ → Bool → ℕ → Instruction → List Finding
 fault_finding profile k line is_reached first i =
     if is_reached then found_fault k line first i (sure_fault profile i.word) else []
-
--- what is found in instructions of line k
-unfoldable pub fault_findings : Profile → ℕ → List ℕ → List Note → ℕ → ℕ → Option ℕ
-    → List Instruction → List Finding
-fault_findings profile k line notes n first reached [] = []
-fault_findings profile k line notes n first reached (i ∷ is) =
-    fault_finding profile k line (is_reached notes n reached i.place) first i
-    ++ fault_findings profile k line notes n first (behind profile notes n reached i) is

@@ -1,22 +1,17 @@
 //! Channels that one processor alone uses.
 
-ghost use Rattle.std.specs.Prelude.{ℕ, ◌≡◌, ◌+◌, IfOk, filter_map, option_to_list, slice_get};
-ghost use Rattle.std.specs.List.{flat_map, list_any};
-ghost use Rattle.pp_deck.specs.DeckText.{fields_of};
+ghost use Rattle.std.specs.Prelude.{ℕ, ◌≡◌, ◌+◌, IfOk, filter_map, option_to_list, position, slice_get};
+ghost use Rattle.std.specs.List.{find, flat_map, list_any};
 ghost use Rattle.pp_instructions.specs.InstructionEffect.{channel_named};
-ghost use Rattle.pp_lint.specs.ChannelUse.{alone_finding, alone_findings, alone_text, alone_use, alone_uses, first_use, is_in_line, unless_function, use_in, use_of_one, user};
-ghost use Rattle.pp_lint.specs.LineFault.{said_after};
+ghost use Rattle.pp_lint.specs.ChannelUse.{alone_finding, alone_text, alone_use, alone_uses, first_use, is_use, unless_function, use_in, use_of_one, user};
 ghost use Rattle.pp_lint.specs.LintText.{finding_line, is_something_found};
 ghost use Rattle.pp_lint.specs.StraightLine.{is_at};
-ghost use Rattle.pp_lint.specs.Warnings.{field_finding};
-ghost use Rattle.pp_lint.specs.WordsOfLine.{HasNoFault};
-ghost use Rattle.pp_lint.specs.declared.line_fault.Before.{Before};
 ghost use Rattle.pp_numbers.specs.PpNo.{all_processors};
 ghost use Rattle.pp_text.specs.TextWriter.{Prints};
 
 use crate::line_findings::print_place;
+use crate::straight_line::field_of;
 use crate::word_line::WordLine;
-use crate::words::has_instruction;
 use pp_channel::{CHANNELS, ChannelNo, Memory};
 use pp_deck::Deck;
 use pp_instructions::{Columns, Instruction};
@@ -188,74 +183,57 @@ fn instruction_of(place: Word12, word: Word12) -> Instruction
     }
 }
 
-/// Prints which of these instructions stand in a line of words, and returns whether one does.
-pub(crate) fn print_alone_findings<W: Write>(
+/// Prints that a processor alone uses a channel, if this instruction of a line is its first for the
+/// channel, and returns whether that is so.
+#[tactic(auto, unfolding(crate::specs::ChannelUse::alone_finding))]
+pub(crate) fn print_alone_finding<W: Write>(
     text: &mut TextWriter<W>,
     uses: &[ChannelUse],
     words: &WordLine,
+    columns: &mut Columns,
+    i: &Instruction,
 ) -> bool
-    ensures prints { (before : Before) (k : ℕ) → HasNoFault before words.now.line.now
-        → words.now.number ≡ k + 1 → Prints W.contents text.old text.new
-        (flat_map finding_line (alone_findings k words.now.line.now words.now.n words.now.first
-        (said_after before (fields_of words.now.line.now)) uses.now)) }
-    ensures found { (before : Before) (k : ℕ) → HasNoFault before words.now.line.now
-        → result ≡ is_something_found (alone_findings k words.now.line.now words.now.n
-        words.now.first (said_after before (fields_of words.now.line.now)) uses.now) }
+    ensures same { columns.new ≡ columns.old }
+    ensures prints { (k : ℕ) → words.now.number ≡ k + 1
+        → Prints W.contents text.old text.new (flat_map finding_line
+        (alone_finding k columns.old uses.now words.now.n words.now.first i.now)) }
+    ensures found { (k : ℕ) → result ≡ is_something_found
+        (alone_finding k columns.old uses.now words.now.n words.now.first i.now) }
 {
-    let mut is_found = false;
-    for alone in uses {
-        let found = print_alone_finding(text, words, alone);
-        is_found = is_found || found;
-    }
-    is_found
-}
-
-/// Prints that a processor alone uses a channel, if its first instruction stands in a line, and
-/// returns whether that is so.
-fn print_alone_finding<W: Write>(
-    text: &mut TextWriter<W>,
-    words: &WordLine,
-    alone: &ChannelUse,
-) -> bool
-    ensures prints { (before : Before) (k : ℕ) → HasNoFault before words.now.line.now
-        → words.now.number ≡ k + 1 → Prints W.contents text.old text.new
-        (flat_map finding_line (alone_finding k words.now.line.now words.now.n words.now.first
-        (said_after before (fields_of words.now.line.now)) alone.now)) }
-    ensures found { (before : Before) (k : ℕ) → HasNoFault before words.now.line.now
-        → result ≡ is_something_found (alone_finding k words.now.line.now words.now.n
-        words.now.first (said_after before (fields_of words.now.line.now)) alone.now) }
-{
-    if !is_in_line(words, alone) {
+    let Some(alone) = use_at(uses, words.n, i) else {
         return false;
-    }
-    let field = (usize::from(alone.place.get()) + 1).saturating_sub(usize::from(words.first.get()));
-    print_alone(text, alone, words.number, words.line, field);
+    };
+    print_place(
+        text,
+        words.number,
+        columns.column_of(field_of(words.first, i)),
+    );
+    print_alone_text(text, alone.n, alone.c);
+    text.print(b"\n");
     true
 }
 
-/// Whether an instruction stands in a line of words.
-#[tactic(auto, unfolding(crate::specs::ChannelUse::is_in_line))]
-fn is_in_line(words: &WordLine, alone: &ChannelUse) -> bool
-    ensures { (before : Before) → HasNoFault before words.now.line.now → result
-        ≡ is_in_line words.now.n (said_after before (fields_of words.now.line.now)) alone.now }
+/// The one that is this instruction of a processor.
+#[tactic(auto, using(crate::proofs::ChannelUseLemmas::use_found, crate::proofs::ChannelUseLemmas::no_use))]
+fn use_at(uses: &[ChannelUse], n: PpNo, i: &Instruction) -> Option<ChannelUse>
+    ensures { result ≡ find (is_use n i.now) uses.now }
 {
-    alone.n.get() == words.n.get() && has_instruction(words.line, alone.place, alone.word)
+    let at = place_of_use(uses, n, i)?;
+    Some(uses[at])
 }
 
-/// Prints `3:6 channel 05 is used by PP 0 alone`, at a field of a line.
-fn print_alone<W: Write>(
-    text: &mut TextWriter<W>,
-    alone: &ChannelUse,
-    number: u64,
-    line: &[u8],
-    field: usize,
-)
-    ensures { Prints W.contents text.old text.new (finding_line
-        (field_finding number line.now field (alone_text alone.now.n alone.now.c))) }
+/// Its place among them.
+fn place_of_use(uses: &[ChannelUse], n: PpNo, i: &Instruction) -> Option<usize>
+    ensures { result ≡ position (is_use n i.now) uses.now }
 {
-    print_place(text, number, Columns::of(line).column_of(field));
-    print_alone_text(text, alone.n, alone.c);
-    text.print(b"\n");
+    uses.iter().position(|one| is_use(n, i, one))
+}
+
+/// Whether it is this instruction of a processor.
+fn is_use(n: PpNo, i: &Instruction, one: &ChannelUse) -> bool
+    ensures { result ≡ is_use n i.now one.now }
+{
+    one.n.get() == n.get() && one.place.get() == i.place.get() && one.word.get() == i.word.get()
 }
 
 /// Prints `channel 05 is used by PP 0 alone`.

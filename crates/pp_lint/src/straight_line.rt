@@ -7,7 +7,7 @@ ghost use Rattle.pp_lint.specs.FirstLines.{Shows};
 ghost use Rattle.pp_lint.specs.Given.{Note};
 ghost use Rattle.pp_lint.specs.LineFault.{said_after};
 ghost use Rattle.pp_lint.specs.LintText.{finding_line, is_something_found};
-ghost use Rattle.pp_lint.specs.StraightLine.{behind, behind_all, behind_line, fault_finding, fault_findings, fault_text, field_of, is_at, is_reached};
+ghost use Rattle.pp_lint.specs.StraightLine.{behind, behind_all, behind_line, fault_finding, fault_text, field_of, is_at, is_reached};
 ghost use Rattle.pp_lint.specs.RowOfLine.{Gives};
 ghost use Rattle.pp_lint.specs.declared.line_fault.Before.{Before};
 ghost use Rattle.pp_text.specs.TextWriter.{Prints};
@@ -66,7 +66,7 @@ fn behind_all<A: Allocator>(
 }
 
 /// Where it comes to behind an instruction of a processor.
-fn behind<A: Allocator>(
+pub(crate) fn behind<A: Allocator>(
     firsts: &FirstLines<A>,
     profile: Profile,
     n: PpNo,
@@ -83,7 +83,7 @@ fn behind<A: Allocator>(
 }
 
 /// Whether an instruction of a processor is reached.
-fn is_reached<A: Allocator>(
+pub(crate) fn is_reached<A: Allocator>(
     firsts: &FirstLines<A>,
     n: PpNo,
     reached: &Option<Word12>,
@@ -105,39 +105,9 @@ fn is_at(place: Word12, reached: &Option<Word12>) -> bool
     }
 }
 
-/// Prints which instructions of a line fault wherever they are run, of those that are reached, and
-/// returns whether there is one.
-pub(crate) fn print_fault_findings<A: Allocator, W: Write>(
-    text: &mut TextWriter<W>,
-    firsts: &FirstLines<A>,
-    words: &WordLine,
-    reached: &Option<Word12>,
-    instructions: &mut Instructions,
-) -> bool
-    ensures prints { (k : ℕ) (notes : List Note) → Shows firsts.now notes
-        → words.now.number ≡ k + 1 → Prints W.contents text.old text.new
-        (flat_map finding_line (fault_findings words.now.profile k words.now.line.now notes
-        words.now.n words.now.first reached.now instructions.old)) }
-    ensures found { (k : ℕ) (notes : List Note) → Shows firsts.now notes
-        → words.now.number ≡ k + 1 → result ≡ is_something_found
-        (fault_findings words.now.profile k words.now.line.now notes
-        words.now.n words.now.first reached.now instructions.old) }
-{
-    let mut columns = Columns::of(words.line);
-    let mut reached = *reached;
-    let mut is_found = false;
-    while let Some(i) = instructions.next_instruction() {
-        let is_here = is_reached(firsts, words.n, &reached, &i);
-        let found = print_fault_finding(text, words, &mut columns, is_here, &i);
-        is_found = is_found || found;
-        reached = behind(firsts, words.profile, words.n, &reached, &i);
-    }
-    is_found
-}
-
 /// Prints that an instruction faults wherever it is run, if it is reached, and returns whether that
 /// is so.
-fn print_fault_finding<W: Write>(
+pub(crate) fn print_fault_finding<W: Write>(
     text: &mut TextWriter<W>,
     words: &WordLine,
     columns: &mut Columns,

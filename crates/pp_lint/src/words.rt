@@ -1,7 +1,6 @@
 //! The words of a line.
 
-ghost use Rattle.std.specs.Prelude.{◌≡◌, ◌==◌, ◌&&◌};
-ghost use Rattle.std.specs.List.{list_any};
+ghost use Rattle.std.specs.Prelude.{◌≡◌};
 ghost use Rattle.pp_deck.specs.DeckText.{fields_of};
 ghost use Rattle.pp_lint.specs.LineFault.{said_after};
 ghost use Rattle.pp_lint.specs.InstructionsOfLine.{first_place, instructions_of};
@@ -40,19 +39,4 @@ pub(crate) fn first_place(line: &[u8]) -> Word12
         return Word12::ZERO;
     }
     word_of(first)
-}
-
-/// Whether a line without a fault has an instruction at this place, with this word.
-pub(crate) fn has_instruction(line: &[u8], place: Word12, word: Word12) -> bool
-    ensures { (before : Before) → HasNoFault before line.now → result
-        ≡ list_any (λ i. i.place == place && i.word == word)
-        (instructions_of (said_after before (fields_of line.now))) }
-{
-    let mut instructions = instructions_of(line);
-    while let Some(i) = instructions.next_instruction() {
-        if i.place.get() == place.get() && i.word.get() == word.get() {
-            return true;
-        }
-    }
-    false
 }

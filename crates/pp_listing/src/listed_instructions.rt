@@ -56,6 +56,7 @@ impl<'a> ListedInstructions<'a> {
     pub fn next_instruction(&mut self) -> Option<ListedInstruction>
         ensures taken { IfSome result (λ i. self.old ≡ listed_line i ∷ self.new) }
         ensures none { IfNone result (self.old ≡ []) }
+        ensures ended { IfNone result (self.new ≡ []) }
     {
         let mut at = self.place;
         while at < PLACES {
@@ -73,6 +74,7 @@ impl<'a> ListedInstructions<'a> {
                 });
             }
         }
+        self.place = at;
         None
     }
 }
