@@ -8,21 +8,16 @@ use Rattle.std.proofs.lemmas.List.Elements.{filter_map-append}
 use Rattle.std.proofs.lemmas.List.Concat.{flat_map-append}
 use Rattle.std.proofs.lemmas.List.Sums.{fold-append, sum_by-append}
 use Rattle.pp_numbers.proofs.GrowingLists.{range_more}
-use Rattle.pp_line.specs.Types.{Access, LineView, OnChannel, Read, Write}
+use Rattle.pp_line.specs.Types.{Access, LineView, Write}
 use Rattle.pp_line.specs.Order.{words_after, left_by, FindsWords, write_number, writes_among, times, AreMade}
 use Rattle.pp_line.proofs.ListFacts.{count_by-parts, sum_by-write}
 
 pub left_more : (words : List ℕ) (xs ys : List Access) → left_by words (xs ++ ys) ≡ left_by (left_by words xs) ys
 left_more words xs ys = fold-append words_after words xs ys
 
-length_after : (words : List ℕ) (access : Access) → length (words_after words access) ≡ length words
-length_after words (OnChannel entry) = refl
-length_after words (Read address word) = refl
-length_after words (Write address word number) = length-set words address word
-
 pub length-left_by : (words : List ℕ) (order : List Access) → length (left_by words order) ≡ length words
 length-left_by words [] = refl
-length-left_by words (access ∷ order) = length-left_by (words_after words access) order ∙ length_after words access
+length-left_by words (access ∷ order) = grind (arith, length-left_by (words_after words access) order, length-set)
 
 pub finds_more : (words : List ℕ) (xs ys : List Access) → FindsWords words xs → FindsWords (left_by words xs) ys → FindsWords words (xs ++ ys)
 finds_more words [] ys all more = more

@@ -1,5 +1,5 @@
 -- What the word of a history says, the word after one more event, and what a step from a word says of its histories.
-use Rattle.std.proofs.Common.{◌≡◌, ◌≢◌, ℕ, ◌+◌, ◌/◌, ◌%◌, ◌^◌, ◌<◌, ◌==◌, ◌&&◌, Bool, true, false, List, [], ◌∷◌, ◌++◌, length, Option, Some, None, refl, sym, ap, ◌∙◌, subst, inl, inr, arith}
+use Rattle.std.proofs.Common.{◌≡◌, ◌≢◌, ℕ, ◌+◌, ◌/◌, ◌%◌, ◌^◌, ◌==◌, ◌&&◌, Bool, true, false, List, [], ◌∷◌, ◌++◌, length, Option, Some, None, refl, sym, ap, ◌∙◌, subst, inl, inr, arith}
 use Rattle.std.specs.Prelude.{if◌then◌else◌, not, unwrap_or, ◌⊎◌}
 use Rattle.std.specs.List.{last_or}
 use Rattle.std.proofs.lemmas.Bool.{eq-eqb, ne_eqb, eqb-false, eqb-true}
@@ -19,14 +19,8 @@ record IsPacked (n : ℕ) (flags : Flags) (r : ℕ) : Type 0 where
   active : (packed n flags r / 2 ^ 13 % 2 == 1) ≡ flags.active
   full : (packed n flags r / 2 ^ 12 % 2 == 1) ≡ flags.full
 
-is_packed : (n : ℕ) (a f : Bool) (r : ℕ) → r < 2 ^ 12 → IsPacked n (record { active = a; full = f }) r
-is_packed n true true r low = record { number = omega arith; register = omega arith; active = eq-eqb _ 1 (omega arith); full = eq-eqb _ 1 (omega arith) }
-is_packed n true false r low = record { number = omega arith; register = omega arith; active = eq-eqb _ 1 (omega arith); full = ne_eqb _ 1 (λ e. omega arith) }
-is_packed n false true r low = record { number = omega arith; register = omega arith; active = ne_eqb _ 1 (λ e. omega arith); full = eq-eqb _ 1 (omega arith) }
-is_packed n false false r low = record { number = omega arith; register = omega arith; active = ne_eqb _ 1 (λ e. omega arith); full = ne_eqb _ 1 (λ e. omega arith) }
-
 word_is_packed : (h : List Event) → HasTwelveBitWords h → IsPacked (length h) (flags_of h) (unwrap_or (waiting h) 0)
-word_is_packed h bits = is_packed (length h) (active h) (full h) (unwrap_or (waiting h) 0) (waiting_small h bits)
+word_is_packed h bits = grind (arith, waiting_small, eq-eqb, ne_eqb)
 
 -- what the word of a history says of it, be the history lawful or not
 pub number_of_word : (h : List Event) → HasTwelveBitWords h → number_in (history_word h) ≡ length h
@@ -63,8 +57,7 @@ event_at_word : (op : ChanOp) (word : ℕ) (o : Option Event) (h : List Event) �
 event_at_word op word o h bits same is = sym (event_of_word op h bits) ∙ (ap (λ w. event_by op (flags_in w) (waiting_in w)) same ∙ is)
 
 state_of_word : (h : List Event) → HasTwelveBitWords h → state_in (history_word h) ≡ channel_state h
-state_of_word h bits =
-    ap (λ f. record { flags = f; register = waiting_in (history_word h) }) (flags_of_word h bits) ∙ ap (λ w. record { flags = flags_of h; register = w }) (waiting_of_word h bits)
+state_of_word h bits = grind (arith, flags_of_word, waiting_of_word)
 
 -- the word of a lawful history with an event by which it stays lawful
 word_after_event : (h : List Event) (e : Event) → IsLawful h → HasTwelveBitWords h → IsLawful (h ++ e ∷ []) → word_with (history_word h) e ≡ history_word (h ++ e ∷ [])
@@ -81,12 +74,8 @@ step_if word looks most o = if not looks && most then WordStep.Worn else step_sh
 step_is : (op : ChanOp) (word : ℕ) → step_from op word ≡ step_if word (only_looks op) (number_in word == greatest_number) (event_by op (flags_in word) (waiting_in word))
 step_is op word = grind (arith, step_if)
 
-room_if : (looks most : Bool) → (looks ≡ false → most ≡ false) → (not looks && most) ≡ false
-room_if true most room = refl
-room_if false most room = room refl
-
 steps_below : (op : ChanOp) (word : ℕ) (o : Option Event) → (only_looks op ≡ false → number_in word ≢ greatest_number) → event_by op (flags_in word) (waiting_in word) ≡ o → step_from op word ≡ step_shown word (only_looks op) o
-steps_below op word o room is = grind (arith, step_is, step_shown, room_if, ne_eqb)
+steps_below op word o room is = grind (arith, step_is, step_shown, ne_eqb)
 
 -- a step that leaves the word as it is
 abbrev pub Stays : WordStep → Type 0
@@ -117,19 +106,12 @@ next_by_table word op next reply e is =
     let acts = acts_where_made op (flags_in word) (waiting_in word) e made.1 in
     (acts, eqb-false (number_in word) greatest_number (made.0 acts), made.1, made.2, made.3)
   where
-    made_by : (d : Event) → WordStep.Next next reply e ≡ step_shown word true (Some d) → (Some d ≡ Some e) × (next ≡ word_with word e) × (reply ≡ reply_made e)
-    made_by d is =
-        let same : d ≡ e = cc in
-        let word_is : next ≡ word_with word d = cc in
-        let reply_is : reply ≡ reply_made d = cc in
-        (ap Some same, word_is ∙ ap (word_with word) same, reply_is ∙ ap reply_made same)
-
     by_step : (looks most : Bool) (o : Option Event) → WordStep.Next next reply e ≡ step_if word looks most o → (looks ≡ false → most ≡ false) × (o ≡ Some e) × (next ≡ word_with word e) × (reply ≡ reply_made e)
     by_step false true o is = absurd cc
     by_step true most None is = absurd cc
     by_step false false None is = absurd cc
-    by_step true most (Some d) is = let by = made_by d is in (λ none. absurd cc, by.0, by.1, by.2)
-    by_step false false (Some d) is = let by = made_by d is in (λ _. refl, by.0, by.1, by.2)
+    by_step true most (Some d) is = grind arith
+    by_step false false (Some d) is = grind arith
 
 -- each history of the word goes on with the event to one of the next word
 pub next_word : (word : ℕ) (op : ChanOp) (e : Event) (next : ℕ) (reply : Reply) → WordStep.Next next reply e ≡ step_from op word → HasTwelveBitWord e
@@ -151,19 +133,14 @@ answer_made word op e next reply makes h l bits same =
 
 pub answer_shown : (word : ℕ) (op : ChanOp) (step : WordStep) → Stays step → step ≡ step_from op word
     → (h : List Event) → IsLawful h → HasTwelveBitWords h → history_word h ≡ word → IsAnswer h op (reply_shown op (state_in word)) h
-answer_shown word op step stays is h l bits same =
-    let k = shown_by_table word op step stays is in
-    answered_where_none h op (reply_shown op (state_in word)) l (event_at_word op word None h bits same k.1) (ap (λ w. reply_shown op (state_in w)) (sym same) ∙ ap (reply_shown op) (state_of_word h bits))
+answer_shown word op step stays is h l bits same = grind (arith, shown_by_table, answered_where_none, event_at_word, state_of_word)
 
 -- the step is the one by the histories
 steps_from_word : (h : List Event) (op : ChanOp) → IsLawful h → HasTwelveBitWords h → StepsFrom h op (step_from op (history_word h))
 steps_from_word h op l bits =
     let n = number_of_word h bits in
     record {
-      looks = λ looks.
-          steps_below op (history_word h) None (λ acts most. let both : true ≡ false = sym looks ∙ acts in cc) (event_of_word op h bits ∙ look_makes_none op (flags_of h) (waiting h) looks)
-          ∙ ap (λ look. step_shown (history_word h) look None) looks
-          ∙ ap (λ f. WordStep.Look f) (flags_of_word h bits);
+      looks = grind (arith, steps_below, event_of_word, look_makes_none, flags_of_word);
       ready = λ e room r.
           steps_below op (history_word h) (Some e) (λ acts most. omega arith) (event_of_word op h bits ∙ table_of_ready h l op e r)
           ∙ ap (λ w. WordStep.Next w (reply_made e) e) (word_after_event h e l bits r.lawful);
@@ -171,9 +148,7 @@ steps_from_word h op l bits =
           steps_below op (history_word h) None (λ acts most. omega arith) (event_of_word op h bits ∙ none_without_ready h l op never (event_of op h) refl)
           ∙ ap (λ look. step_shown (history_word h) look None) acts
           ∙ ap (λ f. WordStep.Held f) (flags_of_word h bits);
-      worn = λ acts most.
-          step_is op (history_word h) ∙ ap (λ look. step_if (history_word h) look (number_in (history_word h) == greatest_number) (event_by op (flags_in (history_word h)) (waiting_in (history_word h)))) acts
-          ∙ ap (λ worn. if worn then WordStep.Worn else step_shown (history_word h) false (event_by op (flags_in (history_word h)) (waiting_in (history_word h)))) (eq-eqb (number_in (history_word h)) greatest_number (n ∙ most));
+      worn = grind (arith, step_is, eq-eqb);
     }
 
 pub steps_as_histories : (word : ℕ) (op : ChanOp) (step : WordStep) → step ≡ step_from op word → (h : List Event) → IsLawful h → HasTwelveBitWords h → history_word h ≡ word → StepsFrom h op step

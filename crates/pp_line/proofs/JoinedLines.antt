@@ -76,14 +76,7 @@ pub record AreAbsorbed {T A : Type 0} (first : LineState) (pairs : List (T × Li
 
 -- none yet
 pub absorbed_none : {T A : Type 0} {first : LineState} {v : LineView} {seen : List ℕ} {logs : List (T × Vec Entry A)} → seen ≡ first.view.seen → v ≡ first.view → IsLogOf first.view first.log.entries → logs ≡ [] → AreAbsorbed first [] v seen logs
-absorbed_none {first = first} seen view is none = record {
-  view = view;
-  seen_is = seen;
-  log_of = is;
-  logs_are = rw none tt;
-  each_log = All-nil (λ (l : LineState). IsLogOf l.view l.log.entries);
-  forgotten = All-nil (λ (l : LineState). SeesAtLeast l first);
-}
+absorbed_none {first = first} seen view is none = grind arith
 
 -- one line more
 pub absorbed_push : {T A : Type 0} {first : LineState} {pairs : List (T × LineState)} {v w : LineView} {seen now : List ℕ} {logs : List (T × Vec Entry A)} (value : T) (other : LineState) (log : Vec Entry A)

@@ -1,14 +1,13 @@
 -- What a call of a line answers, from what its steps told.
 use Rattle.std.proofs.Common.{◌≡◌, ℕ, ◌+◌, ◌<◌, ◌≤◌, ◌==◌, List, [], ◌∷◌, ◌++◌, length, take, Some, None, refl, sym, ap, ◌∙◌, subst, arith, append_assoc}
-use Rattle.std.specs.Prelude.{Contains, Option, false, if◌then◌else◌, is_some, slice_set}
-use Rattle.std.specs.Option.{option_map, option_or, option_to_list}
+use Rattle.std.specs.Prelude.{Contains, Option, false, if◌then◌else◌, slice_set}
+use Rattle.std.specs.Option.{option_map, option_to_list}
 use Rattle.std.proofs.lemmas.List.{append-nil, length_push, length-take-le, take_all, take_at, get_or-set_same, set-set, set-get_or}
 use Rattle.std.proofs.lemmas.List.Elements.{All-contains, Contains-push}
 use Rattle.std.proofs.lemmas.Bool.{cases_eq, eq-eqb, ne_eqb}
 use Rattle.pp_line.specs.Types.{ChanOp, Entry, Event, LineView, Numbered, Reply, Seen, WordStep}
-use Rattle.pp_channel.specs.declared.event.Event.TheVariants.{Activate, Disconnect, Put, Take, Function}
+use Rattle.pp_channel.specs.declared.event.Event.TheVariants.{Activate}
 use Rattle.pp_channel.specs.declared.reply.Reply.TheVariants.{Held}
-use Rattle.pp_channel.specs.declared.flags.Flags.{Flags as FlagPair}
 use Rattle.pp_channel.specs.Answer.{IsAnswer, IsReady, operation_of, reply_made, reply_shown, event_answered, flags_shown, only_looks, seen_answered}
 use Rattle.pp_numbers.specs.ChannelNo.{channel_count, channel_index, channel_places}
 use Rattle.pp_line.specs.ChannelWord.{number_in, flags_in, greatest_number, state_in, step_from}
@@ -42,10 +41,7 @@ pub record AnswersAsMade (e : Event) : Type 0 where
 
 pub answers_as_made : (e : Event) → AnswersAsMade e
 answers_as_made Activate = record { seen = refl; made = refl; no_flags = refl }
-answers_as_made Disconnect = record { seen = refl; made = refl; no_flags = refl }
-answers_as_made (Put w) = record { seen = refl; made = refl; no_flags = refl }
-answers_as_made (Take w) = record { seen = refl; made = refl; no_flags = refl }
-answers_as_made (Function w) = record { seen = refl; made = refl; no_flags = refl }
+answers_as_made a = record { seen = refl; made = refl; no_flags = refl }
 
 -- the events of a view after what an answer made
 abbrev with_made : List Entry → ℕ → ℕ → Option Event → List Entry
@@ -111,16 +107,7 @@ module _ (line : LineState) {now : LineView} {c word : ℕ} (load : IsLoad c lin
   looked_at_once reply after is written none counted answer not_worn = record {
     words = word ∷ [];
     words_found = found_one (number_in word);
-    after_is = λ j. record {
-      log = (is.log_is ∙ sym written) j;
-      view = (is.view_is ∙ (load.after_is ∙ (λ i. record line.view {
-        events = none_made line.view.events c (number_in word) (event_answered op reply) none i;
-        seen = slice_set line.view.seen (channel_index c) (sym counted i);
-        found = line.view.found ++ record { channel = c; word = word } ∷ [];
-        program_orders = extended line.view.program_orders (on_channels (none_made (look_by c word ∷ []) c (number_in word) (event_answered op reply) none i));
-      }))) j;
-      table = is.table_is j;
-    };
+    after_is = grind (arith, written, none_made, counted);
     histories = histories;
     known = line_knows is load.known_after;
     answer = record {
@@ -135,14 +122,7 @@ module _ (line : LineState) {now : LineView} {c word : ℕ} (load : IsLoad c lin
 
   pub acted_shown : (step : WordStep) (reply : Reply) (after : LineState) → Stays step → step ≡ step_from op word → reply ≡ reply_shown op (state_in word) → number_in word ≤ greatest_number → Looked after
       → IsActed line c op (record { reply = reply; loaded = number_in word; number = number_in word }) after
-  acted_shown step reply after stays stepped replied most is =
-      let k = shown_by_table word op step stays stepped in
-      let shows : flags_shown reply ≡ Some (flags_in word) = ap flags_shown replied ∙ shows_flags op (state_in word) in
-      looked_at_once reply after is
-      (ap (λ o. with_seen line.log c (number_in word) (option_or (option_map (λ f. Seen.Saw f) o) (option_map (λ e. Seen.Did e) (event_answered op reply)))) shows)
-      (shown_makes_none op reply (flags_in word) shows)
-      (ap (λ (o : Option FlagPair). if is_some o then number_in word else number_in word + 1) shows)
-      (let P : Reply → Type 0 = λ r. IsAnswer history op r history in subst P (sym replied) (answer_shown word op step stays stepped history now_lawful now_bits load.tells.word_is)) (λ acts. let n = k.0 acts in omega arith)
+  acted_shown step reply after stays stepped replied most is = grind (arith, shown_by_table, shows_flags, looked_at_once, shown_makes_none, answer_shown, now_lawful, now_bits)
 
   pub worn_by_load : (after : LineState) → WordStep.Worn ≡ step_from op word → IsNow line line.log now after → IsWornOut line c op after
   worn_by_load after stepped is =
@@ -165,12 +145,6 @@ module _ (line : LineState) {now : LineView} {c word : ℕ} (load : IsLoad c lin
 
     not_worn_yet : only_looks op ≡ false → number_in word < greatest_number
     not_worn_yet acts = let n = makes_next.1 in omega arith
-
-    reply_is : reply ≡ reply_made e
-    reply_is = makes_next.4
-
-    operation_is : operation_of e ≡ op
-    operation_is = (ready_at_word word op e makes_next.2 history now_lawful now_bits load.tells.word_is).operation
 
     -- the event was made
     module _ (won : IsWonExchange c now word e after.view) (is : IsNow line (appended line.log (event_entry c (number_in word) e)) after.view after) where
@@ -196,13 +170,13 @@ module _ (line : LineState) {now : LineView} {c word : ℕ} (load : IsLoad c lin
       front = ap (take (number_in word)) longer_is ∙ take_at old (e ∷ []) (number_in word) (sym (number_told won.tells))
 
       counted : number_after (number_in word) reply ≡ number_in word + 1
-      counted = ap (λ r. number_after (number_in word) r) reply_is ∙ ap (λ (f : Option FlagPair). if is_some f then number_in word else number_in word + 1) (answers_as_made e).no_flags
+      counted = grind (arith, answers_as_made)
 
       written : with_seen line.log c (number_in word) (seen_answered op reply) ≡ appended line.log (event_entry c (number_in word) e)
-      written = ap (λ r. with_seen line.log c (number_in word) (seen_answered op r)) reply_is ∙ (ap (λ o. with_seen line.log c (number_in word) (seen_answered o (reply_made e))) (sym operation_is) ∙ ap (with_seen line.log c (number_in word)) (answers_as_made e).seen)
+      written = grind (arith, answers_as_made, ready_at_word, now_lawful, now_bits)
 
       made : (events : List Entry) → with_made events c (number_in word) (event_answered op reply) ≡ events ++ event_entry c (number_in word) e ∷ []
-      made events = ap (λ r. with_made events c (number_in word) (event_answered op r)) reply_is ∙ (ap (λ o. with_made events c (number_in word) (event_answered o (reply_made e))) (sym operation_is) ∙ ap (with_made events c (number_in word)) (answers_as_made e).made)
+      made events = grind (arith, answers_as_made, ready_at_word, now_lawful, now_bits)
 
       opening : slice_set (with_more made_on c (e ∷ [])) (channel_index c) (take (number_in word) longer) ≡ made_on
       opening = ap (λ h. slice_set (with_more made_on c (e ∷ [])) (channel_index c) h) front ∙ put_before made_on c (e ∷ [])

@@ -3,14 +3,14 @@ use Rattle.std.proofs.Common.{◌≡◌, ◌≢◌, ℕ, zero, suc, ◌+◌, ◌
 use Rattle.std.specs.Prelude.{All, Contains, slice_set, Option, Some, None, IfSome, IfNone, MatchBool, Bool, false}
 use Rattle.std.specs.List.{flat_map}
 use Rattle.std.proofs.lemmas.List.{length-set, length-append, get_or-set_same, take-append-drop}
-use Rattle.std.proofs.lemmas.List.Elements.{All-append, All-push, All-weaker, Contains-append_left, Contains-append_right, Contains-push}
+use Rattle.std.proofs.lemmas.List.Elements.{All-append, All-push, Contains-append_left, Contains-append_right, Contains-push}
 use Rattle.std.proofs.lemmas.Bool.{MatchBool-at_true, eq-eqb, ne_eqb}
-use Rattle.pp_line.specs.Types.{Access, Did, Entry, Event, FoundWord, LineView, OnChannel, Read, Saw, Seen, Write}
+use Rattle.pp_line.specs.Types.{Access, Entry, Event, FoundWord, LineView, OnChannel, Read, Write}
 use Rattle.pp_numbers.specs.ChannelNo.{channel_count, channel_index, channel_places}
 use Rattle.pp_line.specs.ChannelWord.{number_in, flags_in}
 use Rattle.pp_line.specs.LineLog.{LogState, looked, event_entry, look_entry, known_after, seen_on, ends_in_look_at}
 use Rattle.pp_line.specs.LineState.{LineState}
-use Rattle.pp_line.specs.LineSteps.{IsBackedAt, IsBacked, IsLogOf, IsLoad, IsWonExchange, IsLostExchange, IsExchange}
+use Rattle.pp_line.specs.LineSteps.{IsBacked, IsLogOf, IsLoad, IsWonExchange, IsLostExchange, IsExchange}
 use Rattle.pp_line.specs.LineView.{greater_of_each, joined_view, finds, makes, look_by, reads, writes}
 use Rattle.pp_line.specs.Order.{IsDrawnFrom, entries_among, extended}
 use Rattle.pp_line.specs.Merge.{times_logged}
@@ -21,13 +21,8 @@ use Rattle.pp_line.proofs.MergeLemmas.{told_by, times_told-append, times_told_pu
 use Rattle.pp_numbers.proofs.WrittenNumbers.{set_raises}
 use Rattle.pp_line.proofs.SeenLemmas.{within_more, greater_left, greater_right, length-greater}
 
--- what backs an entry backs it where the view has more
-backed_more : (v w : LineView) → ((x : Entry) → Contains v.events x → Contains w.events x) → ((x : FoundWord) → Contains v.found x → Contains w.found x) → (c number : ℕ) (what : Seen) → IsBackedAt v c number what → IsBackedAt w c number what
-backed_more v w events found c number (Did e) b = events (event_entry c number e) b
-backed_more v w events found c number (Saw f) b = (b.0, found (record { channel = c; word = b.0 }) b.1, b.2, b.3)
-
 all_backed_more : (v w : LineView) → ((x : Entry) → Contains v.events x → Contains w.events x) → ((x : FoundWord) → Contains v.found x → Contains w.found x) → (log : List Entry) → All (IsBacked v) log → All (IsBacked w) log
-all_backed_more v w events found log b = All-weaker (IsBacked v) (IsBacked w) (λ x. backed_more v w events found x.channel x.number x.what) log b
+all_backed_more v w events found log b = grind arith
 
 -- a view that has the same events, and has found and seen more
 log_grown : {v : LineView} {log : List Entry} (w : LineView) → IsLogOf v log → w.events ≡ v.events → ((x : FoundWord) → Contains v.found x → Contains w.found x) → length w.seen ≡ length v.seen → ((d : ℕ) → get_or v.seen d 0 ≤ get_or w.seen d 0)
@@ -88,9 +83,7 @@ log_of_look {v} {w} log c word before load =
       backed = all_looked (IsBacked w) log look (word, found, refl, refl) is.backed;
       within = all_looked (λ x. known_after x.what x.number ≤ seen_on x.channel w.seen) log look seen is.within;
       some_program_order = is.some_program_order;
-      drawn = looked_either (IsDrawnFrom w.program_orders) log look
-          (λ ends. subst (IsDrawnFrom w.program_orders) (sym (last_set log c look ends)) (gone_on (take (length log.entries - 1) log.entries) (front_in v.program_orders log.entries (length log.entries - 1) before.drawn)))
-          (gone_on log.entries before.drawn);
+      drawn = grind (arith, looked_either, last_set, front_in);
     }
 
 -- an event was made, and written
@@ -171,5 +164,4 @@ fields_of_write {shares = shares} {whole = whole} {seen = seen} {log = log} addr
 pub line_written : (inside : Bool) (before after : LineState) (address word : ℕ) → after.log ≡ before.log → after.table ≡ before.table
     → MatchBool inside ((number : ℕ) × (after.view ≡ writes before.view address word number)) (after.view ≡ before.view)
     → MatchBool inside ((number : ℕ) × (after ≡ record before { view = writes before.view address word number })) (after ≡ before)
-line_written true before after address word log table written = (written.0, λ j. record { log = log j; view = written.1 j; table = table j })
-line_written false before after address word log table stays = λ j. record { log = log j; view = stays j; table = table j }
+line_written inside before after address word log table h3 = grind arith

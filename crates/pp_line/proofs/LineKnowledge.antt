@@ -1,5 +1,5 @@
 -- What a line knows of the histories, from what its steps tell.
-use Rattle.std.proofs.Common.{◌≡◌, ℕ, ◌-◌, ◌<◌, ◌≤◌, Bool, true, false, not, ◌==◌, List, [], ◌∷◌, ◌++◌, length, take, get_or, set, Option, Some, None, refl, sym, ap, ◌∙◌, arith}
+use Rattle.std.proofs.Common.{◌≡◌, ℕ, ◌-◌, ◌<◌, ◌≤◌, true, false, not, List, [], ◌∷◌, ◌++◌, length, take, get_or, set, Option, Some, None, refl, sym, ap, ◌∙◌, arith}
 use Rattle.std.specs.Prelude.{All}
 use Rattle.std.specs.List.{last_or}
 use Rattle.std.proofs.lemmas.List.{length-take-le}
@@ -36,17 +36,11 @@ module _ {v : LineView} {c word : ℕ} (t : Tells v c word) where
   pub not_older_told : seen_on c v.seen ≤ number_in word
   not_older_told = let n = number_told in let s = t.known.seen_happened c in omega arith
 
--- a look tells no event, and neither does the last look whose place it takes
-no_event : (what : Seen) → not (is_event what) ≡ true → is_event what ≡ false
-no_event (Did e) is = absurd cc
-no_event (Saw f) is = refl
-
 count_look : (entry : Entry) (c number : ℕ) → is_event entry.what ≡ false → told_by c number entry ≡ 0
 count_look entry c number is = rw is refl
 
 last_look : (c : ℕ) (o : Option Entry) → is_look_at c o ≡ true → (entry : Entry) × (o ≡ Some entry) × (is_event entry.what ≡ false)
-last_look c None is = absurd cc
-last_look c (Some entry) is = (entry, refl, no_event entry.what (and_parts (not (is_event entry.what)) (entry.channel == c) is).0)
+last_look c o is = grind (arith, and_parts)
 
 pub last_replaced : (log : LogState) (c : ℕ) → ends_in_look_at c log ≡ true
     → (entry : Entry) × (length log.entries - 1 < length log.entries) × ((d : Entry) → get_or log.entries (length log.entries - 1) d ≡ entry) × (is_event entry.what ≡ false)
@@ -55,19 +49,11 @@ last_replaced log c ends =
     let at = last_or_at log.entries ∙ last.1 in
     (last.0, slice_get_within log.entries (length log.entries - 1) last.0 at, λ d. get_or_from_slice_get log.entries (length log.entries - 1) last.0 d at, last.2)
 
--- what holds of the entries after a look
-looked_by : (P : List Entry → Type 0) (log : LogState) (entry : Entry)
-    → (ends_in_look_at entry.channel log ≡ true → P (set log.entries (length log.entries - 1) entry))
-    → P (log.entries ++ entry ∷ [])
-    → (b : Bool) → ends_in_look_at entry.channel log ≡ b → P (looked log entry).entries
-looked_by P log entry replaced added true is = rw is (replaced is)
-looked_by P log entry replaced added false is = rw is added
-
 pub looked_either : (P : List Entry → Type 0) (log : LogState) (entry : Entry)
     → (ends_in_look_at entry.channel log ≡ true → P (set log.entries (length log.entries - 1) entry))
     → P (log.entries ++ entry ∷ [])
     → P (looked log entry).entries
-looked_either P log entry replaced added = looked_by P log entry replaced added (ends_in_look_at entry.channel log) refl
+looked_either P log entry replaced added = grind arith
 
 pub told_looked : (log : LogState) (entry : Entry) → is_event entry.what ≡ false → (c number : ℕ) → times_logged c number (looked log entry).entries ≡ times_logged c number log.entries
 told_looked log entry look c number = looked_either (λ entries. times_logged c number entries ≡ times_logged c number log.entries) log entry

@@ -9,7 +9,7 @@ use Rattle.std.proofs.lemmas.List.{append-nil, length-append, take-append-le, ge
 use Rattle.std.proofs.lemmas.List.Elements.{All-head, All-tail, All-set}
 use Rattle.std.proofs.lemmas.List.Sums.{sum_by-cons, sum_by-append, sum_by_push}
 use Rattle.std.proofs.lemmas.Option.{slice_get_within, slice_get-get_or, get_or_from_slice_get}
-use Rattle.pp_line.specs.Types.{Did, Entry, Event, Saw, Seen}
+use Rattle.pp_line.specs.Types.{Entry, Event, Seen}
 use Rattle.pp_numbers.specs.ChannelNo.{channel_index, names_channel, channel_places}
 use Rattle.pp_channel.specs.Law.{IsPrefix}
 use Rattle.pp_line.specs.LineLog.{event_entry, is_event, known_after, seen_on, IsWithin}
@@ -57,8 +57,7 @@ pub times_told_push : (c number : ℕ) (log : List Entry) (entry : Entry) → ti
 times_told_push c number log entry = sum_by_push (told_by c number) log entry
 
 pub told_not : (c number d n : ℕ) (e : Event) → (d ≢ c) ⊎ (n ≢ number) → told_by c number (event_entry d n e) ≡ 0
-told_not c number d n e (inl other) = ap (λ b. cond b 1 0) (and_left (eqb d c) (eqb n number) (ne_eqb d c other))
-told_not c number d n e (inr other) = ap (λ b. cond b 1 0) (and_right (eqb d c) (eqb n number) (ne_eqb n number other))
+told_not c number d n e h = grind (arith, and_left, eqb, ne_eqb, and_right)
 
 pub told_here : (c number d n : ℕ) (e : Event) → d ≡ c → n ≡ number → told_by c number (event_entry d n e) ≡ 1
 told_here c number d n e p q = ap (λ b. cond b 1 0) (and_from (eqb d c) (eqb n number) (eq-eqb d c p) (eq-eqb n number q))
@@ -73,8 +72,7 @@ told_next c number d n e is = grind (arith, once_inside, once_past, told_here, t
 
 -- an event that is told lies below the number seen
 told_within : (c number : ℕ) (seen : List ℕ) (d n : ℕ) (what : Seen) → (is_event what && (eqb d c) && (eqb n number)) ≡ true → known_after what n ≤ seen_on d seen → number < seen_on c seen
-told_within c number seen d n (Did e) t l = grind (arith, and_parts, eqb-true)
-told_within c number seen d n (Saw f) t l = absurd (false≢true t)
+told_within c number seen d n what t l = grind (arith, and_parts, eqb-true, false≢true)
 
 pub times_within : (c number : ℕ) (seen : List ℕ) (log : List Entry) → IsWithin seen log → 0 < times_logged c number log → number < seen_on c seen
 times_within c number seen [] w l = absurd (omega arith)
@@ -99,8 +97,7 @@ slice_get_last [] x = refl
 slice_get_last (y ∷ front) x = slice_get_last front x
 
 pub true_front : (front rest : List Event) (n : ℕ) (what : Seen) → IsTrueAt front n what → IsTrueAt (front ++ rest) n what
-true_front front rest n (Did e) p = slice_get_front front rest n e p
-true_front front rest n (Saw f) p = grind (arith, length-append, take-append-le)
+true_front front rest n what p = grind (arith, slice_get_front, length-append, take-append-le)
 
 pub true_later : (before after : List (List Event)) → Grow before after → (entry : Entry) → IsTrueOf before entry → IsTrueOf after entry
 true_later before after grow entry p =

@@ -9,12 +9,12 @@ use Rattle.std.proofs.lemmas.List.{append-nil, nil_from_length, get_or-set_same}
 use Rattle.std.proofs.lemmas.List.Elements.{All-head, All-tail, All-push, All-weaker}
 use Rattle.std.proofs.lemmas.List.Sums.{sum_by-cons}
 use Rattle.std.proofs.lemmas.Option.{slice_get_within}
-use Rattle.pp_line.specs.Types.{ChanOp, Did, Entry, Event, Numbered, Reply, Saw, Seen}
+use Rattle.pp_line.specs.Types.{ChanOp, Entry, Event, Numbered, Reply, Seen}
 use Rattle.pp_channel.specs.declared.event.Event.TheVariants.{Activate}
-use Rattle.pp_channel.specs.Answer.{IsAnswer, seen_answered}
+use Rattle.pp_channel.specs.Answer.{IsAnswer}
 use Rattle.pp_numbers.specs.ChannelNo.{channel_count, channel_index}
 use Rattle.pp_channel.specs.Law.{IsPrefix}
-use Rattle.pp_line.specs.LineLog.{is_event, appended, with_seen, event_entry}
+use Rattle.pp_line.specs.LineLog.{is_event, appended, event_entry}
 use Rattle.pp_line.specs.LineState.{LineState, IsActed, IsWornOut, number_after}
 use Rattle.pp_line.specs.Merge.{IsTrueAt, IsTrueOf, logs_event, times_logged, Merges, IsOpeningLog, no_opening}
 use Rattle.pp_channel.specs.History.{history_on}
@@ -29,8 +29,7 @@ IsTrueIn h entry = IsTrueAt (h entry.channel) entry.number entry.what
 
 -- an entry that tells an event, and is true of two histories, shows that they have the same event there
 same_by_entry : (c number : ℕ) (g h : ℕ → List Event) (d n : ℕ) (what : Seen) → (is_event what && (eqb d c) && (eqb n number)) ≡ true → IsTrueAt (g d) n what → IsTrueAt (h d) n what → slice_get (g c) number ≡ slice_get (h c) number
-same_by_entry c number g h d n (Did e) t p q = grind (arith, and_parts, eqb-true)
-same_by_entry c number g h d n (Saw f) t p q = absurd (false≢true t)
+same_by_entry c number g h d n what t p q = grind (arith, and_parts, eqb-true, false≢true)
 
 -- so does a log that tells it
 same_by_log : (c number : ℕ) (g h : ℕ → List Event) (log : List Entry) → 0 < times_logged c number log → All (IsTrueIn g) log → All (IsTrueIn h) log → slice_get (g c) number ≡ slice_get (h c) number
@@ -147,10 +146,7 @@ activated line after c r named all none acted =
     let first : r.number ≡ 0 = omega (arith, one, now) in
     record {
       done = done;
-      written =
-          ap (λ l. l.log) acted.after_is
-          ∙ ap (λ x. with_seen line.log c r.number (seen_answered ChanOp.Activate x)) done
-          ∙ ap (λ n. appended line.log (event_entry c n Activate)) first;
+      written = grind arith;
     }
 
 -- it is never worn

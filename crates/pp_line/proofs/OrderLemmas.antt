@@ -1,6 +1,6 @@
 -- Orders and program orders that grow, a step at a time.
 use Rattle.std.proofs.Common.{◌≡◌, ◌≢◌, ℕ, ◌<◌, ◌≤◌, ltb, Bool, not, List, [], ◌∷◌, ◌++◌, length, take, drop, refl, sym, ap, ◌∙◌, subst, inl, inr, ⊎_elim, arith, append_assoc}
-use Rattle.std.specs.Prelude.{◌⊎◌, Option, None, Some}
+use Rattle.std.specs.Prelude.{◌⊎◌, Option, None}
 use Rattle.std.specs.List.{All, cons_option, filter, flat_map}
 use Rattle.std.proofs.lemmas.Bool.{cases_eq, cases_lt, ne_eqb, lt-ltb, le-ltb}
 use Rattle.std.proofs.lemmas.List.{append-nil, length-append, drop_all, drop-append-le, take_at, take-append-le, take-append-drop}
@@ -8,7 +8,7 @@ use Rattle.std.proofs.lemmas.List.Concat.{flat_map-append}
 use Rattle.std.proofs.lemmas.List.Elements.{All-weaker, All-map, filter_map-append}
 use Rattle.pp_numbers.specs.Subsequence.{IsSubsequence}
 use Rattle.pp_numbers.proofs.Subsequences.{stands_after, stands_passed, stands_more, stands_push, stands_append, stands_through, stands_whole}
-use Rattle.pp_line.specs.Types.{Access, Did, Entry, Event, OnChannel, Saw, Seen}
+use Rattle.pp_line.specs.Types.{Access, Entry, Event, OnChannel, Seen}
 use Rattle.pp_channel.specs.Law.{IsPrefix}
 use Rattle.pp_channel.specs.History.{history_on}
 use Rattle.pp_line.specs.Merge.{no_opening}
@@ -25,12 +25,7 @@ entries_more xs ys = filter_map-append entry_of xs ys
 pub legal_push : (before : ℕ → List Event) (entries : List Entry) (entry : Entry) → IsLegal before entries
     → ComesAfter (before entry.channel ++ made_on entry.channel entries) entry.number entry.what → IsLegal before (entries ++ entry ∷ [])
 legal_push before [] entry all here = (subst (λ (h : List Event). ComesAfter h entry.number entry.what) (append-nil (before entry.channel)) here, tt)
-legal_push before (x ∷ entries) entry all here =
-    let c = entry.channel in (
-      all.0,
-      legal_push (λ d. before d ++ made_on d (x ∷ [])) entries entry all.1
-          (subst (λ (h : List Event). ComesAfter h entry.number entry.what) (ap (λ h. before c ++ h) (made_more c (x ∷ []) entries) ∙ sym (append_assoc (before c) (made_on c (x ∷ [])) (made_on c entries))) here),
-    )
+legal_push before (x ∷ entries) entry all here = grind (arith, made_more, append_assoc, legal_push (λ d. before d ++ made_on d (x ∷ [])) entries entry all.1)
 
 -- the next entry of a channel, and what it makes
 pub order_more : (before after : List (List Event)) (order : List Access) (entry : Entry) → ComesAfter (history_on entry.channel before) entry.number entry.what → ((c : ℕ) → history_on c after ≡ history_on c before ++ made_on c (entry ∷ []))
@@ -61,16 +56,13 @@ length-extended (t ∷ program_orders) xs = omega (arith, length-extended progra
 abbrev all_of : List (List Access) → List Entry
 all_of program_orders = flat_map entries_among program_orders
 
-longer_entries : (t more : List Access) → IsSubsequence (entries_among t) (entries_among (t ++ more))
-longer_entries t more = grind (arith, entries_more, stands_more, stands_whole)
-
 -- what is drawn from program orders is drawn from them when they have grown
 pub drawn_extended : (program_orders : List (List Access)) (log : List Entry) (more : List Access) → IsDrawnFrom program_orders log → IsDrawnFrom (extended program_orders more) log
 drawn_extended program_orders log more h = stands_through log (all_of program_orders) (all_of (extended program_orders more)) h (longer program_orders more)
   where
     longer : (program_orders : List (List Access)) (more : List Access) → IsSubsequence (all_of program_orders) (all_of (extended program_orders more))
     longer [] more = tt
-    longer (t ∷ program_orders) more = stands_append (entries_among t) (entries_among (t ++ more)) (all_of program_orders) (all_of (extended program_orders more)) (longer_entries t more) (longer program_orders more)
+    longer (t ∷ program_orders) more = grind (arith, stands_append, longer program_orders more, entries_more, stands_more, stands_whole)
 
 -- and so with the last entry that came
 pub stands_with_last : (program_orders : List (List Access)) (log : List Entry) (entry : Entry) → 0 < length program_orders → IsDrawnFrom program_orders log → IsDrawnFrom (extended program_orders (OnChannel entry ∷ [])) (log ++ entry ∷ [])
@@ -79,14 +71,8 @@ stands_with_last program_orders log entry some h =
   where
     last : (program_orders : List (List Access)) (entry : Entry) → 0 < length program_orders → IsSubsequence (all_of program_orders ++ entry ∷ []) (all_of (extended program_orders (OnChannel entry ∷ [])))
     last [] entry some = absurd (omega arith)
-    last (t ∷ []) entry some =
-        let es = entries_among t in
-        subst (λ (front : List Entry). IsSubsequence ((es ++ []) ++ entry ∷ []) front)
-        (ap (λ l. l ++ entry ∷ []) (append-nil es) ∙ (sym (entries_more t (OnChannel entry ∷ [])) ∙ sym (append-nil (entries_among (t ++ OnChannel entry ∷ [])))))
-        (stands_whole ((es ++ []) ++ entry ∷ []))
-    last (t ∷ u ∷ program_orders) entry some =
-        subst (λ (l : List Entry). IsSubsequence l (all_of (extended (t ∷ u ∷ program_orders) (OnChannel entry ∷ [])))) (sym (append_assoc (entries_among t) (all_of (u ∷ program_orders)) (entry ∷ [])))
-        (stands_append (entries_among t) (entries_among (t ++ OnChannel entry ∷ [])) (all_of (u ∷ program_orders) ++ entry ∷ []) (all_of (extended (u ∷ program_orders) (OnChannel entry ∷ []))) (longer_entries t (OnChannel entry ∷ [])) (last (u ∷ program_orders) entry (omega arith)))
+    last (t ∷ []) entry some = grind (arith, append-nil, entries_more, stands_whole)
+    last (t ∷ u ∷ program_orders) entry some = grind (arith, append_assoc, stands_append, last (u ∷ program_orders) entry (omega arith), entries_more, stands_more, stands_whole)
 
 -- two logs, end to end
 pub stands_joined : (program_orders others : List (List Access)) (log other : List Entry) → IsDrawnFrom program_orders log → IsDrawnFrom others other → IsDrawnFrom (program_orders ++ others) (log ++ other)
@@ -99,21 +85,14 @@ entries_stand (x ∷ xs) [] h = absurd h
 entries_stand (x ∷ xs) (y ∷ ys) (inl p) = grind (arith, entries_stand xs ys p.1)
 entries_stand (x ∷ xs) (y ∷ ys) (inr q) = grind (arith, stands_after, entries_stand (x ∷ xs) ys q)
 
--- an entry of another channel makes nothing on this one, and each makes one event at most
-made_elsewhere : (c channel : ℕ) (what : Seen) → channel ≢ c → made_at c channel what ≡ None
-made_elsewhere c channel (Did e) other = rw (ne_eqb channel c other) refl
-made_elsewhere c channel (Saw f) other = refl
-
 none_on : (c : ℕ) (entry : Entry) → entry.channel ≢ c → made_on c (entry ∷ []) ≡ []
-none_on c entry other = ap (λ (o : Option Event). cons_option o []) (made_elsewhere c entry.channel entry.what other)
+none_on c entry other = grind (arith, ne_eqb)
 
 one_at_most : (o : Option Event) → length (cons_option o []) ≤ 1
-one_at_most None = omega arith
-one_at_most (Some e) = omega arith
+one_at_most o = grind arith
 
 number_after_events : (before : List Event) (number : ℕ) (what : Seen) → ComesAfter before number what → number ≡ length before
-number_after_events before number (Did e) comes = comes
-number_after_events before number (Saw f) comes = comes.0
+number_after_events before number what comes = grind arith
 
 -- The entries of an order that are not older than the opening histories, where the histories begin with these.
 module _ (opening history : ℕ → List Event) (begins : (c : ℕ) → IsPrefix (opening c) (history c)) where
@@ -132,13 +111,11 @@ module _ (opening history : ℕ → List Event) (begins : (c : ℕ) → IsPrefix
 
   leaves_more : (before now : ℕ → List Event) (c : ℕ) (made : List Event) → Leaves before now → (length (opening c) ≤ length (before c)) ⊎ (made ≡ [])
       → now c ++ made ≡ opening c ++ drop (length (opening c)) (before c ++ made)
-  leaves_more before now c made leaves (inl long) = grind (arith, append_assoc, drop-append-le)
-  leaves_more before now c made leaves (inr none) = grind (arith, append-nil)
+  leaves_more before now c made leaves h2 = grind (arith, append_assoc, drop-append-le, append-nil)
 
   leaves_less : (before now : ℕ → List Event) (c : ℕ) (made : List Event) → Leaves before now → ((length (before c) < length (opening c)) × (length made ≤ 1)) ⊎ (made ≡ [])
       → now c ≡ opening c ++ drop (length (opening c)) (before c ++ made)
-  leaves_less before now c made leaves (inl short) = grind (arith, drop_all, length-append)
-  leaves_less before now c made leaves (inr none) = grind (arith, append-nil)
+  leaves_less before now c made leaves h2 = grind (arith, drop_all, length-append, append-nil)
 
   -- each of them is in its place, and they are all that came after the opening
   pub record IsKept (now : ℕ → List Event) (entries : List Entry) : Type 0 where

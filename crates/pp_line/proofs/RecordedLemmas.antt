@@ -1,5 +1,5 @@
 -- Histories are filled from a log that tells them whole.
-use Rattle.std.proofs.Common.{◌≡◌, ◌≢◌, ℕ, ◌+◌, ◌<◌, ◌⊎◌, inl, inr, ⊎_elim, List, [], ◌∷◌, length, get_or, set, refl, sym, ap, ◌∙◌, arith}
+use Rattle.std.proofs.Common.{◌≡◌, ℕ, ◌+◌, ◌<◌, ◌⊎◌, inl, inr, ⊎_elim, List, [], ◌∷◌, length, get_or, set, refl, sym, ap, ◌∙◌, arith}
 use mathlib.Core.Logic.{dite}
 use native.Mathlib.Decide.{dec_lt}
 use Rattle.std.specs.Prelude.{All}
@@ -9,54 +9,21 @@ use Rattle.std.proofs.lemmas.List.{length-set, get_or_past, get_or-set_same, get
 use Rattle.std.proofs.lemmas.List.Elements.{All-head, All-tail}
 use Rattle.std.proofs.lemmas.List.Sums.{sum_by-cons}
 use Rattle.std.proofs.lemmas.Option.{slice_get_within, get_or_from_slice_get}
-use Rattle.pp_line.specs.Types.{Did, Entry, Event, Saw, Seen}
+use Rattle.pp_line.specs.Types.{Entry, Event, Seen}
 use Rattle.pp_numbers.specs.ChannelNo.{channel_count, channel_index, channel_number, channel_places}
 use Rattle.pp_line.specs.Merge.{IsTrueAt, IsTrueOf, times_logged, Merges, no_opening, IsRecordedBy, with_recorded, with_entry}
 use Rattle.pp_channel.specs.History.{history_on}
 use Rattle.pp_line.proofs.MergeLemmas.{told_by, told_not}
 
--- one event is written over: no history grows
-length-written : (hs : List (List Event)) (place p n : ℕ) (e : Event) → length (get_or (set hs place (set (get_or hs place []) n e)) p []) ≡ length (get_or hs p [])
-length-written hs place p n e = grind (arith, get_or-set_same, length-set, get_or_past, get_or-set_other, cases_eq)
-
 length-told : (hs : List (List Event)) (place p n : ℕ) (what : Seen) → length (get_or (with_recorded hs place n what) p []) ≡ length (get_or hs p [])
-length-told hs place p n (Saw f) = refl
-length-told hs place p n (Did e) = length-written hs place p n e
-
-count-told : (hs : List (List Event)) (place n : ℕ) (what : Seen) → length (with_recorded hs place n what) ≡ length hs
-count-told hs place n (Saw f) = refl
-count-told hs place n (Did e) = length-set hs place (set (get_or hs place []) n e)
+length-told hs place p n what = grind (arith, get_or-set_same, length-set, get_or_past, get_or-set_other, cases_eq)
 
 -- What one entry of channel d does to event k of channel c: where it tells that event, the event stands there afterwards,
 -- and where the event stood there, it still does.
 told_at : (c k d n : ℕ) (histories hs : List (List Event)) (what : Seen) (x : Event) → length (history_on d hs) ≡ length (history_on d histories) → IsTrueAt (history_on d histories) n what
     → (0 < told_by c k (record { channel = d; number = n; what = what })) ⊎ (get_or (history_on c hs) k x ≡ get_or (history_on c histories) k x)
     → get_or (history_on c (with_recorded hs (channel_index d) n what)) k x ≡ get_or (history_on c histories) k x
-told_at c k d n histories hs (Saw f) x long there p = ⊎_elim (λ (told : 0 < 0). absurd (omega arith)) (λ is. is) p
-told_at c k d n histories hs (Did e) x long there p =
-    let place : ℕ = channel_index d in
-    let h : List Event = history_on d histories in
-    let before : List Event = history_on d hs in
-    let within : n < length h = slice_get_within h n e there in
-    let inside : place < length hs = dite (dec_lt place (length hs)) (λ l. l) (λ no. let past = ap length (get_or_past hs place [] (omega (arith, no))) in absurd (omega (arith, past, long, within))) in
-    ⊎_elim
-    (λ (same : channel_index c ≡ place).
-    let written : history_on c (set hs place (set before n e)) ≡ set before n e =
-    ap (λ i. get_or (set hs place (set before n e)) i []) same ∙ get_or-set_same hs place (set before n e) [] inside in
-    let target : history_on c histories ≡ h = ap (λ i. get_or histories i []) same in
-    let source : history_on c hs ≡ before = ap (λ i. get_or hs i []) same in
-    ap (λ l. get_or l k x) written ∙ ⊎_elim
-    (λ (at : k ≡ n).
-    ap (λ m. get_or (set before n e) m x) at ∙ (get_or-set_same before n e x (omega (arith, within, long))
-    ∙ sym (ap (λ l. get_or l k x) target ∙ (ap (λ m. get_or h m x) at ∙ get_or_from_slice_get h n e x there))))
-    (λ (no : k ≢ n).
-    get_or-set_other before n k e x no ∙ (ap (λ l. get_or l k x) (sym source)
-    ∙ ⊎_elim (λ (told : 0 < told_by c k (record { channel = d; number = n; what = Did e })). let none = told_not c k d n e (inr (λ is. no (sym is))) in absurd (omega (arith, told, none))) (λ is. is) p))
-    (cases_eq k n))
-    (λ (other : channel_index c ≢ place).
-    ap (λ l. get_or l k x) (get_or-set_other hs place (channel_index c) (set before n e) [] other)
-    ∙ ⊎_elim (λ (told : 0 < told_by c k (record { channel = d; number = n; what = Did e })). let none = told_not c k d n e (inl (λ is. other (ap channel_index (sym is)))) in absurd (omega (arith, told, none))) (λ is. is) p)
-    (cases_eq (channel_index c) place)
+told_at c k d n histories hs what x long there p = grind (arith, ⊎_elim, slice_get_within, get_or_past, set, get_or-set_same, get_or_from_slice_get, get_or-set_other, told_by, told_not, cases_eq)
 
 length-filled : (log : List Entry) (hs : List (List Event)) (p : ℕ) → length (get_or (fold with_entry hs log) p []) ≡ length (get_or hs p [])
 length-filled [] hs p = refl
@@ -64,7 +31,7 @@ length-filled (entry ∷ log) hs p = length-filled log (with_entry hs entry) p �
 
 pub count-filled : (log : List Entry) (hs : List (List Event)) → length (fold with_entry hs log) ≡ length hs
 count-filled [] hs = refl
-count-filled (entry ∷ log) hs = count-filled log (with_entry hs entry) ∙ count-told hs (channel_index entry.channel) entry.number entry.what
+count-filled (entry ∷ log) hs = grind (arith, count-filled log (with_entry hs entry), length-set, set)
 
 module _ (histories : List (List Event)) (c : ℕ) where
   filled_at : (log : List Entry) (hs : List (List Event)) (k : ℕ) (x : Event) → ((p : ℕ) → length (get_or hs p []) ≡ length (get_or histories p [])) → All (IsTrueOf histories) log

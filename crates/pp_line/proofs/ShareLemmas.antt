@@ -5,18 +5,17 @@ use lib.ListN.{get_elem?}
 use Rattle.std.specs.List.{All}
 use Rattle.std.proofs.lemmas.List.{append-nil, length-append, length-replicate, get_or_append_left, get_or-append-add, drop_at}
 use Rattle.std.proofs.lemmas.List.Concat.{flat_map-append}
-use Rattle.std.proofs.lemmas.List.Elements.{All-nil, All-cons, All-append, All-push, All-replicate, All-set}
+use Rattle.std.proofs.lemmas.List.Elements.{All-nil, All-cons, All-append, All-push, All-set}
 use Rattle.std.proofs.lemmas.List.Sums.{sum_by_push}
 use Rattle.atomic_table.specs.Table.{Splits, Joins, opening}
 use Rattle.atomic_table.proofs.Lists.{at_set}
 use Rattle.pp_line.specs.Types.{Event, LineView}
 use Rattle.pp_numbers.specs.ChannelNo.{channel_count, channel_index, channel_places}
 use Rattle.pp_line.specs.ChannelWord.{history_word}
-use Rattle.pp_channel.specs.History.{IsLawful, HasTwelveBitWord, HasTwelveBitWords, history_on}
+use Rattle.pp_channel.specs.History.{history_on}
 use Rattle.pp_line.specs.LineView.{blank_view, first_view, parent_view, child_view, joined_view}
 use Rattle.pp_line.specs.Merge.{IsTrueOf, Merges, no_opening}
-use Rattle.pp_line.specs.LineLog.{seen_on}
-use Rattle.pp_line.specs.SharedWords.{word_place, place_count, central_in, IsFound, IsViewOf, Rule}
+use Rattle.pp_line.specs.SharedWords.{word_place, place_count, central_in, IsViewOf, Rule}
 use Rattle.pp_channel.proofs.HistoryLemmas.{lawful_empty}
 use Rattle.pp_line.proofs.ListFacts.{All-parts_set, flat_map-set_same, same_everywhere, sum_by-write}
 use Rattle.pp_line.proofs.MergeLemmas.{once_past, TellsOnce, tells_once, merges_by, times_told-append}
@@ -33,16 +32,7 @@ unfolding first_histories
 no_event c = same_everywhere channel_count (channel_index c) []
 
 first_of : (whole : ℕ) (central : List ℕ) → IsViewOf first_histories whole central [] (first_view whole central)
-first_of whole central = record {
-  events_seen = λ k d l. absurd (omega arith);
-  seen_happened = λ c. let n : ℕ = 0 in let z : seen_on c (first_view whole central).seen ≡ 0 = same_everywhere channel_count (channel_index c) n in omega arith;
-  words_found = All-nil (IsFound first_histories);
-  program_orders = empty_order [];
-  whole_is = λ _. refl;
-  each_channel = λ _. refl;
-  opened_with = λ _. refl;
-  spent = λ _. (refl, refl);
-}
+first_of whole central = grind (arith, same_everywhere, first_histories, empty_order)
 
 first_words : List ℕ → List ℕ
 first_words central = replicate place_count 0 ++ central
@@ -57,13 +47,8 @@ first_kept whole central small =
       first_histories,
       [],
       record {
-        sound = record {
-          each_channel = length-replicate {A = List Event} channel_count [];
-          lawful = All-replicate IsLawful channel_count [] lawful_empty;
-          twelve_bits = All-replicate HasTwelveBitWords channel_count [] (All-nil HasTwelveBitWord);
-        };
-        merged = merges_by first_histories [] (λ c number. let none : length (history_on c first_histories) ≡ 0 = ap length (no_event c) in sym (once_past number (length (history_on c first_histories)) (omega arith)))
-            (All-nil (IsTrueOf first_histories));
+        sound = grind (arith, length-replicate, lawful_empty);
+        merged = grind (arith, merges_by, first_histories, no_event, once_past);
         places = all;
         words_are = λ c names. let low = channel_places.place_below c names in get_or_append_left zeros central z (word_place c) (omega (arith, many, low)) ∙ (same_everywhere place_count (word_place c) z ∙ ap history_word (sym (no_event c)));
         central_are = λ a low. ap (λ n. get_or (zeros ++ central) (n + a) 0) (sym many) ∙ get_or-append-add zeros central a 0;

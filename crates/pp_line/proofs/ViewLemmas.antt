@@ -128,14 +128,10 @@ view_joined histories whole opening order v w live other f g =
 pub view_spent : (histories : List (List Event)) (whole : ℕ) (opening : List ℕ) (order : List Access) → IsViewOf histories whole opening order (blank_view 0 0 [] [])
 view_spent histories whole opening order = grind (arith, empty_order)
 
--- Where a word is found that is not the one found last, events came after that one.
-gone_on : (h : List Event) (word before n : ℕ) → HasTwelveBitWords h → history_word h ≡ word → word ≢ before → n ≤ length h → history_word (take n h) ≡ before → number_in before < number_in word
-gone_on h word before n low is other l was = grind (arith, number_at_word, twelve_bits_take, length-take-le, take_all)
-
 -- the last of the words found
 last_found : (histories : List (List Event)) (founds : List FoundWord) (found : FoundWord) → All (IsFound histories) (founds ++ found ∷ []) → IsFound histories found
 last_found histories founds found p = grind (arith, length_push, get_or_push)
 
 pub later_found : (histories : List (List Event)) (v : LineView) (c word before : ℕ) → All (IsFound histories) (finds v c before).found → HasTwelveBitWords (history_on c histories)
     → history_word (history_on c histories) ≡ word → word ≢ before → number_in before < number_in word
-later_found histories v c word before p low is other = grind (arith, last_found, gone_on)
+later_found histories v c word before p low is other = grind (arith, last_found, number_at_word, twelve_bits_take, length-take-le, take_all)

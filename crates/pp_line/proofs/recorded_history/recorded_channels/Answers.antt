@@ -1,4 +1,4 @@
-use Rattle.std.proofs.Common.{◌≡◌, rules, Vec, List, length, [], get_or, arith, ap, subst, sym, ◌∙◌}
+use Rattle.std.proofs.Common.{◌≡◌, Vec, List, length, [], get_or, arith, ap, subst, sym, ◌∙◌}
 use Rattle.std.proofs.lemmas.List.{ext_get_or, get_or_read, length-set, get_or-set_other}
 use Rattle.pp_channel.specs.History.{IsLawful, HasTwelveBitWords}
 use Rattle.pp_channel.specs.declared.event.Event.{Event}
@@ -18,13 +18,7 @@ of_history-requires g c =
     }
 
 pub loop-place-init : goal.loop-place-init
-loop-place-init g c =
-    let told = c.requires in record {
-      each = search rules;
-      each_history = ap length (c.in_ok-histories.ensures told.0 told.1) ∙ told.1.sound.each_channel;
-      done = λ histories is k none. absurd (omega (arith, none));
-      left = λ histories is k below. ap (λ hs. get_or hs k []) (c.in_ok-histories.ensures histories is);
-    }
+loop-place-init g c = grind arith
 
 pub loop-place-preserved : goal.loop-place-preserved
 loop-place-preserved g c =

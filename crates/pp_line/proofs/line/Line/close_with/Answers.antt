@@ -11,12 +11,7 @@ use Rattle.pp_line.proofs.JoinedLines.{AreAbsorbed, absorbed_none, absorbed_push
 use Rattle.pp_line.proofs.line.Line.close_with.Goals as goal
 
 pub loop-value-init : goal.loop-value-init
-loop-value-init g c = record {
-  table = ap (λ (l : LineState). l.table) c.self.view_is;
-  room = omega (arith, c.len.ensures, c.in_ok-logs.ensures.exact);
-  absorbed = absorbed_none (c.self.invariant.0 ∙ ap (λ (l : LineState). l.view.seen) c.self.view_is) (ap (λ (l : LineState). l.view) c.self.view_is)
-      (subst (λ (l : LineState). IsLogOf l.view l.log.entries) c.self.view_is c.self.invariant.3) c.in_ok-logs.ensures.items;
-}
+loop-value-init g c = grind (arith, absorbed_none)
 
 pub absorb-log-requires : goal.absorb-log-requires
 absorb-log-requires g c =

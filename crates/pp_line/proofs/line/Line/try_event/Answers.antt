@@ -41,9 +41,7 @@ invariant_of-self-2 g c =
     fields_of_load lost.load c.self.invariant (λ j. slice_set c.self.inside.seen (c.index-2.ensures.place j) (c.number_in-number.ensures.value j))
 
 pub look-requires-clause-found : goal.look-requires-clause-found
-look-requires-clause-found g c =
-    let lost = exchange_lost c.args.event c.exchange-found.ensures.exchange c.if-found-word.false in
-    (c.self.inside.words.seat.me.0, c.self.invariant.3, lost.load)
+look-requires-clause-found g c = grind (arith, exchange_lost)
 
 pub returns-then-found-word-clause-event_written : goal.returns-then-found-word-clause-event_written
 returns-then-found-word-clause-event_written g c = grind arith
