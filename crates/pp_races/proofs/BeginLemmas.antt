@@ -1,5 +1,5 @@
 -- The tables before the first step.
-use Rattle.std.proofs.Common.{◌≡◌, List, [], None, sym, ap, ◌∙◌, subst}
+use Rattle.std.proofs.Common.{◌≡◌, List, [], None, sym, ap, ◌∙◌, subst, refl}
 use Rattle.std.specs.Prelude.{replicate}
 use Rattle.std.proofs.lemmas.List.{get_or-replicate}
 use Rattle.pp_races.specs.ByFlags.{all, at}
@@ -9,7 +9,6 @@ use Rattle.pp_races.specs.Watch.{unwatched}
 use Rattle.pp_races.specs.declared.{cursor.Cursor.Cursor, missed.Missed.Missed}
 use Rattle.pp_races.proofs.EntryLemmas.{entry_within}
 use Rattle.pp_races.proofs.ByFlagsLemmas.{each_flags}
-use Rattle.std.proofs.Common.{refl}
 
 pub begins_cursors : (events : List (List Missed)) (table : List Cursor) (first : Cursor) → AreEmpty events → IsCursor [] [] first → table ≡ replicate entry_count first → AreCursors events unwatched table
 begins_cursors events table first empty is all q c q_named c_named =

@@ -1,6 +1,6 @@
 -- Where a processor is in the events of a channel.
-use Rattle.std.proofs.Common.{◌≡◌, ℕ, zero, suc, ◌+◌, ◌<◌, ◌≤◌, Bool, true, false, List, [], ◌∷◌, ◌++◌, length, max, drop, slice_set, get_or, Option, Some, None, refl, sym, ap, ◌∙◌, subst, inl, inr, arith}
-use Rattle.std.specs.Prelude.{if◌then◌else◌, find, option_map}
+use Rattle.std.proofs.Common.{◌≡◌, ℕ, zero, suc, ◌<◌, ◌≤◌, Bool, true, false, List, [], ◌∷◌, ◌++◌, length, max, drop, slice_set, get_or, Option, Some, None, refl, sym, ap, ◌∙◌, subst, inl, inr, arith}
+use Rattle.std.specs.Prelude.{if◌then◌else◌}
 use Rattle.std.proofs.lemmas.Bool.{cases_eq, cases_lt}
 use Rattle.std.proofs.lemmas.List.{drop_more, drop_all, drop-append-le, get_or_append_left, get_or-set_other, get_or-set_same, length_push}
 use Rattle.pp_channel.specs.declared.flags.Flags.{Flags}
@@ -14,27 +14,12 @@ use Rattle.pp_races.proofs.ByFlagsLemmas.{one_set}
 -- ---- tests that agree
 
 pub from_alike_same : (a b : Flags → Bool) → ((f : Flags) → a f ≡ b f) → (missed : List Missed) → from_alike a missed ≡ from_alike b missed
-from_alike_same a b same [] = refl
-from_alike_same a b same (e ∷ missed) =
-    ap (λ (t : Bool). if t then e ∷ missed else from_alike a missed) (same e.found)
-    ∙ ap (λ (k : List Missed). if b e.found then e ∷ missed else k) (from_alike_same a b same missed)
-
-find_same : (a b : Flags → Bool) → ((f : Flags) → a f ≡ b f) → (missed : List Missed) → find (λ (e : Missed). a e.found) missed ≡ find (λ (e : Missed). b e.found) missed
-find_same a b same [] = refl
-find_same a b same (e ∷ missed) =
-    ap (λ (t : Bool). if t then Some e else find (λ (x : Missed). a x.found) missed) (same e.found)
-    ∙ ap (λ (k : Option Missed). if b e.found then Some e else k) (find_same a b same missed)
+from_alike_same a b same f = grind arith
 
 pub first_race_same : (a b : Flags → Bool) → ((f : Flags) → a f ≡ b f) → (missed : List Missed) → first_race a missed ≡ first_race b missed
-first_race_same a b same missed = ap (λ (o : Option Missed). option_map (λ (e : Missed). e.entry) o) (find_same a b same missed)
+first_race_same a b same missed = grind arith
 
 -- ---- searches, one event further
-
-race_found : (test : Flags → Bool) (e : Missed) (missed : List Missed) → test e.found ≡ true → first_race test (e ∷ missed) ≡ Some e.entry
-race_found test e missed is = ap (λ (t : Bool). option_map (λ (x : Missed). x.entry) (if t then Some e else find (λ (x : Missed). test x.found) missed)) is
-
-race_passed : (test : Flags → Bool) (e : Missed) (missed : List Missed) → test e.found ≡ false → first_race test (e ∷ missed) ≡ first_race test missed
-race_passed test e missed is = ap (λ (t : Bool). option_map (λ (x : Missed). x.entry) (if t then Some e else find (λ (x : Missed). test x.found) missed)) is
 
 alike_found : (test : Flags → Bool) (e : Missed) (missed : List Missed) → test e.found ≡ true → from_alike test (e ∷ missed) ≡ e ∷ missed
 alike_found test e missed is = ap (λ (t : Bool). if t then e ∷ missed else from_alike test missed) is
@@ -51,11 +36,7 @@ first_entry (e ∷ missed) = Some e.entry
 race_first : (test : Flags → Bool) (missed : List Missed) → first_race test missed ≡ first_entry (from_alike test missed)
 unfolding first_entry
 race_first test [] = refl
-race_first test (e ∷ missed) = by_test (race_first test missed) (test e.found) refl
-  where
-    by_test : first_race test missed ≡ first_entry (from_alike test missed) → (b : Bool) → test e.found ≡ b → first_race test (e ∷ missed) ≡ first_entry (from_alike test (e ∷ missed))
-    by_test others true holds = race_found test e missed holds ∙ ap first_entry (sym (alike_found test e missed holds))
-    by_test others false fails = race_passed test e missed fails ∙ others ∙ ap first_entry (sym (alike_passed test e missed fails))
+race_first test (e ∷ missed) = grind (arith, first_entry, alike_found, alike_passed, race_first test missed)
 
 -- without the first event
 tail : (test : Flags → Bool) (e : Missed) (events : List Missed) (from next place : ℕ) → from ≤ suc next → next ≤ place → IsFirst test (e ∷ events) from (suc place) → IsFirst test events next place
@@ -79,21 +60,12 @@ first_left test (e ∷ events) (suc from) (suc place) is = first_left test event
 -- a search that begins further, where none before finds
 pub begun : (events missed : List Missed) (cursor : Cursor) (is : IsCursor events missed cursor) (races : ByFlags Bool) (begin place : ℕ) → begin ≡ max (get_or cursor.searched (number_of races) 0) cursor.from
     → IsFirst (at races) events begin place → IsFirst (at races) events cursor.from place
-begun events missed cursor is races begin place begin_is first = record {
-  further = omega (arith, first.further);
-  within = λ low. first.within (omega (arith, is.searched_within races));
-  none = λ k d h low here. elim (cases_lt k (get_or cursor.searched (number_of races) 0)) [
-    | inl early ↦ is.searched races k d h early here
-    | inr later ↦ first.none k d (omega arith) low here
-  ];
-  finds = first.finds;
-}
+begun events missed cursor is races begin place begin_is first = grind (arith, cases_lt)
 
 module _ (events missed : List Missed) (cursor : Cursor) (is : IsCursor events missed cursor) where
   pub race_at : (test : Flags → Bool) (place : ℕ) (d : Missed) → IsFirst test events cursor.from place → place < length events → Some (get_or events place d).entry ≡ first_race test missed
   unfolding first_entry
-  race_at test place d first low =
-      sym (race_first test missed ∙ ap (λ x. first_entry (from_alike test x)) (sym is.missed_are) ∙ ap first_entry (first_left test events cursor.from place first ∙ drop_more events place d low))
+  race_at test place d first low = grind (arith, race_first, first_entry, first_left, drop_more)
 
   pub race_none : (test : Flags → Bool) (place : ℕ) → IsFirst test events cursor.from place → length events ≤ place → None ≡ first_race test missed
   unfolding first_entry
@@ -127,17 +99,10 @@ module _ (events missed : List Missed) (cursor : Cursor) (is : IsCursor events m
 
   -- it goes on to a further place
   moved : (place : ℕ) → cursor.from ≤ place → place ≤ length events → IsCursor events (drop place events) (record { from = place; searched = cursor.searched })
-  moved place further within = record {
-    within = within;
-    missed_are = refl;
-    searched_within = is.searched_within;
-    searched = λ set k d above. is.searched set k d (omega (arith, above));
-  }
+  moved place further within = grind arith
 
   pub passed : (test : Flags → Bool) (place : ℕ) → IsFirst test events cursor.from place → IsCursor events (from_alike test missed) (record { from = place; searched = cursor.searched })
-  passed test place first =
-      subst (λ (x : List Missed). IsCursor events x (record { from = place; searched = cursor.searched }))
-      (sym (ap (λ x. from_alike test x) (sym is.missed_are) ∙ first_left test events cursor.from place first)) (moved place first.further (first.within is.within))
+  passed test place first = grind (arith, first_left, moved)
 
   pub passed_all : IsCursor events [] (record { from = length events; searched = cursor.searched })
   passed_all =
@@ -146,14 +111,4 @@ module _ (events missed : List Missed) (cursor : Cursor) (is : IsCursor events m
 
   -- one more event
   pub one_more : (event : Missed) → IsCursor (events ++ event ∷ []) (missed ++ event ∷ []) cursor
-  one_more event = record {
-    within = omega (arith, longer, is.within);
-    missed_are = drop-append-le cursor.from events (event ∷ []) is.within ∙ ap (λ x. x ++ event ∷ []) is.missed_are;
-    searched_within = λ set. omega (arith, longer, is.searched_within set);
-    searched = λ set k d above below here.
-        let low : k < length events = omega (arith, is.searched_within set) in
-        ap (λ (e : Missed). at set e.found) (get_or_append_left events (event ∷ []) d k low) ∙ is.searched set k d above below low;
-  }
-    where
-      longer : length (events ++ event ∷ []) ≡ length events + 1
-      longer = length_push events event
+  one_more event = grind (arith, drop-append-le, get_or_append_left, length_push)

@@ -57,8 +57,7 @@ found_as events cursors looks uses found words w findings same are = record {
 -- what is found of a processor does not depend on other findings
 pub end_apart : (x : Need) (q : ℕ) (m : MachineState) (w : Watch) (more : List Finding) → end_by_need x q m (finds more w) ≡ end_by_need x q m w
 end_apart Need.Local q m w more = refl
-end_apart (Channel c op) q m w more = refl
-end_apart other q m w more = refl
+end_apart a q m w more = refl
 
 module _ (m : MachineState) (w : Watch) (n c : ℕ) (op : ChanOp) (waits : Bool) (waits_is : waits ≡ waits_at op (processor_of n m) (flags_of (history_of c m))) where
   pub goes_on : waits ≡ false → GoingOn n ∷ [] ≡ end_by_need (Channel c op) n m w

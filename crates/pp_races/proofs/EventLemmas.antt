@@ -1,5 +1,5 @@
 -- What an event leaves in the tables.
-use Rattle.std.proofs.Common.{◌≡◌, ◌≢◌, ℕ, zero, suc, ◌<◌, Bool, true, false, IsTrue, List, [], ◌∷◌, ◌++◌, length, slice_set, Option, None, refl, sym, ap, ◌∙◌, subst, inl, inr, arith}
+use Rattle.std.proofs.Common.{◌≡◌, ◌≢◌, ℕ, zero, suc, ◌<◌, Bool, IsTrue, List, [], ◌∷◌, ◌++◌, length, slice_set, Option, None, refl, sym, ap, ◌∙◌, subst, inl, inr, arith}
 use Rattle.std.specs.Prelude.{◌==◌, ◌||◌, is_some, not, if◌then◌else◌}
 use Rattle.std.proofs.lemmas.Bool.{cases_eq, eq-eqb, ne_eqb}
 use Rattle.std.proofs.lemmas.List.{get_or-set_other, get_or-set_same}
@@ -12,7 +12,7 @@ use Rattle.pp_machine.specs.declared.trace.Trace.{Trace}
 use Rattle.pp_races.specs.ByFlags.{at}
 use Rattle.pp_races.specs.Cursor.{IsCursor}
 use Rattle.pp_races.specs.OtherFlags.{waits_at}
-use Rattle.pp_races.specs.Tables.{AreClosed, AreLooks, Looks, closing_findings, cursor_of, entry_place, events_of, looks_of, no_looks}
+use Rattle.pp_races.specs.Tables.{AreClosed, AreLooks, Looks, closing_findings, cursor_of, entry_place, events_of, no_looks}
 use Rattle.pp_races.specs.Watch.{Watch, asking_step, each_below, each_number, entry_of, first_race, made, missed_event, race_after, race_before}
 use Rattle.pp_races.specs.WatchTables.{AreKept}
 use Rattle.pp_races.specs.declared.{asking_step.AskingStep.AskingStep, by_flags.ByFlags.ByFlags, cursor.Cursor.Cursor, finding.Finding.Finding, missed.Missed.Missed, word_use.WordUse.WordUse}
@@ -23,26 +23,19 @@ use Rattle.pp_races.proofs.EntryLemmas.{cursors_set}
 -- ---- the watch after an event, case by case
 
 pub missed_elsewhere : (m : MachineState) (w : Watch) (n c : ℕ) (op : ChanOp) (event : Event) (q e : ℕ) → e ≢ c → (made n c op event m w).missed q e ≡ w.missed q e
-missed_elsewhere m w n c op event q e apart =
-    ap (λ (t : Bool). if t then (if q == n then [] else w.missed q e ++ missed_event (flags_of (history_of c m)) (entry_of n c event m) ∷ []) else w.missed q e) (ne_eqb e c apart)
+missed_elsewhere m w n c op event q e apart = grind (arith, ne_eqb)
 
 pub missed_own : (m : MachineState) (w : Watch) (n c : ℕ) (op : ChanOp) (event : Event) → (made n c op event m w).missed n c ≡ []
-missed_own m w n c op event =
-    ap (λ (t : Bool). if t then (if n == n then [] else w.missed n c ++ missed_event (flags_of (history_of c m)) (entry_of n c event m) ∷ []) else w.missed n c) (eq-eqb c c refl)
-    ∙ ap (λ (t : Bool). if t then [] else w.missed n c ++ missed_event (flags_of (history_of c m)) (entry_of n c event m) ∷ []) (eq-eqb n n refl)
+missed_own m w n c op event = grind (arith, eq-eqb)
 
 pub missed_others : (m : MachineState) (w : Watch) (n c : ℕ) (op : ChanOp) (event : Event) (q : ℕ) → q ≢ n → (made n c op event m w).missed q c ≡ w.missed q c ++ missed_event (flags_of (history_of c m)) (entry_of n c event m) ∷ []
-missed_others m w n c op event q other =
-    ap (λ (t : Bool). if t then (if q == n then [] else w.missed q c ++ missed_event (flags_of (history_of c m)) (entry_of n c event m) ∷ []) else w.missed q c) (eq-eqb c c refl)
-    ∙ ap (λ (t : Bool). if t then [] else w.missed q c ++ missed_event (flags_of (history_of c m)) (entry_of n c event m) ∷ []) (ne_eqb q n other)
+missed_others m w n c op event q other = grind (arith, eq-eqb, ne_eqb)
 
 pub looks_elsewhere : (m : MachineState) (w : Watch) (n c : ℕ) (op : ChanOp) (event : Event) (q e : ℕ) (f : Flags) → e ≢ c → (made n c op event m w).looks q e f ≡ w.looks q e f
-looks_elsewhere m w n c op event q e f apart =
-    ap (λ (t : Bool). if t then (if q == n || is_some (w.looks q e (flags_after event)) then None else w.looks q e f) else w.looks q e f) (ne_eqb e c apart)
+looks_elsewhere m w n c op event q e f apart = grind (arith, ne_eqb)
 
 pub looks_there : (m : MachineState) (w : Watch) (n c : ℕ) (op : ChanOp) (event : Event) (q : ℕ) (f : Flags) → (made n c op event m w).looks q c f ≡ (if q == n || is_some (w.looks q c (flags_after event)) then None else w.looks q c f)
-looks_there m w n c op event q f =
-    ap (λ (t : Bool). if t then (if q == n || is_some (w.looks q c (flags_after event)) then None else w.looks q c f) else w.looks q c f) (eq-eqb c c refl)
+looks_there m w n c op event q f = grind (arith, eq-eqb)
 
 pub each_same : (f g : ℕ → List Finding) (count : ℕ) → ((k : ℕ) → k < count → f k ≡ g k) → each_below count f ≡ each_below count g
 unfolding each_below
@@ -53,23 +46,17 @@ each_same f g (suc k) same = ap (λ x. x ++ f k) (each_same f g k (λ j low. sam
 
 module _ (m : MachineState) (w : Watch) (n c : ℕ) (op : ChanOp) (event : Event) (n_named : IsTrue (names_processor n)) (c_named : IsTrue (names_channel c)) where
   look_closed : (b : Bool) (l : Looks) (f : Flags) (o : Option AskingStep) → at l f ≡ o → at (if b then no_looks else l) f ≡ (if b then None else o)
-  look_closed true l f o same = each_flags (λ g. at no_looks g ≡ None) refl refl refl refl f
-  look_closed false l f o same = same
+  look_closed b l f o same = grind (arith, each_flags)
 
   pub event_looks : (looks new : List Looks) → AreClosed (entry_of n c event m) (flags_after event) looks new → AreLooks w looks → AreLooks (made n c op event m w) new
   event_looks looks new closed are q k q_named k_named f = elim (cases_eq k c) [
     | inr off ↦ ap (λ (l : Looks). at l f) (closed.elsewhere q k q_named k_named off) ∙ are q k q_named k_named f ∙ sym (looks_elsewhere m w n c op event q k f off)
-    | inl on ↦ subst (λ (x : ℕ). at (looks_of new q x) f ≡ (made n c op event m w).looks q x f) (sym on)
-        (ap (λ (l : Looks). at l f) (closed.here q q_named)
-        ∙ look_closed (q == n || is_some (at (looks_of looks q c) (flags_after event))) (looks_of looks q c) f (w.looks q c f) (are q c q_named c_named f)
-        ∙ ap (λ (o : Option AskingStep). if q == n || is_some o then None else w.looks q c f) (are q c q_named c_named (flags_after event))
-        ∙ sym (looks_there m w n c op event q f))
+    | inl on ↦ grind (arith, look_closed, looks_there)
   ]
 
   closing_same : (looks : List Looks) → AreLooks w looks → (q : ℕ) → IsTrue (names_processor q)
       → closing_findings (entry_of n c event m) (flags_after event) looks q ≡ (if q == n then [] else race_after (w.looks q c (flags_after event)) (entry_of n c event m))
-  closing_same looks are q q_named =
-      ap (λ (o : Option AskingStep). if q == n then [] else race_after o (entry_of n c event m)) (are q c q_named c_named (flags_after event))
+  closing_same looks are q q_named = grind arith
 
   -- the cursors of others and of other channels, after the event
   cursor_kept : (events : List (List Missed)) (cursor : Cursor) (q e : ℕ) → channel_index c < length events → IsTrue (names_channel e) → (q ≡ n → e ≡ c → ⊥)

@@ -1,5 +1,5 @@
 -- Where nothing is found of a run, it tells the result of every order.
-use Rattle.std.proofs.Common.{◌≡◌, ◌≢◌, ℕ, zero, suc, ◌+◌, ◌-◌, ◌<◌, ◌≤◌, Bool, true, false, IsTrue, List, [], ◌∷◌, length, take, get_or, Option, Some, None, refl, sym, ap, ◌∙◌, inl, inr, arith}
+use Rattle.std.proofs.Common.{◌≡◌, ◌≢◌, ℕ, zero, suc, ◌+◌, ◌-◌, ◌<◌, ◌≤◌, Bool, true, false, IsTrue, List, [], ◌∷◌, length, take, get_or, None, refl, sym, ap, ◌∙◌, inl, inr, arith}
 use Rattle.std.specs.Prelude.{not, count_by, nat_lt, if◌then◌else◌}
 use Rattle.std.proofs.lemmas.Bool.{and_from, cases_eq, cases_lt, lt-ltb, not-false}
 use Rattle.std.proofs.lemmas.List.{get_or_past, take_all}
@@ -14,18 +14,17 @@ use Rattle.pp_numbers.specs.PpNo.{each_processor, names_processor, processor_cou
 use Rattle.pp_processor.specs.Processor.{no_processor}
 use Rattle.pp_machine.specs.Run.{run}
 use Rattle.pp_processor.specs.declared.{need.Need.Need}
-use Rattle.pp_machine.specs.declared.{trace.Trace.Trace}
 use Rattle.pp_processor.specs.declared.need.Need.TheVariants.{Channel}
 use Rattle.pp_processor.proofs.StepLemmas.{nothing_at_rest}
 use Rattle.pp_run.specs.Determinacy.{IsDeterminate, IsSettled, UsesAt, at_moment, history_at, need_at}
 use Rattle.pp_run.proofs.Moments.{moment_past, run_central}
-use Rattle.pp_races.specs.Findings.{end_by_need, end_of, held_before, is_shared, sharing_of, turns_in_place}
+use Rattle.pp_races.specs.Findings.{end_by_need, end_of, is_shared, sharing_of}
 use Rattle.pp_races.specs.OtherFlags.{waits_at}
 use Rattle.pp_races.specs.OnePass.{WaitsAt}
 use Rattle.pp_races.specs.RaceFree.{IsRaceFreeSoFar}
 use Rattle.pp_races.specs.Soundness.{AreLastOf, IsSound, TurnTestIsExact, least_of, open_of}
-use Rattle.pp_races.specs.Watch.{Missed, Watch, asking_step, each_below, each_number, entry_of, first_race, missed_event}
-use Rattle.pp_races.specs.declared.{asking_step.AskingStep.AskingStep, finding.Finding.Finding}
+use Rattle.pp_races.specs.Watch.{Missed, Watch, each_below, each_number, entry_of, first_race, missed_event}
+use Rattle.pp_races.specs.declared.{finding.Finding.Finding}
 use Rattle.pp_races.specs.declared.finding.Finding.TheVariants.{GoingOn, Shared}
 use Rattle.pp_races.proofs.MissedLemmas.{none_races}
 use Rattle.pp_races.proofs.SoundLemmas.{none_below, none_numbered, waits_there}
@@ -48,10 +47,7 @@ count_two (false ∷ xs) zero (suc j) low is also = absurd (cc)
 count_two (false ∷ xs) (suc i) (suc j) low is also = count_two xs i j (omega arith) is also
 
 count_apart : (xs : List Bool) (i j : ℕ) → i ≢ j → get_or xs i false ≡ true → get_or xs j false ≡ true → 2 ≤ count_by (λ flag. flag) xs
-count_apart xs i j apart is also = elim (cases_lt i j) [
-  | inl below ↦ count_two xs i j below is also
-  | inr past ↦ count_two xs j i (omega arith) also is
-]
+count_apart xs i j apart is also = grind (arith, cases_lt, count_two)
 
 flag_at : (test : ℕ → Bool) (q : ℕ) → IsTrue (names_processor q) → get_or (each_processor test) (processor_index q) false ≡ test q
 flag_at test q named =
@@ -67,8 +63,7 @@ shared_by w a n q n_named q_named apart wrote used also =
     (lt-ltb 0 (count_by (λ flag. flag) (each_processor (w.wrote a))) (omega arith)) (lt-ltb 1 (count_by (λ flag. flag) (each_processor (w.used a))) (omega arith))
 
 no_sharing : (b : Bool) (finding : Finding) → (if b then finding ∷ [] else []) ≡ [] → b ≡ false
-no_sharing true finding is = absurd (cc)
-no_sharing false finding is = refl
+no_sharing b finding is = grind arith
 
 -- ---- processors
 
@@ -82,25 +77,15 @@ named_by_need q m all some = elim (cases_lt (processor_index q) processor_count)
   | inr past ↦ absurd (some (ap (λ p. need p) (get_or_past m.processors (processor_index q) no_processor (omega arith)) ∙ no_need))
 ]
 
-going_apart : (b : Bool) (q : ℕ) → (if b then [] else GoingOn q ∷ []) ≡ [] → b ≡ true
-going_apart true q is = refl
-going_apart false q is = absurd (cc)
-
 held_apart : (b : Bool) (held : List Finding) (q : ℕ) → (if b then held else GoingOn q ∷ []) ≡ [] → (b ≡ true) × (held ≡ [])
-held_apart true held q is = (refl, is)
-held_apart false held q is = absurd (cc)
-
-no_held : (step : AskingStep) (race : Option Trace) → held_before step race ≡ [] → race ≡ None
-no_held step None is = refl
-no_held step (Some entry) is = absurd (cc)
+held_apart b held q is = grind arith
 
 -- ---- the steps so far
 
 module _ (ns : List ℕ) (m : MachineState) (w : Watch) (each : length m.histories ≡ channel_count) (all_now : (t : ℕ) → length (at_moment ns m t).processors ≡ processor_count)
     (s : IsSound ns m (length ns) w) (shares : each_below (length (run ns m).central) (sharing_of w) ≡ []) where
   named_user : (u a : ℕ) → UsesAt a (need_at ns m u) → IsTrue (names_processor (get_or ns u 0))
-  named_user u a (inl is) = named_by_need (get_or ns u 0) (at_moment ns m u) (all_now u) (λ nothing. (let bad : Need.Read a ≡ Need.Nothing = sym is ∙ nothing in cc))
-  named_user u a (inr is) = named_by_need (get_or ns u 0) (at_moment ns m u) (all_now u) (λ nothing. (let bad : Need.Write a is.0 ≡ Need.Nothing = sym is.1 ∙ nothing in cc))
+  named_user u a h = grind (arith, named_by_need)
 
   pub free : IsRaceFreeSoFar ns m
   free = record {
@@ -142,17 +127,7 @@ module _ (ns : List ℕ) (m : MachineState) (w : Watch) (all : length m.processo
       ])
 
   settled_by : (q : ℕ) → IsTrue (names_processor q) → (x : Need) → need (processor_of q (run ns m)) ≡ x → end_by_need x q (run ns m) w ≡ [] → IsSettled ns m q
-  settled_by q named Need.Nothing e none = inl ((nothing_at_rest (processor_of q (run ns m))).0 e)
-  settled_by q named Need.Local e none = inr (inl (record { needs = e; stays = turns q named e (going_apart (turns_in_place (processor_of q (run ns m))) q none) }))
-  settled_by q named (Channel c op) e none =
-      let parts = held_apart (waits_at op (processor_of q (run ns m)) (flags_of (history_of c (run ns m)))) _ q none in
-      inr (inr (
-        c,
-        op,
-        watched_settled ns m each (least_of w (at_moment ns m (length ns))) (open_of w) s.watched q c op e
-            (waits_all q c op e parts.0 (no_held (asking_step q c (run ns m)) _ parts.1)),
-      ))
-  settled_by q named other e none = absurd (cc)
+  settled_by q named x e none = grind (arith, nothing_at_rest, held_apart, watched_settled, waits_all)
 
   settled : (q : ℕ) → IsSettled ns m q
   settled q = elim (cases_lt (processor_index q) processor_count) [

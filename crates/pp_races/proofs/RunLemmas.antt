@@ -1,11 +1,8 @@
 -- A run that is watched to its end.
-use Rattle.std.proofs.Common.{◌≡◌, ℕ, zero, suc, ◌+◌, ◌<◌, Bool, true, false, IsTrue, List, [], ◌++◌, length, take, get_or, Option, Some, None, refl, sym, ap, ◌∙◌, subst, inl, inr, arith}
+use Rattle.std.proofs.Common.{◌≡◌, ℕ, zero, suc, ◌+◌, ◌<◌, true, IsTrue, List, [], ◌++◌, length, take, get_or, refl, sym, ap, ◌∙◌, subst, arith}
 use Rattle.std.proofs.lemmas.List.{take_all, take_more}
-use Rattle.std.specs.Prelude.{◌==◌, ◌&&◌, if◌then◌else◌}
 use Rattle.std.proofs.lemmas.Bool.{and_from, cases_lt, eq-eqb, or_left, or_right}
-use Rattle.pp_channel.specs.Answer.{event_of, flags_of}
 use Rattle.pp_numbers.specs.ChannelNo.{channel_count}
-use Rattle.pp_channel.specs.declared.{chan_op.ChanOp.ChanOp, event.Event.Event}
 use Rattle.pp_machine.specs.MachineState.{MachineState, processor_of, history_of}
 use Rattle.pp_machine.specs.MachineStep.{stepped}
 use Rattle.pp_processor.specs.NeedAndEffect.{need}
@@ -16,10 +13,9 @@ use Rattle.pp_processor.specs.declared.need.Need.{Need}
 use Rattle.pp_run.specs.Determinacy.{IsDeterminate, UsesAt, WritesAt, at_moment, need_at}
 use Rattle.pp_run.proofs.Moments.{moment_next, moment_each, mono, run_central, run_processors}
 use Rattle.pp_races.specs.Findings.{end_of, findings, findings_at_end, sharing_of}
-use Rattle.pp_races.specs.OtherFlags.{waits_at}
 use Rattle.pp_races.specs.OnePass.{Watched}
 use Rattle.pp_races.specs.Soundness.{AreLastOf, AsksLawfulChannel, IsSound, TurnTestIsExact, least_of, open_of}
-use Rattle.pp_races.specs.Watch.{Watch, asked, each_below, each_number, looked, unwatched, watched, watched_need}
+use Rattle.pp_races.specs.Watch.{Watch, asked, each_below, each_number, unwatched, watched, watched_need}
 use Rattle.pp_races.specs.Tables.{Looks}
 use Rattle.pp_races.specs.WatchTables.{AreKept}
 use Rattle.pp_races.specs.declared.{cursor.Cursor.Cursor, finding.Finding.Finding, missed.Missed.Missed, word_use.WordUse.WordUse}
@@ -38,38 +34,20 @@ use Rattle.pp_races.proofs.Watching.{watched_checked}
 
 -- ---- one step more
 
-found_before_asked : (n c : ℕ) (op : ChanOp) (o : Option Event) (m : MachineState) (w : Watch) → (asked n c op o m w).findings ≡ [] → w.findings ≡ []
-found_before_asked n c op (Some event) m w is = none_first w.findings _ (none_first _ _ is)
-found_before_asked n c op None m w is = by_wait (waits_at op (processor_of n m) (flags_of (history_of c m))) is
-  where
-    by_wait : (b : Bool) → (if b then w else looked n c op m w).findings ≡ [] → w.findings ≡ []
-    by_wait true e = e
-    by_wait false e = none_first w.findings _ e
-
 pub found_before : (x : Need) (n : ℕ) (m : MachineState) (w : Watch) → (watched_need x n m w).findings ≡ [] → w.findings ≡ []
-found_before (Need.Channel c op) n m w is = found_before_asked n c op (event_of op (history_of c m)) m w is
-found_before other n m w is = is
+found_before x n m w is = grind (arith, none_first)
 
 used_still : (x : Need) (n : ℕ) (m : MachineState) (w : Watch) (a q : ℕ) → w.used a q ≡ true → (watched_need x n m w).used a q ≡ true
-used_still (Need.Channel c op) n m w a q is = ap (λ (f : ℕ → ℕ → Bool). f a q) (same_asked n c op (event_of op (history_of c m)) m w).0 ∙ is
-used_still (Need.Read b) n m w a q is = or_left (w.used a q) (a == b && q == n) is
-used_still (Need.Write b v) n m w a q is = or_left (w.used a q) (a == b && q == n) is
-used_still other n m w a q is = is
+used_still x n m w a q is = grind (arith, same_asked, or_left)
 
 wrote_still : (x : Need) (n : ℕ) (m : MachineState) (w : Watch) (a q : ℕ) → w.wrote a q ≡ true → (watched_need x n m w).wrote a q ≡ true
-wrote_still (Need.Channel c op) n m w a q is = ap (λ (f : ℕ → ℕ → Bool). f a q) (same_asked n c op (event_of op (history_of c m)) m w).1 ∙ is
-wrote_still (Need.Write b v) n m w a q is = or_left (w.wrote a q) (a == b && q == n) is
-wrote_still other n m w a q is = is
-
-both_same : (a n : ℕ) → (a == a && n == n) ≡ true
-both_same a n = and_from (a == a) (n == n) (eq-eqb a a refl) (eq-eqb n n refl)
+wrote_still x n m w a q is = grind (arith, same_asked, or_left)
 
 used_now : (x : Need) (n : ℕ) (m : MachineState) (w : Watch) (a : ℕ) → UsesAt a x → (watched_need x n m w).used a n ≡ true
-used_now x n m w a (inl is) = ap (λ y. (watched_need y n m w).used a n) is ∙ or_right (w.used a n) (a == a && n == n) (both_same a n)
-used_now x n m w a (inr is) = ap (λ y. (watched_need y n m w).used a n) is.1 ∙ or_right (w.used a n) (a == a && n == n) (both_same a n)
+used_now x n m w a h = grind (arith, or_right, and_from, eq-eqb)
 
 wrote_now : (x : Need) (n : ℕ) (m : MachineState) (w : Watch) (a : ℕ) → WritesAt a x → (watched_need x n m w).wrote a n ≡ true
-wrote_now x n m w a is = ap (λ y. (watched_need y n m w).wrote a n) is.1 ∙ or_right (w.wrote a n) (a == a && n == n) (both_same a n)
+wrote_now x n m w a is = grind (arith, or_right, and_from, eq-eqb)
 
 module _ (ns : List ℕ) (m : MachineState) (each : length m.histories ≡ channel_count) (t : ℕ) (within : t < length ns) (w : Watch) (named : IsTrue (names_processor (get_or ns t 0))) where
   pub sound_next : IsSound ns m t w → AsksLawfulChannel (need_at ns m t) (at_moment ns m t) → (watched_need (need_at ns m t) (get_or ns t 0) (at_moment ns m t) w).findings ≡ []
@@ -83,20 +61,8 @@ module _ (ns : List ℕ) (m : MachineState) (each : length m.histories ≡ chann
         watched = subst (λ (k : MachineState). Watched ns m (suc t) (least_of (watched_need (need_at ns m t) (get_or ns t 0) (at_moment ns m t) w) k) (open_of (watched_need (need_at ns m t) (get_or ns t 0) (at_moment ns m t) w))) (sym step)
             (watched_checked ns m each t within (least_of w (at_moment ns m t)) _ (open_of w) _ s.watched one.checked);
         missed = λ q c. subst (λ (k : MachineState). AreLastOf (history_of c k) ((watched_need (need_at ns m t) (get_or ns t 0) (at_moment ns m t) w).missed q c)) (sym step) (one.missed q c);
-        used = λ u a low uses. elim (cases_lt u t) [
-          | inl early ↦ used_still (need_at ns m t) (get_or ns t 0) (at_moment ns m t) w a (get_or ns u 0) (s.used u a early uses)
-          | inr past ↦
-              let here : t ≡ u = omega arith in
-              subst (λ (k : ℕ). (watched_need (need_at ns m t) (get_or ns t 0) (at_moment ns m t) w).used a (get_or ns k 0) ≡ true) here
-              (used_now (need_at ns m t) (get_or ns t 0) (at_moment ns m t) w a (subst (λ (k : ℕ). UsesAt a (need_at ns m k)) (sym here) uses))
-        ];
-        wrote = λ u a low writes. elim (cases_lt u t) [
-          | inl early ↦ wrote_still (need_at ns m t) (get_or ns t 0) (at_moment ns m t) w a (get_or ns u 0) (s.wrote u a early writes)
-          | inr past ↦
-              let here : t ≡ u = omega arith in
-              subst (λ (k : ℕ). (watched_need (need_at ns m t) (get_or ns t 0) (at_moment ns m t) w).wrote a (get_or ns k 0) ≡ true) here
-              (wrote_now (need_at ns m t) (get_or ns t 0) (at_moment ns m t) w a (subst (λ (k : ℕ). WritesAt a (need_at ns m k)) (sym here) writes))
-        ];
+        used = grind (arith, cases_lt, used_still, used_now);
+        wrote = grind (arith, cases_lt, wrote_still, wrote_now);
       }
 
 -- what is known of a run after t of its steps
@@ -159,12 +125,7 @@ module _ (ns : List ℕ) (t : ℕ) (m now : MachineState) (n : ℕ) (before : t 
   pub run_keeps : (events : List (List Missed)) (cursors : List Cursor) (looks : List Looks) (uses : List WordUse) (found : List Finding) (words : ℕ)
       → AreKept events cursors looks uses found words (watched_need (need (processor_of n now)) n now (forgotten (watched (take t ns) m unwatched)))
       → AreKept events cursors looks uses [] words (forgotten (watched (take (t + 1) ns) m unwatched)) × ((watched (take (t + 1) ns) m unwatched).findings ≡ (watched (take t ns) m unwatched).findings ++ found)
-  run_keeps events cursors looks uses found words kept =
-      let w : Watch = watched (take t ns) m unwatched in
-      let step = behind (need (processor_of n now)) n now w in (
-        subst (λ (x : Watch). AreKept events cursors looks uses [] words (forgotten x)) (sym watch_is) (forgets w.findings _ _ events cursors looks uses found words step kept),
-        ap (λ (x : Watch). x.findings) watch_is ∙ step.findings ∙ ap (λ x. w.findings ++ x) (sym kept.found_are),
-      )
+  run_keeps events cursors looks uses found words kept = grind (arith, behind, forgotten, watch_is, forgets)
 
 -- ---- the end
 
@@ -187,9 +148,7 @@ run_finds ns t m now ends words end r words_is ends_are =
 -- after the last step, where no step raced, the watch is sound
 sound_at_end : (ns : List ℕ) (t : ℕ) (m now : MachineState) → t ≡ length ns → IsWatchedRun ns t m now
     → (watched ns m unwatched).findings ≡ [] → IsSound ns m (length ns) (watched ns m unwatched)
-sound_at_end ns t m now end r none =
-    let watch_is : watched (take t ns) m unwatched ≡ watched ns m unwatched = ap (λ ks. watched ks m unwatched) (take_all t ns (omega (arith, end))) in
-    subst (λ (k : ℕ). IsSound ns m k (watched ns m unwatched)) end (subst (λ (x : Watch). IsSound ns m t x) watch_is (r.sound (ap (λ (x : Watch). x.findings) watch_is ∙ none)))
+sound_at_end ns t m now end r none = grind (arith, watch_is, take_all)
 
 pub run_is_free : (ns : List ℕ) (t : ℕ) (m now : MachineState) → length m.processors ≡ processor_count → length m.histories ≡ channel_count
     → t ≡ length ns → IsWatchedRun ns t m now → list_all is_going_on (findings ns m) ≡ true → IsRaceFreeSoFar ns m

@@ -1,7 +1,7 @@
 -- Where a step adds no finding, it is checked, and the watch stays sound.
 use mathlib.Core.List.{append-eq-nil_iff}
 use Rattle.std.proofs.Common.{◌≡◌, ◌≢◌, ℕ, zero, suc, ◌+◌, ◌-◌, ◌<◌, ◌≤◌, Bool, true, false, IsTrue, List, [], ◌∷◌, ◌++◌, length, get_or, Option, Some, None, refl, sym, ap, ◌∙◌, subst, inl, inr, arith}
-use Rattle.std.specs.Prelude.{◌==◌, ◌||◌, ◌⊎◌, not, is_some, is_none, if◌then◌else◌}
+use Rattle.std.specs.Prelude.{◌==◌, ◌⊎◌, not, is_none, if◌then◌else◌}
 use Rattle.std.specs.Option.{option_or, option_to_list}
 use Rattle.std.proofs.lemmas.Bool.{and_parts, and_from, cases_eq, cases_lt, eq-eqb, ne_eqb, cases_Bool, or_from, not-false, cond-true}
 use Rattle.std.proofs.lemmas.List.{length_push}
@@ -11,8 +11,8 @@ use Rattle.pp_channel.specs.History.{IsLawful, HasTwelveBitWords}
 use Rattle.pp_channel.specs.declared.{chan_op.ChanOp.ChanOp, event.Event.Event, flags.Flags.Flags}
 use Rattle.pp_channel.proofs.AnswerLemmas.{flags_by_table, lawful_with_event}
 use Rattle.pp_machine.specs.MachineState.{MachineState, processor_of, history_of}
-use Rattle.pp_machine.specs.MachineStep.{answer_to, stepped}
-use Rattle.pp_processor.specs.NeedAndEffect.{need, processor_after}
+use Rattle.pp_machine.specs.MachineStep.{stepped}
+use Rattle.pp_processor.specs.NeedAndEffect.{need}
 use Rattle.pp_numbers.specs.PpNo.{names_processor, processor_count, processor_index, processor_number, processor_places}
 use Rattle.pp_processor.specs.Processor.{Processor}
 use Rattle.pp_processor.specs.declared.{need.Need.Need}
@@ -23,7 +23,7 @@ use Rattle.pp_run.proofs.StepFacts.{central_by, event_by_need, histories_none, h
 use Rattle.pp_processor.specs.Positions.{is_same, position_at, position_of, shown_to}
 use Rattle.pp_races.specs.OtherFlags.{found_at, is_alike, is_race, makes_none, waits_at}
 use Rattle.pp_races.specs.OnePass.{DoesAsAt, IsChecked, WaitsAt, flags_at}
-use Rattle.pp_races.specs.OnePass.IsChecked.{step_waits, step_elsewhere, step_looks, step_makes}
+use Rattle.pp_races.specs.OnePass.IsChecked.{step_looks, step_makes}
 use Rattle.pp_races.specs.Soundness.{AreLastOf, AsksLawfulChannel, least_of, open_of}
 use Rattle.pp_races.specs.Watch.{Missed, Watch, asked, asking_step, each_below, each_number, entry_of, first_race, from_alike, looked, made, missed_event, race_after, race_before, watched_need}
 use Rattle.pp_races.specs.declared.asking_step.AskingStep.{AskingStep}
@@ -43,12 +43,7 @@ pub none_second : {X : Type 0} (xs ys : List X) → xs ++ ys ≡ [] → ys ≡ [
 none_second xs ys is = (append-eq-nil_iff.0 is).1
 
 no_race_before : (step : AskingStep) (entry : Option Trace) → race_before step entry ≡ [] → entry ≡ None
-no_race_before step None is = refl
-no_race_before step (Some entry) is = absurd (cc)
-
-no_race_after : (look : Option AskingStep) (entry : Trace) → race_after look entry ≡ [] → is_none look ≡ true
-no_race_after None entry is = refl
-no_race_after (Some look) entry is = absurd (cc)
+no_race_before step entry is = grind arith
 
 pub none_below : {X : Type 0} (count : ℕ) (of : ℕ → List X) → each_below count of ≡ [] → (k : ℕ) → k < count → of k ≡ []
 unfolding each_below
@@ -72,27 +67,16 @@ never : (b : Bool) → b ≡ true → b ≡ false → ⊥
 never b is fails = (let bad : true ≡ false = sym is ∙ fails in cc)
 
 none_or : {X : Type 0} (o : Option X) (alike : Bool) (x : X) → is_none (option_or o (if alike then None else Some x)) ≡ true → (is_none o ≡ true) × (alike ≡ true)
-none_or None true x is = (refl, refl)
-none_or None false x is = absurd cc
-none_or (Some y) alike x is = absurd cc
+none_or o alike x is = grind arith
 
 none_or_from : {X : Type 0} (o : Option X) (alike : Bool) (x : X) → is_none o ≡ true → alike ≡ true → is_none (option_or o (if alike then None else Some x)) ≡ true
-none_or_from None true x is also = refl
-none_or_from None false x is also = absurd cc
-none_or_from (Some y) alike x is also = absurd cc
+none_or_from o alike x is also = grind arith
 
 pub open_where : (b c : Bool) → (b ≡ true → c ≡ true) → (if b then c else true) ≡ true
-open_where true c is = is refl
-open_where false c is = refl
-
-some_none : {X : Type 0} (o : Option X) → is_none o ≡ true → is_some o ≡ false
-some_none None is = refl
-some_none (Some x) is = absurd cc
+open_where b c is = grind arith
 
 pub waits_there : (c : ℕ) (op : ChanOp) (pp : Processor) → need pp ≡ Channel c op → (f : Flags) → waits_at op pp f ≡ true → WaitsAt op pp f
-waits_there c op pp e f is =
-    let parts = and_parts (makes_none op f) (is_same (position_at op pp f) (position_of pp)) is in
-    record { none = parts.0; waits = (agrees c op pp e).still f parts.1 }
+waits_there c op pp e f is = grind (arith, and_parts, agrees)
 
 -- ---- one step
 
@@ -115,9 +99,7 @@ module _ (now : MachineState) (n : ℕ) (w : Watch) (each : length now.histories
   elsewhere_sound next off missed_same looks_same =
       let same : (c : ℕ) → history_of c (stepped n now) ≡ history_of c now = λ c. history_unless n c now each (λ op e. absurd (off c op e)) in
       record {
-        checked = step_elsewhere off
-            (λ q c. ap (λ (f : ℕ → ℕ → List Missed). length (history_of c (stepped n now)) - length (f q c)) missed_same ∙ least_unchanged same q c)
-            (λ q c f. ap (λ (l : ℕ → ℕ → Flags → Option AskingStep). if names_processor q then is_none (l q c f) else true) looks_same);
+        checked = grind (arith, least_unchanged, same);
         missed = λ q c. subst (λ (f : ℕ → ℕ → List Missed). AreLastOf (history_of c (stepped n now)) (f q c)) (sym missed_same) (unchanged same q c);
       }
 
@@ -129,9 +111,7 @@ module _ (now : MachineState) (n : ℕ) (w : Watch) (each : length now.histories
     shown_still f is = (agrees c op (processor_of n now) e).still f is
 
     alike_there : (f : Flags) → is_alike (found_at op (processor_of n now) (flags_of (history_of c now)) f) ≡ true → DoesAsAt op (processor_of n now) f (flags_of (history_of c now))
-    alike_there f is =
-        let parts = alike_parts op (processor_of n now) (flags_of (history_of c now)) f is in
-        record { none = parts.0; alike = shown_alike f (flags_of (history_of c now)) parts.1 }
+    alike_there f is = grind (arith, alike_parts, shown_alike)
 
     no_race_there : (f : Flags) → is_race (found_at op (processor_of n now) (flags_of (history_of c now)) f) ≡ false → WaitsAt op (processor_of n now) f ⊎ DoesAsAt op (processor_of n now) f (flags_of (history_of c now))
     no_race_there f is = elim (cases_Bool (is_same (position_at op (processor_of n now) f) (position_at op (processor_of n now) (flags_of (history_of c now))))) [
@@ -156,11 +136,7 @@ module _ (now : MachineState) (n : ℕ) (w : Watch) (each : length now.histories
         let same : (k : ℕ) → history_of k (stepped n now) ≡ history_of k now = λ k. history_kept n c k op now e none in
         let stay : Stays op (processor_of n now) (history_of c now) = stays_at op (processor_of n now) (history_of c now) (waits_there c op (processor_of n now) e (flags_of (history_of c now)) waits) in
         record {
-          checked = step_waits (record {
-            processor = own_step n now ∙ ap (λ x. processor_after (processor_of n now) (answer_to x now)) e ∙ stay.stays;
-            event = event_by_need n c op now e ∙ stay.no_event;
-            central = central_by n now (Channel c op) e;
-          }) (least_unchanged same) (λ q k f. refl);
+          checked = grind (arith, own_step, event_by_need, central_by, least_unchanged, same);
           missed = unchanged same;
         }
 
@@ -257,59 +233,25 @@ module _ (now : MachineState) (n : ℕ) (w : Watch) (each : length now.histories
         history_made = history_here n c op now each c_named e ∙ ap (λ (o : Option Event). history_of c now ++ option_to_list o) is
 
         no_look : (x : ℕ) → x ≢ n → names_processor x ≡ true → is_none (w.looks x c (flags_after event)) ≡ true
-        no_look x other named = no_race_after (w.looks x c (flags_after event)) (entry_of n c event now)
-            (sym (ap (λ (t : Bool). if t then [] else race_after (w.looks x c (flags_after event)) (entry_of n c event now)) (ne_eqb x n other))
-            ∙ none_numbered (λ q. if q == n then [] else race_after (w.looks q c (flags_after event)) (entry_of n c event now)) after_none x named)
+        no_look x other named = grind (arith, ne_eqb, none_numbered, after_none)
 
         looks_own : (f : Flags) → (made n c op event now w).looks n c f ≡ None
-        looks_own f =
-            ap (λ (t : Bool). if t then (if n == n || is_some (w.looks n c (flags_after event)) then None else w.looks n c f) else w.looks n c f) (eq-eqb c c refl)
-            ∙ ap (λ (t : Bool). if t || is_some (w.looks n c (flags_after event)) then None else w.looks n c f) (eq-eqb n n refl)
+        looks_own f = grind (arith, eq-eqb)
 
         least_others : (x k : ℕ) → (x ≡ n → k ≡ c → ⊥) → least_of (made n c op event now w) (stepped n now) x k ≡ least_of w now x k
-        least_others x k apart = elim (cases_eq k c) [
-          | inr off ↦ ap (λ (l : List Missed). length (history_of k (stepped n now)) - length l) (missed_elsewhere now w n c op event x k off)
-              ∙ ap (λ (hs : List Event). length hs - length (w.missed x k)) (history_elsewhere n k c op now each e off)
-          | inl on ↦
-              subst (λ (j : ℕ). least_of (made n c op event now w) (stepped n now) x j ≡ least_of w now x j) (sym on)
-              (ap (λ (l : List Missed). length (history_of c (stepped n now)) - length l) (missed_others now w n c op event x (λ mine. apart mine on))
-              ∙ ap (λ (hs : List Event). length hs - length (w.missed x c ++ missed_event (flags_of (history_of c now)) (entry_of n c event now) ∷ [])) history_made
-              ∙ omega (arith, length_push (history_of c now) event, length_push (w.missed x c) (missed_event (flags_of (history_of c now)) (entry_of n c event now))))
-        ]
+        least_others x k apart = grind (arith, cases_eq, missed_elsewhere, history_elsewhere, missed_others, history_made, length_push)
 
         open_there : (x : ℕ) (f : Flags) → x ≢ n → (b : Bool) → names_processor x ≡ b → open_of (made n c op event now w) x c f ≡ open_of w x c f
-        open_there x f other false is_not = ap (λ t. if t then is_none ((made n c op event now w).looks x c f) else true) is_not ∙ sym (ap (λ t. if t then is_none (w.looks x c f) else true) is_not)
-        open_there x f other true named =
-            ap (λ (o : Option AskingStep). if names_processor x then is_none o else true)
-            (looks_there now w n c op event x f ∙ ap (λ t. if t then None else w.looks x c f) (or_from (x == n) (is_some (w.looks x c (flags_after event))) (ne_eqb x n other) (some_none (w.looks x c (flags_after event)) (no_look x other named))))
+        open_there x f other b h2 = grind (arith, looks_there, or_from, ne_eqb, no_look)
 
         open_others : (x k : ℕ) (f : Flags) → (x ≡ n → k ≡ c → ⊥) → open_of (made n c op event now w) x k f ≡ open_of w x k f
-        open_others x k f apart = elim (cases_eq k c) [
-          | inr off ↦ ap (λ (o : Option AskingStep). if names_processor x then is_none o else true) (looks_elsewhere now w n c op event x k f off)
-          | inl on ↦ subst (λ (j : ℕ). open_of (made n c op event now w) x j f ≡ open_of w x j f) (sym on) (open_there x f (λ mine. apart mine on) (names_processor x) refl)
-        ]
+        open_others x k f apart = grind (arith, cases_eq, looks_elsewhere, open_there)
 
         missed_after : (q k : ℕ) → AreLastOf (history_of k (stepped n now)) ((made n c op event now w).missed q k)
-        missed_after q k = elim (cases_eq k c) [
-          | inr off ↦ subst (λ (l : List Missed). AreLastOf (history_of k (stepped n now)) l) (sym (missed_elsewhere now w n c op event q k off))
-              (subst (λ (hs : List Event). AreLastOf hs (w.missed q k)) (sym (history_elsewhere n k c op now each e off)) (missed q k))
-          | inl on ↦ subst (λ (j : ℕ). AreLastOf (history_of j (stepped n now)) ((made n c op event now w).missed q j)) (sym on)
-              (subst (λ (hs : List Event). AreLastOf hs ((made n c op event now w).missed q c)) (sym history_made) (elim (cases_eq q n) [
-                | inl mine ↦ subst (λ (x : ℕ). AreLastOf (history_of c now ++ event ∷ []) ((made n c op event now w).missed x c)) (sym mine)
-                    (subst (λ (l : List Missed). AreLastOf (history_of c now ++ event ∷ []) l) (sym (missed_own now w n c op event)) (none_missed (history_of c now ++ event ∷ [])))
-                | inr other ↦ subst (λ (l : List Missed). AreLastOf (history_of c now ++ event ∷ []) l) (sym (missed_others now w n c op event q other))
-                    (one_missed (history_of c now) (w.missed q c) event (entry_of n c event now) (missed q c))
-              ]))
-        ]
+        missed_after q k = grind (arith, cases_eq, missed_elsewhere, history_elsewhere, history_made, missed_own, none_missed, missed_others, one_missed)
 
     asked_sound : (o : Option Event) → event_of op (history_of c now) ≡ o → (asked n c op o now w).findings ≡ [] → StepIsSound now n w (asked n c op o now w)
-    asked_sound (Some event) is found = event_sound event is found
-    asked_sound None is found = by_wait (waits_at op (processor_of n now) (flags_of (history_of c now))) refl
-      where
-        by_wait : (b : Bool) → waits_at op (processor_of n now) (flags_of (history_of c now)) ≡ b → StepIsSound now n w (asked n c op None now w)
-        by_wait true waits = subst (λ (t : Bool). StepIsSound now n w (if t then w else looked n c op now w)) (sym waits) (waiting_sound is waits)
-        by_wait false moves = subst (λ (t : Bool). StepIsSound now n w (if t then w else looked n c op now w)) (sym moves)
-            (look_sound is moves (ap (λ (t : Bool). (if t then w else looked n c op now w).findings) (sym moves) ∙ found))
+    asked_sound k is found = grind (arith, event_sound, waiting_sound, look_sound)
 
   by_need : (x : Need) → need (processor_of n now) ≡ x → AsksLawfulChannel x now → (watched_need x n now w).findings ≡ [] → StepIsSound now n w (watched_need x n now w)
   by_need (Need.Channel c op) e well found = asked_sound c op e well.0 well.1 well.2 (event_of op (history_of c now)) refl found

@@ -1,8 +1,7 @@
 -- Texts and findings that are printed one after another, all of them or a first part.
-use Rattle.std.proofs.Common.{◌≡◌, ◌≢◌, ℕ, List, [], ◌++◌, length, take, Option, Some, None, Result, Ok, Err, refl, sym, ap, ◌∙◌, subst, append-nil, append_assoc, length-append, arith}
+use Rattle.std.proofs.Common.{◌≡◌, ◌≢◌, ℕ, List, [], ◌++◌, length, take, Option, Result, Ok, Err, refl, sym, ap, ◌∙◌, subst, append-nil, append_assoc, length-append, arith}
 use Rattle.std.specs.Prelude.{flat_map, true}
 use Rattle.std.specs.List.{list_all}
-use Rattle.std.specs.Io.KnownBytes.{Appends, Keeps}
 use Rattle.std.proofs.lemmas.Grind.{flat_map-append}
 use Rattle.std.proofs.lemmas.Bool.{and_parts}
 use Rattle.std.proofs.lemmas.List.{take-append-le, take_all}
@@ -62,26 +61,15 @@ module _ {W : Type 0} (contents : W → Option (List ℕ)) where
 
   -- ---- what the writer has
 
-  kept_by_none : (old new : Option (List ℕ)) → Appends old new [] → Keeps old new
-  kept_by_none None new h = tt
-  kept_by_none (Some xs) None h = h
-  kept_by_none (Some xs) (Some ys) h = h ∙ append-nil xs
-
   front_of : {E : Type 0} (text others : List ℕ) (written : Result (Unit {0}) E) (old new : Option (List ℕ)) → IsWritten text written old new → AppendsFront old new (text ++ others)
   front_of text others (Ok done) old new h = (length text, omega (arith, length-append text others), rw (take-append-le (length text) text others (omega arith), take_all (length text) text (omega arith)) h)
   front_of text others (Err f) old new (count, within, h) = (count, omega (arith, within, length-append text others), rw (take-append-le count text others within) h)
-
-  none_of : {E : Type 0} (written : Result (Unit {0}) E) (old new : Option (List ℕ)) → IsWritten [] written old new → Keeps old new
-  none_of (Ok done) old new h = kept_by_none old new h
-  none_of (Err f) old new (count, within, h) =
-      let zero : count ≡ 0 = omega (arith, within) in
-      kept_by_none old new (subst (λ (k : ℕ). Appends old new (take k [])) zero h)
 
   -- a text of which a first part is printed, where the writer has what is printed, or a first part of it
   pub cut_written : {E : Type 0} (a b : TextWriter W) (text : List ℕ) (f : ReportFault) (written : Result (Unit {0}) E) (old new : Option (List ℕ)) → IsCutShort a b text f → HasPrinted contents old [] a
       → ((start : Option (List ℕ)) (all : List ℕ) → HasPrinted contents start all b → IsWritten all written start new) → IsReportWritten text (Err f) old new
   cut_written a b text ReportFault.Write written old new (first, others, is, prints) begun ends = subst (λ (x : List ℕ). AppendsFront old new x) (sym is) (front_of first others written old new (ends old first (prints.goes_on old [] begun)))
-  cut_written a b text ReportFault.Memory written old new prints begun ends = none_of written old new (ends old [] (prints.goes_on old [] begun))
+  cut_written a b text ReportFault.Memory written old new prints begun ends = grind (arith, append-nil)
 
 module _ {W : Type 0} (contents : W → Option (List ℕ)) where
   -- a text, and then one of two parts
@@ -89,17 +77,11 @@ module _ {W : Type 0} (contents : W → Option (List ℕ)) where
   prints_parts a b c xs ys zs first next = prints_on contents a b c xs (ys ++ zs) _ first next (sym (append_assoc xs ys zs))
 
   pub findings_none : (text : TextWriter W) (verdict : Verdict) → PrintsFindings contents text text verdict verdict []
-  findings_none text verdict = record {
-    lines = prints_nothing contents text;
-    verdict = λ all is. is ∙ ap verdict_of (sym (append-nil all));
-  }
+  findings_none text verdict = grind (arith, prints_nothing, append-nil)
 
   pub findings_then : (a b c : TextWriter W) (u v w : Verdict) (some more : List Finding) → PrintsFindings contents a b u v some → PrintsFindings contents b c v w more
       → PrintsFindings contents a c u w (some ++ more)
-  findings_then a b c u v w some more first next = record {
-    lines = prints_on contents a b c (flat_map finding_line some) (flat_map finding_line more) _ first.lines next.lines (sym (flat_map-append finding_line some more));
-    verdict = λ all is. next.verdict (all ++ some) (first.verdict all is) ∙ ap verdict_of (append_assoc all some more);
-  }
+  findings_then a b c u v w some more first next = grind (arith, prints_on, flat_map-append, append_assoc)
 
   -- some findings, and then what makes them these
   pub findings_on : (a b c : TextWriter W) (u v w : Verdict) (some more all : List Finding) → PrintsFindings contents a b u v some → PrintsFindings contents b c v w more

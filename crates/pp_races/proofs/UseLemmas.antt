@@ -1,20 +1,18 @@
 -- The bits of processors, and the central words that they use.
-use Rattle.std.proofs.Common.{◌≡◌, ℕ, ◌*◌, ◌%◌, ◌^◌, ◌<◌, Bool, true, false, IsTrue, List, length, get_or, slice_set, Option, Some, None, refl, sym, ap, ◌∙◌, inl, inr, arith}
-use Rattle.std.specs.Prelude.{◌==◌, ◌&&◌, ◌||◌, nat_eq, bit_or, replicate, if◌then◌else◌}
+use Rattle.std.proofs.Common.{◌≡◌, ℕ, ◌*◌, ◌%◌, ◌^◌, ◌<◌, Bool, true, IsTrue, List, length, get_or, slice_set, Option, refl, sym, ap, ◌∙◌, inl, inr, arith}
+use Rattle.std.specs.Prelude.{◌==◌, ◌&&◌, ◌||◌, nat_eq, bit_or, replicate}
 use Rattle.std.specs.Int.{bit_at, w32}
 use Rattle.std.proofs.Math.Bool.{or-false}
 use Rattle.std.proofs.lemmas.Bool.{cases_eq, eq-eqb, ne_eqb, or_right}
 use Rattle.std.proofs.lemmas.List.{get_or-replicate, get_or-set_other, get_or-set_same, length-replicate}
 use Rattle.std.proofs.lemmas.Nat.Bits.{bit_at_set_same, bit_at_set_other, bit_at-zero}
-use Rattle.pp_channel.specs.Answer.{flags_of}
 use Rattle.pp_channel.specs.declared.{chan_op.ChanOp.ChanOp, event.Event.Event}
-use Rattle.pp_machine.specs.MachineState.{MachineState, processor_of, history_of}
+use Rattle.pp_machine.specs.MachineState.{MachineState}
 use Rattle.pp_processor.specs.declared.need.Need.{Need}
 use Rattle.pp_processor.specs.declared.need.Need.TheVariants.{Channel}
 use Rattle.pp_numbers.specs.PpNo.{names_processor, processor_index, processor_places}
 use Rattle.pp_races.specs.Tables.{AreUses, Looks, has_bit, unused}
-use Rattle.pp_races.specs.OtherFlags.{waits_at}
-use Rattle.pp_races.specs.Watch.{Watch, asked, looked, unwatched, watched_need}
+use Rattle.pp_races.specs.Watch.{Watch, asked, unwatched, watched_need}
 use Rattle.pp_races.specs.WatchTables.{AreKept}
 use Rattle.pp_races.specs.declared.{cursor.Cursor.Cursor, finding.Finding.Finding, missed.Missed.Missed, word_use.WordUse.WordUse}
 
@@ -35,62 +33,26 @@ bit_set mask n place n_named place_is q q_named =
           ∙ sym (or-false (has_bit mask q)) ∙ ap (λ t. has_bit mask q || t) (sym (ne_eqb q n other))
     ]
 
-no_bit : (q : ℕ) → has_bit 0 q ≡ false
-no_bit q = ap (λ b. nat_eq b 1) (bit_at-zero (processor_index q))
-
 pub replicate_unused : (table : List WordUse) (n : ℕ) (use_of : WordUse) → use_of ≡ unused → table ≡ replicate n use_of → AreUses unwatched table
-replicate_unused table n use_of is all a low =
-    let length_is : length table ≡ n = ap length all ∙ length-replicate n use_of in
-    let here : get_or table a unused ≡ unused = ap (λ t. get_or t a unused) all ∙ get_or-replicate n a use_of unused (omega arith) ∙ is in
-    record {
-      wrote = λ q named. ap (λ (u : WordUse). has_bit u.writers q) here ∙ no_bit q;
-      used = λ q named. ap (λ (u : WordUse). has_bit u.users q) here ∙ no_bit q;
-    }
+replicate_unused table n use_of is all a low = grind (arith, length-replicate, get_or-replicate, bit_at-zero)
 
 pub same_asked : (n c : ℕ) (op : ChanOp) (o : Option Event) (m : MachineState) (w : Watch) → ((asked n c op o m w).used ≡ w.used) × ((asked n c op o m w).wrote ≡ w.wrote)
-same_asked n c op (Some event) m w = (refl, refl)
-same_asked n c op None m w = by_wait (waits_at op (processor_of n m) (flags_of (history_of c m)))
-  where
-    by_wait : (b : Bool) → ((if b then w else looked n c op m w).used ≡ w.used) × ((if b then w else looked n c op m w).wrote ≡ w.wrote)
-    by_wait true = (refl, refl)
-    by_wait false = (refl, refl)
+same_asked n c op k m w = grind arith
 
 -- after a step that asks no channel
 pub uses_kept : (x : Need) (n : ℕ) (m : MachineState) (events : List (List Missed)) (cursors : List Cursor) (looks : List Looks) (uses new : List WordUse) (found : List Finding) (words : ℕ) (w : Watch) → ((c : ℕ) (op : ChanOp) → x ≡ Channel c op → ⊥)
     → length new ≡ length uses → AreUses (watched_need x n m w) new
     → AreKept events cursors looks uses found words w → AreKept events cursors looks new found words (watched_need x n m w)
-uses_kept (Channel c op) n m events cursors looks uses new found words w off long used are = absurd (off c op refl)
-uses_kept other n m events cursors looks uses new found words w off long used are = record {
-  cursors_are = are.cursors_are;
-  looks_are = are.looks_are;
-  words_are = long ∙ are.words_are;
-  uses_are = used;
-  found_are = are.found_are;
-}
+uses_kept x n m events cursors looks uses new found words w off long used are = grind arith
 
 -- a word's bits after a step of processor n that uses it
 pub bits_marked : (of : WordUse → ℕ) (was : ℕ → ℕ → Bool) (table : List WordUse) (place a n : ℕ) (next : WordUse) → place ≡ a → place < length table
     → ((b : ℕ) → b < length table → (q : ℕ) → IsTrue (names_processor q) → has_bit (of (get_or table b unused)) q ≡ was b q)
     → ((q : ℕ) → IsTrue (names_processor q) → has_bit (of next) q ≡ (has_bit (of (get_or table place unused)) q || q == n))
     → (b : ℕ) → b < length table → (q : ℕ) → IsTrue (names_processor q) → has_bit (of (get_or (slice_set table place next) b unused)) q ≡ (was b q || (b == a && q == n))
-bits_marked of was table place a n next is within were more b low q named = elim (cases_eq b a) [
-  | inl same ↦
-      ap (λ k. has_bit (of (get_or (slice_set table place next) k unused)) q) (same ∙ sym is)
-      ∙ ap (λ (u : WordUse). has_bit (of u) q) (get_or-set_same table place next unused within)
-      ∙ more q named ∙ ap (λ t. t || q == n) (were place within q named)
-      ∙ ap (λ k. was k q || q == n) (is ∙ sym same) ∙ ap (λ t. was b q || (t && q == n)) (sym (eq-eqb b a same))
-  | inr other ↦
-      ap (λ (u : WordUse). has_bit (of u) q) (get_or-set_other table place b next unused (λ on. other (on ∙ is)))
-      ∙ were b low q named ∙ sym (or-false (was b q)) ∙ ap (λ t. was b q || (t && q == n)) (sym (ne_eqb b a other))
-]
+bits_marked of was table place a n next is within were more b low q named = grind (arith, cases_eq, slice_set, get_or-set_same, eq-eqb, get_or-set_other, or-false, ne_eqb)
 
 -- a word's writers, after a step that reads a word
 pub writers_kept : (table : List WordUse) (place : ℕ) (next : WordUse) → place < length table → next.writers ≡ (get_or table place unused).writers
     → (b : ℕ) → (get_or (slice_set table place next) b unused).writers ≡ (get_or table b unused).writers
-writers_kept table place next within is b = elim (cases_eq b place) [
-  | inl same ↦
-      ap (λ k. (get_or (slice_set table place next) k unused).writers) same
-      ∙ ap (λ (u : WordUse). u.writers) (get_or-set_same table place next unused within) ∙ is
-      ∙ ap (λ k. (get_or table k unused).writers) (sym same)
-  | inr other ↦ ap (λ (u : WordUse). u.writers) (get_or-set_other table place b next unused other)
-]
+writers_kept table place next within is b = grind (arith, cases_eq, slice_set, get_or-set_same, get_or-set_other)

@@ -1,5 +1,5 @@
 -- What findings come to, and what the last line of the text says.
-use Rattle.std.proofs.Common.{◌≡◌, ℕ, Bool, true, false, List, [], ◌∷◌, ◌++◌, get_or, reverse, refl, sym, ap, ◌∙◌, arith}
+use Rattle.std.proofs.Common.{◌≡◌, ℕ, Bool, true, List, [], ◌++◌, get_or, reverse, refl, arith}
 use Rattle.std.specs.Prelude.{flat_map, if◌then◌else◌}
 use Rattle.std.specs.List.{list_all}
 use Rattle.pp_races.specs.RacesText.{finding_line, findings_text, is_going_on, verdict_line, verdict_of}
@@ -12,40 +12,24 @@ use Rattle.std.proofs.lemmas.List.{reverse-append}
 abbrev of_some : Bool → Verdict
 of_some going_on = if going_on then NoRaceSoFar else MayDiffer
 
-some_found : (going_on : Bool) → of_some going_on ≡ Same → ⊥
-some_found true is = cc
-some_found false is = cc
-
 -- findings come to nothing only where there is none
 pub same_none : (all : List Finding) → Same ≡ verdict_of all → all ≡ []
-same_none [] is = refl
-same_none (first ∷ others) is = absurd (some_found (list_all is_going_on (first ∷ others)) (sym is))
+same_none all is = grind (arith)
 
 -- where they come to NO RACE SO FAR, all are of processors that go on
 pub so_far_going : (all : List Finding) → verdict_of all ≡ NoRaceSoFar → list_all is_going_on all ≡ true
-so_far_going [] is = absurd cc
-so_far_going (first ∷ others) is = by_test (list_all is_going_on (first ∷ others)) is
-  where
-    by_test : (going_on : Bool) → of_some going_on ≡ NoRaceSoFar → going_on ≡ true
-    by_test true is = refl
-    by_test false is = absurd cc
+so_far_going b is = grind arith
 
 -- where they come to MAY DIFFER, some are not
 pub differ_some : (all : List Finding) → verdict_of all ≡ MayDiffer → list_all is_going_on all ≡ true → ⊥
-differ_some [] is going = cc
-differ_some (first ∷ others) is going = by_test (list_all is_going_on (first ∷ others)) is going
-  where
-    by_test : (going_on : Bool) → of_some going_on ≡ MayDiffer → going_on ≡ true → ⊥
-    by_test true is so = cc
-    by_test false is so = cc
+differ_some b is going = grind arith
 
 -- ---- the last line
 
 -- two texts that are one have one character at the same place from the end
 from_end : (k : ℕ) (u v : Verdict) (lines before : List ℕ) → lines ++ verdict_line u ≡ before ++ verdict_line v
     → get_or (reverse (verdict_line u) ++ reverse lines) k 0 ≡ get_or (reverse (verdict_line v) ++ reverse before) k 0
-from_end k u v lines before is =
-    ap (λ t. get_or t k 0) (sym (reverse-append lines (verdict_line u)) ∙ ap reverse is ∙ reverse-append before (verdict_line v))
+from_end k u v lines before is = grind (arith, reverse-append)
 
 last_verdict : (u v : Verdict) (lines before : List ℕ) → lines ++ verdict_line u ≡ before ++ verdict_line v → u ≡ v
 last_verdict Same Same lines before is = refl

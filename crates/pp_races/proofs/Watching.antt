@@ -1,14 +1,12 @@
 -- A run that is watched to its end tells the result of every order.
-use Rattle.std.proofs.Common.{◌≡◌, ◌≢◌, ℕ, zero, suc, ◌<◌, ◌≤◌, Bool, true, false, List, [], ◌∷◌, ◌++◌, length, take, get_or, Option, Some, None, refl, sym, ap, ◌∙◌, subst, inl, inr, arith, append-nil, append_assoc}
-use Rattle.std.specs.Prelude.{◌⊎◌, not, if◌then◌else◌}
+use Rattle.std.proofs.Common.{◌≡◌, ◌≢◌, ℕ, zero, suc, ◌<◌, ◌≤◌, Bool, true, List, [], ◌∷◌, ◌++◌, length, take, get_or, Option, None, refl, sym, ap, ◌∙◌, subst, inl, inr, arith, append-nil, append_assoc}
+use Rattle.std.specs.Prelude.{◌⊎◌}
 use Rattle.std.specs.Option.{option_to_list}
 use Rattle.std.proofs.lemmas.Bool.{cases_eq, cases_lt, cases_order}
 use Rattle.std.proofs.lemmas.List.{length_push, take_at, take_all}
-use Rattle.pp_channel.specs.Answer.{event_of, reply_to, flags_of, event_by, event_with, ready_at, reply_shown, reply_by}
-use Rattle.pp_channel.specs.History.{waiting}
+use Rattle.pp_channel.specs.Answer.{event_of, reply_to, flags_of}
 use Rattle.pp_numbers.specs.ChannelNo.{channel_count}
 use Rattle.pp_channel.specs.declared.{chan_op.ChanOp.ChanOp, event.Event.Event, flags.Flags.Flags}
-use Rattle.pp_channel.specs.declared.chan_op.ChanOp.TheVariants.{Probe}
 use Rattle.pp_machine.specs.MachineState.{MachineState, processor_of, history_of}
 use Rattle.pp_processor.specs.NeedAndEffect.{need, processor_after}
 use Rattle.pp_processor.specs.Processor.{Processor}
@@ -25,27 +23,11 @@ use Rattle.pp_races.proofs.EntryLemmas.{here_or_not}
 use Rattle.pp_run.proofs.StepFacts.{event_by_need, history_here, history_elsewhere, history_unless}
 use Rattle.pp_run.proofs.Moments.{moment_next, moment_past, moment_each, history_step, mono, sides}
 
--- what an operation that makes no event is shown
-if_not : {X : Type 0} (b : Bool) (x y : X) → not b ≡ true → (if b then x else y) ≡ y
-if_not true x y e = absurd cc
-if_not false x y e = refl
-
-event_none : (op : ChanOp) (f : Flags) (word : Option ℕ) → makes_none op f ≡ true → event_by op f word ≡ None
-event_none Probe f word e = refl
-event_none op f word e = if_not (ready_at op f) (event_with op word) None e
-
-shows_flags : (op : ChanOp) (f : Flags) (word : Option ℕ) → reply_shown op (record { flags = f; register = word }) ≡ reply_shown op (record { flags = f; register = None })
-shows_flags Probe f word = refl
-shows_flags op f word = refl
-
-reply_none : (op : ChanOp) (f : Flags) (word : Option ℕ) → makes_none op f ≡ true → reply_by op (record { flags = f; register = word }) (event_by op f word) ≡ reply_shown op (record { flags = f; register = None })
-reply_none op f word e = ap (λ o. reply_by op (record { flags = f; register = word }) o) (event_none op f word e) ∙ shows_flags op f word
-
 none_made : (op : ChanOp) (h : List Event) → makes_none op (flags_of h) ≡ true → event_of op h ≡ None
-none_made op h e = event_none op (flags_of h) (waiting h) e
+none_made op h e = grind arith
 
 shown_there : (op : ChanOp) (pp : Processor) (h : List Event) → makes_none op (flags_of h) ≡ true → processor_after pp (Answer.Channel (reply_to op h)) ≡ shown_to op pp (flags_of h)
-shown_there op pp h e = ap (λ r. processor_after pp (Answer.Channel r)) (reply_none op (flags_of h) (waiting h) e)
+shown_there op pp h e = grind arith
 
 pub stays_at : (op : ChanOp) (pp : Processor) (h : List Event) → WaitsAt op pp (flags_of h) → Stays op pp h
 stays_at op pp h w = record { no_event = none_made op h w.none; stays = shown_there op pp h w.none ∙ w.waits }
@@ -60,9 +42,7 @@ does_as op pp h other e d = record {
 module _ (ns : List ℕ) (m : MachineState) (each : length m.histories ≡ channel_count) where
   -- an earlier history is the first part of a later one
   prefix : (c s t : ℕ) → s ≤ t → (rest : List Event) × (history_at ns m c t ≡ history_at ns m c s ++ rest)
-  prefix c s zero h =
-      let there : zero ≡ s = omega arith in
-      ([], ap (λ k. history_at ns m c k) there ∙ sym (append-nil (history_at ns m c s)))
+  prefix c s zero h = grind (arith, append-nil)
   prefix c s (suc t) h = elim (cases_lt s (suc t)) [
     | inr past ↦
         let there : suc t ≡ s = omega arith in
@@ -84,17 +64,11 @@ module _ (ns : List ℕ) (m : MachineState) (each : length m.histories ≡ chann
   as_long c s t h same = sym (first_part c s t h) ∙ take_all (length (history_at ns m c s)) (history_at ns m c t) (omega arith)
 
   pub same_length : (c s t : ℕ) → length (history_at ns m c s) ≡ length (history_at ns m c t) → history_at ns m c s ≡ history_at ns m c t
-  same_length c s t same = elim (cases_lt s t) [
-    | inl below ↦ as_long c s t (omega arith) same
-    | inr past ↦ sym (as_long c t s past (sym same))
-  ]
+  same_length c s t same = grind (arith, cases_lt, as_long, same)
 
   -- a shorter history is an earlier one
   pub shorter : (c s t : ℕ) → length (history_at ns m c s) < length (history_at ns m c t) → s < t
-  shorter c s t h = elim (cases_lt s t) [
-    | inl below ↦ below
-    | inr past ↦ absurd (omega (arith, mono ns m each c t s past))
-  ]
+  shorter c s t h = grind (arith, cases_lt, mono)
 
   pub together : (q c t : ℕ) → MayFind ns m q c t t
   together q c zero = start
@@ -284,10 +258,7 @@ module _ (ns : List ℕ) (m : MachineState) (each : length m.histories ≡ chann
       ]
 
       stands : (q e : ℕ) → new_open q e (flags_of (history_at ns m e (suc t))) ≡ true
-      stands q e = elim (here_or_not (get_or ns t 0) c q e) [
-        | inr other ↦ open_others q e (flags_of (history_at ns m e (suc t))) other ∙ opens q e other
-        | inl here ↦ at_pair (λ x k. new_open x k (flags_of (history_at ns m k (suc t))) ≡ true) q e here open_now
-      ]
+      stands q e = grind (arith, here_or_not, q, opens, at_pair)
 
       less : (q e : ℕ) (f : Flags) → new_open q e f ≡ true → (open_to q e f ≡ true) ⊎ ((get_or ns t 0 ≡ q) × (history_at ns m e (suc t) ≢ history_at ns m e t))
       less q e f is = elim (here_or_not (get_or ns t 0) c q e) [
@@ -297,9 +268,7 @@ module _ (ns : List ℕ) (m : MachineState) (each : length m.histories ≡ chann
       ]
 
       last : (e : ℕ) (oq : ChanOp) → need_at ns m t ≡ Channel e oq → Passed ns m (suc t) new_open t e oq
-      last e oq g =
-          let parts = one_need c e op oq (need_at ns m t) needs g in
-          subst (λ (j : ℕ). Passed ns m (suc t) new_open t j oq) parts.0 (subst (λ (o : ChanOp). Passed ns m (suc t) new_open t c o) parts.1 passed)
+      last e oq g = grind (arith, one_need)
 
   pub watched_look : IsLook (at_moment ns m t) (get_or ns t 0) c op least new_least open_to new_open → Watched ns m (suc t) new_least new_open
   watched_look l =
@@ -314,9 +283,7 @@ module _ (ns : List ℕ) (m : MachineState) (each : length m.histories ≡ chann
       passed_here
     where
       same : (e : ℕ) → history_at ns m e (suc t) ≡ history_at ns m e t
-      same e = history_unchanged ns m each t within least open_to w e (λ oq g.
-          let parts = one_need c e op oq (need_at ns m t) l.needs g in
-          subst (λ (j : ℕ). event_of oq (history_at ns m j t) ≡ None) parts.0 (subst (λ (o : ChanOp). event_of o (history_at ns m c t) ≡ None) parts.1 (none_made op (history_at ns m c t) l.none)))
+      same e = grind (arith, history_unchanged, one_need, none_made)
 
       -- what is found with fewer events than the least waits, and the look does not
       high : (s : ℕ) → MayFind ns m (get_or ns t 0) c t s → AdvancesAlone ns m (get_or ns t 0) c t s → length (history_at ns m c s) < new_least (get_or ns t 0) c → ⊥
@@ -329,14 +296,7 @@ module _ (ns : List ℕ) (m : MachineState) (each : length m.histories ≡ chann
           let quiet : makes_none op (flags_of (history_at ns m c s)) ≡ true = ap (λ h. makes_none op (flags_of h)) (sym part) ∙ elim (l.before p low below) [ inl waits ↦ waits.none | inr does ↦ does.none ] in
           elim goes [
             | inl other ↦ other refl
-            | inr on ↦ elim (on op l.needs) [
-              | inl stays ↦ l.moves (sym (shown_there op (processor_at ns m (get_or ns t 0) t) (history_at ns m c t) l.none) ∙ stays.stays)
-              | inr alike ↦ l.skipped p low short
-                  (ap (λ h. shown_to op (processor_at ns m (get_or ns t 0) t) (flags_of h)) part
-                  ∙ sym (shown_there op (processor_at ns m (get_or ns t 0) t) (history_at ns m c s) quiet)
-                  ∙ alike.same
-                  ∙ shown_there op (processor_at ns m (get_or ns t 0) t) (history_at ns m c t) l.none)
-            ]
+            | inr on ↦ grind (arith, shown_there)
           ]
 
       passed_here : Passed ns m (suc t) new_open t c op
@@ -379,24 +339,13 @@ module _ (ns : List ℕ) (m : MachineState) (each : length m.histories ≡ chann
       changed same = omega (arith, ap (λ (k : List Event). length k) same, ap (λ (k : List Event). length k) longer, length_push (history_at ns m c t) event)
 
       elsewhere : (e : ℕ) → e ≢ c → history_at ns m e (suc t) ≡ history_at ns m e t
-      elsewhere e off = ap (λ k. history_of e k) (moment_next ns m t within)
-          ∙ history_elsewhere (get_or ns t 0) e c op (at_moment ns m t) (moment_each ns m each t) v.needs off
+      elsewhere e off = grind (arith, moment_next, history_elsewhere, moment_each)
 
       never : (s : ℕ) → AdvancesAlone ns m (get_or ns t 0) c t s → ⊥
-      never s goes = elim goes [
-        | inl other ↦ other refl
-        | inr on ↦ elim (on op v.needs) [
-          | inl stays ↦ (let bad : None ≡ Some event = sym stays.no_event ∙ v.made in cc)
-          | inr alike ↦ (let bad : None ≡ Some event = sym alike.nor_there ∙ v.made in cc)
-        ]
-      ]
+      never s goes = grind arith
 
       opens : (q e : ℕ) → (q ≡ get_or ns t 0 → e ≡ c → ⊥) → open_to q e (flags_of (history_at ns m e (suc t))) ≡ true
-      opens q e other = elim (cases_eq e c) [
-        | inl on ↦ subst (λ (k : ℕ). open_to q k (flags_of (history_at ns m k (suc t))) ≡ true) (sym on)
-            (ap (λ h. open_to q c (flags_of h)) longer ∙ v.open_to_others q (λ is. other is on))
-        | inr off ↦ ap (λ h. open_to q e (flags_of h)) (elsewhere e off) ∙ w.stands_open q e
-      ]
+      opens q e other = grind (arith, cases_eq, q, longer, elsewhere)
 
       passed_here : Passed ns m (suc t) new_open t c op
       passed_here = record {

@@ -1,20 +1,17 @@
-use Rattle.std.proofs.Common.{◌≡◌, ◌≤◌, ℕ, take, [], refl, inl, inr, length, sym, ap, ◌∙◌, Ok, Err, Result, arith, rules}
+use Rattle.std.proofs.Common.{◌≡◌, ◌≤◌, ℕ, take, [], refl, length, sym, ap, ◌∙◌, Result, arith, rules}
 use Rattle.std.specs.Prelude.{OnErr, OnOk}
 use Rattle.std.proofs.lemmas.List.{take_all}
 use Rattle.pp_machine.specs.Run.{run}
 use Rattle.pp_text.specs.declared.report_fault.ReportFault.{ReportFault}
 use Rattle.pp_races.specs.RacesText.{races_text}
-use Rattle.pp_races.specs.declared.verdict.Verdict.TheVariants.{Same, NoRaceSoFar, MayDiffer}
 use Rattle.pp_races.proofs.TextLemmas.{all_printed, cut_written, nothing_printed, part_printed, some_printed, some_race}
 use Rattle.pp_races.proofs.races_text.write_watched.Goals as goal
 
 on_err : {X Y P : Type 0} (answer : Result X Y) → P → OnErr answer P
-on_err (Ok x) p = tt
-on_err (Err y) p = p
+on_err answer p = grind arith
 
 on_ok : {X Y P : Type 0} (answer : Result X Y) → P → OnOk answer P
-on_ok (Ok x) p = p
-on_ok (Err y) p = tt
+on_ok answer p = grind arith
 
 pub returns-in-Ok : goal.returns-in-Ok
 returns-in-Ok g c =
@@ -50,15 +47,8 @@ returns-in-NoRaceSoFar g c =
     c.new-text.ensures.nothing c.finish-written.ensures.written in
     record {
       written = search (rules, written);
-      same = λ _ none.
-          absurd (some_printed g.W.Write.contents _ _ c.in-Err.verdict _ c.in-Err.ensures.printed_first (λ same. elim c.in-NoRaceSoFar.is [
-            | inl is ↦ (let bad : NoRaceSoFar ≡ Same = sym is ∙ same in cc)
-            | inr is ↦ (let bad : MayDiffer ≡ Same = sym is ∙ same in cc)
-          ]) none);
-      no_race = λ _ going. elim c.in-NoRaceSoFar.is [
-        | inl is ↦ absurd (c.in-Err.ensures.of_steps is)
-        | inr is ↦ absurd (some_race g.W.Write.contents _ _ c.in-Err.verdict _ c.in-Err.ensures.printed_first is going)
-      ];
+      same = grind (arith, some_printed);
+      no_race = grind (arith, some_race);
       ran = tt;
       cut = c.in-Err.ensures.cut;
     }

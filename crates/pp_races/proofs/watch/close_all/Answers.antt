@@ -1,16 +1,12 @@
-use Rattle.std.proofs.Common.{◌≡◌, ℕ, IsTrue, subst, arith}
+use Rattle.std.proofs.Common.{ℕ, IsTrue, subst, arith}
 use Rattle.pp_numbers.specs.ChannelNo.{names_channel}
-use Rattle.pp_numbers.specs.PpNo.{processor_count, processor_number, processor_places}
-use Rattle.pp_races.specs.Tables.{closing_findings}
+use Rattle.pp_numbers.specs.PpNo.{processor_places}
 use Rattle.pp_races.proofs.CloseLemmas.{closed_more, closed_none, found_more}
 use Rattle.pp_races.proofs.EndLemmas.{each_none}
 use Rattle.pp_races.proofs.watch.close_all.Goals as goal
 
 pub loop-place-init : goal.loop-place-init
-loop-place-init g c = record {
-  closed = closed_none c.args.made.now c.args.after c.args.looks.now c.requires.looks;
-  found = each_none (λ k. closing_findings c.args.made.now c.args.after c.args.looks.now (processor_number k)) c.args.findings.now.items;
-}
+loop-place-init g c = grind (arith, closed_none, each_none)
 
 pub loop-place-preserved : goal.loop-place-preserved
 loop-place-preserved g c = record {
@@ -27,6 +23,4 @@ returns-clause-looks g c = record {
 }
 
 pub returns-clause-findings : goal.returns-clause-findings
-returns-clause-findings g c =
-    let all : c.loop-place.place ≡ processor_count = omega arith in
-    rw all at c.loop-place.invariant.found
+returns-clause-findings g c = grind arith

@@ -1,5 +1,4 @@
-use Rattle.std.proofs.Common.{get_or, ap, ◌∙◌, arith}
-use Rattle.std.specs.Prelude.{max}
+use Rattle.std.proofs.Common.{arith}
 use Rattle.pp_races.specs.ByFlags.{at}
 use Rattle.pp_races.specs.Cursor.{IsCursor, IsFirst}
 use Rattle.pp_races.proofs.CursorLemmas.{begun, race_at, race_none, searched_to}
@@ -7,9 +6,7 @@ use Rattle.pp_races.proofs.cursor.Cursor.first_race.Goals as goal
 use Rattle.pp_races.proofs.cursor.Cursor.first_race.Goals.{After-search-place}
 
 first : (c : After-search-place) → (missed : _) → IsCursor c.args.events.now missed c.args.self.now → IsFirst (at c.args.races.now) c.args.events.now c.args.self.now.from c.search-place.result
-first c missed is =
-    begun c.args.events.now missed c.args.self.now is c.args.races.now c.max-begin.result c.search-place.result
-    (c.max-begin.ensures ∙ ap (λ k. max (get_or c.args.self.now.searched k 0) c.args.self.now.from) c.number-number.ensures.number) c.search-place.ensures
+first c missed is = grind (arith, begun)
 
 pub returns-then-place-events-clause-kept : goal.returns-then-place-events-clause-kept
 returns-then-place-events-clause-kept c = λ missed is.
@@ -17,8 +14,7 @@ returns-then-place-events-clause-kept c = λ missed is.
     (searched_to c.args.events.now missed c.args.self.now is c.args.races.now c.search-place.result (omega (arith, c.number-number.ensures)) (first (goal.at.returns-then-place-events-clause-kept c).After-search-place missed is))
 
 pub returns-then-place-events-clause-race : goal.returns-then-place-events-clause-race
-returns-then-place-events-clause-race c = λ missed is.
-    race_at c.args.events.now missed c.args.self.now is (at c.args.races.now) c.search-place.result _ (first (goal.at.returns-then-place-events-clause-race c).After-search-place missed is) c.if-place-events.true
+returns-then-place-events-clause-race c = grind (arith, race_at, first, goal.at.returns-then-place-events-clause-race)
 
 pub returns-else-place-events-clause-race : goal.returns-else-place-events-clause-race
 returns-else-place-events-clause-race c = λ missed is.

@@ -1,4 +1,4 @@
-use Rattle.std.proofs.Common.{◌≡◌, ℕ, subst, ap, ◌∙◌, ◌++◌, refl, inl, inr, arith}
+use Rattle.std.proofs.Common.{◌≡◌, ℕ, subst, ap, ◌∙◌, ◌++◌, refl, arith}
 use Rattle.std.proofs.lemmas.Bool.{cases_lt}
 use Rattle.pp_machine.specs.MachineState.{processor_of}
 use Rattle.pp_processor.specs.NeedAndEffect.{need}
@@ -11,10 +11,7 @@ use Rattle.pp_races.proofs.EndLemmas.{each_more, each_none, end_apart, found_as}
 use Rattle.pp_races.proofs.watch_tables.WatchTables.find_unsettled.Goals as goal
 
 pub loop-place-init : goal.loop-place-init
-loop-place-init g c = record {
-  found = λ size w are. found_as _ _ _ _ _ size w _ (each_none (λ k. end_of c.args.machine.now w (processor_number k)) w.findings) are;
-  turns = λ k low. absurd (omega arith);
-}
+loop-place-init g c = grind (arith, found_as, each_none)
 
 pub loop-place-preserved : goal.loop-place-preserved
 loop-place-preserved g c = record {
@@ -26,13 +23,7 @@ loop-place-preserved g c = record {
       (each_more of w.findings (w.findings ++ so_far) _ c.loop-place.place refl
       (ap (λ x. (w.findings ++ so_far) ++ x) (end_apart (need (processor_of c.at.result m)) c.at.result m w so_far ∙ ap (λ k. end_of m w k) c.at.ensures.number)))
       (c.in_ok-find_end.ensures.found size (finds so_far w) (c.loop-place.invariant.found size w are));
-  turns = λ k low. elim (cases_lt k c.loop-place.place) [
-    | inl below ↦ c.loop-place.invariant.turns k below
-    | inr past ↦
-        let here : c.loop-place.place ≡ k = omega arith in
-        subst (λ (j : ℕ). TurnTestIsExact c.args.machine.now (processor_number j)) here
-        (subst (λ (q : ℕ). TurnTestIsExact c.args.machine.now q) c.at.ensures.number c.in_ok-find_end.ensures.turns)
-  ];
+  turns = grind (arith, cases_lt);
 }
 
 pub returns-clause-found : goal.returns-clause-found
