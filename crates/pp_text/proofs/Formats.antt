@@ -1,14 +1,13 @@
 -- The formats of what several texts show.
-use Rattle.std.proofs.Common.{All, ◌≡◌, ◌∙◌, ℕ, ◌+◌, ◌^◌, ◌<◌, ◌≤◌, Bool, true, false, List, [], ◌∷◌, ◌++◌, Option, Some, None, length, drop, refl, sym, ap, arith, codes, inl, inr}
+use Rattle.std.proofs.Common.{All, ◌≡◌, ◌∙◌, ℕ, ◌^◌, ◌<◌, ◌≤◌, Bool, true, false, List, [], ◌∷◌, ◌++◌, Option, Some, None, drop, refl, sym, ap, arith, codes, inl, inr}
 use Rattle.std.specs.Prelude.{◌==◌, ◌&&◌, IfSome, IsTrue, get_or, not, slice_index_or, if◌then◌else◌}
-use Rattle.std.specs.List.{flat_map, last_or}
+use Rattle.std.specs.List.{flat_map}
 use Rattle.std.proofs.lemmas.Bool.{and_parts, cases_lt, eqb-true, false_from_ne_true}
 use Rattle.pp_numbers.specs.ChannelNo.{all_channels, names_channel}
 use Rattle.pp_numbers.proofs.ChannelNoLemmas.{channel_fits}
 use Rattle.pp_numbers.specs.PpNo.{all_processors, is_named, names_processor, processor_index}
 use Rattle.pp_numbers.proofs.PpNoLemmas.{numbers_of_processors, processor_fits}
-use Rattle.pp_channel.specs.History.{HasTwelveBitWord, active, waiting, last_stretch, history_on}
-use Rattle.pp_channel.specs.Session.{puts, takes}
+use Rattle.pp_channel.specs.History.{HasTwelveBitWord, active, waiting, history_on}
 use Rattle.pp_channel.specs.declared.{event.Event.Event, flags.Flags.Flags}
 use Rattle.pp_processor.specs.Processor.{HasFaultNumber}
 use Rattle.pp_word.specs.Numeral.{unpadded}
@@ -149,14 +148,11 @@ channels_are histories = channels_by_number (used_channel_line histories) ∙ ma
     each : (c : ℕ) (b : Bool) (h : List Event) → (if b then channel_line c h else []) ≡ maybe_text (λ x. channel_row.text (c, x)) [] (if b then channel_shown h else None)
     each c b h = grind arith
 
-full_is_active : (h : List Event) → active h ≡ false → waiting h ≡ None
-full_is_active h is = ap (λ (b : Bool). if b && (length (puts (last_stretch h)) == length (takes (last_stretch h)) + 1) then last_or None (puts (last_stretch h)) else None) is
-
 pub channels_fit : (histories : List (List Event)) → ((c : ℕ) → IsTrue (names_channel c) → HistoryFits (history_on c histories)) → All IsChannelLine (channels_shown histories)
 channels_fit histories fits = maybe_rows_fit IsChannelLine (named_channel histories) (λ c low. each c low (names_channel c) (history_on c histories) (fits c))
   where
     each : (c : ℕ) → c < 0o100 → (b : Bool) (h : List Event) → (IsTrue b → HistoryFits h) → IfSome (if b then channel_shown h else None) (λ x. IsChannelLine (c, x))
-    each c low b h fits = grind (arith, full_is_active)
+    each c low b h fits = grind (arith)
 
 pub channels_same : (histories others : List (List Event)) → channels_shown histories ≡ channels_shown others → (c : ℕ) → IsTrue (names_channel c) → ShowSameChannel (history_on c histories) (history_on c others)
 channels_same histories others e c names = alike (names_channel c) (history_on c histories) (history_on c others) names (maybe_rows_tell (named_channel histories) (named_channel others) e c (channel_fits c names))

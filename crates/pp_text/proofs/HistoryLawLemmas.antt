@@ -38,14 +38,10 @@ not_opened_alone (e ∷ events) opened closed used =
     let alone = state_at (e ∷ events) closed in
     not_both e (goes_on (step Inactive e) events alone.0 alone.1) (goes_on (step Empty e) events after.0 after.1)
 
-opened_alike : (a b : Bool) (events : List Event) → IsLawful (opening a ++ events) → IsLawful (opening b ++ events)
-    → is_used (opening a ++ events) ≡ is_used (opening b ++ events) → opening a ++ events ≡ opening b ++ events
-opened_alike a b events opened closed used = grind (arith, not_opened_alone)
-
 -- two histories of a channel, each its opening history followed by the same events
 pub one_history : (a b : Bool) (events h other : List Event) → h ≡ opening a ++ events → other ≡ opening b ++ events → IsLawful h → IsLawful other
     → is_used h ≡ is_used other → h ≡ other
-one_history a b events h other is also lawful keeps used = grind (arith, opened_alike, is_used)
+one_history a b events h other is also lawful keeps used = grind (arith, is_used, not_opened_alone)
 
 pub text_tells_histories : (named others : List Bool) (one other : MachineState) → HoldsOnEachChannel one → HoldsOnEachChannel other → AgreeOnText named others one other
     → AreSameHistories one.histories other.histories

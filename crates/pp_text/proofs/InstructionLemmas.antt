@@ -1,5 +1,5 @@
 -- The columns of an instruction's text.
-use Rattle.std.proofs.Common.{◌≡◌, ℕ, suc, ◌+◌, ◌-◌, ◌/◌, ◌%◌, ◌^◌, ◌<◌, ◌==◌, Bool, true, false, List, [], ◌∷◌, ◌++◌, Option, None, Some, codes, length, length-append, get_or, replicate, take, refl, sym, ap, ◌∙◌, append_assoc, arith, subst}
+use Rattle.std.proofs.Common.{◌≡◌, ℕ, suc, ◌+◌, ◌-◌, ◌/◌, ◌%◌, ◌^◌, ◌==◌, Bool, true, false, List, [], ◌∷◌, ◌++◌, Option, None, Some, codes, length, length-append, get_or, replicate, take, refl, sym, ap, ◌∙◌, append_assoc, arith, subst}
 use Rattle.std.specs.Char.{is_ascii_whitespace}
 use Rattle.std.specs.Str.{IsTrimAsciiEnd}
 use Rattle.std.specs.List.{suffix_len}
@@ -36,14 +36,10 @@ three xs long = sym (tabulate_is 0 xs 3 (λ i. get_or xs i 0) long (λ i below. 
 pub three_letters : (op : Opcode) → length ((row_of op).mnemonic) ≡ 3
 three_letters op = grind arith
 
--- after a mnemonic nine of thirteen columns are left
-padded_more : (a b c : ℕ) (text : List ℕ) → padded 13 ((a ∷ b ∷ c ∷ []) ++ codes " " ++ text) ≡ a ∷ b ∷ c ∷ 32 ∷ padded 9 text
-padded_more a b c text = grind arith
-
 pub instruction_in_pieces : (name operands text : List ℕ) (op : Opcode) → name ≡ (row_of op).mnemonic → length operands ≡ 9 → operands ≡ padded 9 text
     → get_or name 0 0 ∷ get_or name 1 0 ∷ get_or name 2 0 ∷ 32 ∷ get_or operands 0 0 ∷ get_or operands 1 0 ∷ get_or operands 2 0 ∷ get_or operands 3 0 ∷ get_or operands 4 0 ∷ get_or operands 5 0 ∷ get_or operands 6 0 ∷ get_or operands 7 0 ∷ get_or operands 8 0 ∷ []
     ≡ padded 13 ((row_of op).mnemonic ++ codes " " ++ text)
-instruction_in_pieces name operands text op is long are = grind (arith, nine, padded_more, codes, three, three_letters)
+instruction_in_pieces name operands text op is long are = grind (arith, nine, codes, three, three_letters)
 
 -- ---- without the spaces at its end
 
@@ -51,11 +47,8 @@ instruction_in_pieces name operands text op is long are = grind (arith, nine, pa
 abbrev IsTrimmed : List ℕ → Type 0
 IsTrimmed text = (front : List ℕ) × (last : ℕ) × (text ≡ front ++ last ∷ []) × (is_ascii_whitespace last ≡ false)
 
-digit_seen : (d : ℕ) → d < 8 → is_ascii_whitespace (48 + d) ≡ false
-digit_seen d low = grind arith
-
 octal_trimmed : (width n : ℕ) → IsTrimmed (octal (suc width) n)
-octal_trimmed width n = (octal width (n / 8), 48 + n % 8, refl, digit_seen (n % 8) (mod-lt n (omega arith)))
+octal_trimmed width n = grind (arith, mod-lt)
 
 trimmed_after : (xs ys : List ℕ) → IsTrimmed ys → IsTrimmed (xs ++ ys)
 trimmed_after xs ys (front, last, is, seen) = (xs ++ front, last, ap (λ (t : List ℕ). xs ++ t) is ∙ sym (append_assoc xs front (last ∷ [])), seen)

@@ -5,13 +5,12 @@ use Rattle.std.specs.List.{list_all, range_with_len}
 use Rattle.std.proofs.lemmas.Bool.{cases_lt, cases_eq, eq-eqb, eqb-true, le-ltb, lt-ltb, ne_eqb}
 use Rattle.std.proofs.lemmas.List.FromFn.{get_or-range_with_len}
 use Rattle.std.proofs.lemmas.List.Sums.{AllPass-from_list_all}
-use Rattle.pp_word.specs.Address.{place_count, relative_to}
+use Rattle.pp_word.specs.Address.{place_count}
 use Rattle.pp_word.specs.Opcode.{have_second_word, opcode_at, row_of}
 use Rattle.pp_word.proofs.NumeralLemmas.{octal_numeral}
-use Rattle.pp_text.specs.InstructionRead.{code_read, jump_between, operand_read, second_of_text, second_read, usual_code, usual_operand, usual_word, word_of_text}
+use Rattle.pp_text.specs.InstructionRead.{code_read, operand_read, second_of_text, second_read, usual_code, usual_operand, usual_word, word_of_text}
 use Rattle.pp_text.specs.InstructionText.{instruction_text, is_long, operands_of, operands_text}
 use Rattle.pp_word.specs.declared.operands.Operands.{Operands}
-use Rattle.pp_word.specs.declared.operands.Operands.TheVariants.{JumpPlace}
 use Rattle.pp_text.proofs.InstructionLemmas.{three, three_letters}
 
 -- ---- the table, row by row
@@ -29,22 +28,12 @@ code_is : (code : ℕ) → code < 0o100 → code_read (mnemonic_at code) ≡ usu
 unfolding mnemonic_at
 code_is code low = eqb-true _ _ (each_code (λ code. code_read (mnemonic_at code) == usual_code code) refl code low)
 
-kind_is : (code : ℕ) → operands_of (usual_code code) ≡ operands_of code
-kind_is code = grind (arith, cases_eq, code, ne_eqb)
-
 -- ---- columns
-
--- a jump from a place to another is read from where it leads
-jump_is : (place d : ℕ) → place < place_count → d < 0o100 → jump_between place (relative_to place d) ≡ usual_operand JumpPlace d
-jump_is place d within low = grind (arith, cases_lt, lt-ltb, ne_eqb, cases_eq, le-ltb, eq-eqb)
-
-leads_within : (place d : ℕ) → relative_to place d < 8 ^ 4
-leads_within place d = grind arith
 
 -- d and m after four characters
 operand_is : (kind : Operands) (a b c place d m : ℕ) → place < place_count → d < 0o100 → m < 2 ^ 12
     → operand_read kind place (a ∷ b ∷ c ∷ 32 ∷ operands_text kind place d m) ≡ usual_operand kind d
-operand_is kind a b c place d m within low small = grind (arith, octal_numeral, leads_within, jump_is, cases_eq, ne_eqb)
+operand_is kind a b c place d m within low small = grind (arith, octal_numeral, cases_eq, ne_eqb, cases_lt, lt-ltb, le-ltb, eq-eqb)
 
 second_word_is : (kind : Operands) (a b c place d m : ℕ) → m < 2 ^ 12 → IsTrue (have_second_word kind) → second_read kind (a ∷ b ∷ c ∷ 32 ∷ operands_text kind place d m) ≡ m
 second_word_is kind a b c place d m small has = grind (arith, octal_numeral)
@@ -71,7 +60,7 @@ module _ (place word m : ℕ) (low : word < 2 ^ 12) (small : m < 2 ^ 12) where
   code_in_text = ap code_read text_is ∙ ap code_read letters ∙ code_is code (omega (arith, low))
 
   kind_in_text : operands_of (code_read (instruction_text place word m)) ≡ operands_of code
-  kind_in_text = ap operands_of code_in_text ∙ kind_is code
+  kind_in_text = grind (arith, code_in_text, code, cases_eq, ne_eqb)
 
   pub word_in_text : place < place_count → word_of_text place (instruction_text place word m) ≡ usual_word word
   unfolding code

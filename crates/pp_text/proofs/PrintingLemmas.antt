@@ -1,6 +1,6 @@
 -- Texts that are printed one after another.
-use Rattle.std.proofs.Common.{◌≡◌, ℕ, zero, suc, ◌+◌, Bool, List, [], ◌∷◌, ◌++◌, Option, refl, sym, ap, ◌∙◌, add-one, append_assoc, arith, subst}
-use Rattle.std.specs.Prelude.{IsTrue, if◌then◌else◌}
+use Rattle.std.proofs.Common.{◌≡◌, ℕ, zero, suc, ◌+◌, List, [], ◌∷◌, ◌++◌, Option, refl, sym, ap, ◌∙◌, add-one, append_assoc, arith, subst}
+use Rattle.std.specs.Prelude.{if◌then◌else◌}
 use Rattle.std.specs.List.{flat_map, range_with_len}
 use Rattle.std.proofs.lemmas.List.{append-nil}
 use Rattle.std.proofs.lemmas.List.Concat.{flat_map-append}
@@ -102,27 +102,15 @@ pub prints_lines_below : {W X : Type 0} (contents : W → Option (List ℕ)) (a 
     (line : X → List ℕ) (f : ℕ → List X) (count : ℕ)
     → Prints contents a b (each_below count (λ k. flat_map line (f k)))
     → Prints contents a b (flat_map line (flat_map f (range_with_len 0 count)))
-prints_lines_below contents a b line f count prints =
-    subst (Prints contents a b)
-    (each_is_flat count _ ∙ flat_of_flat line f (range_with_len 0 count)) prints
+prints_lines_below contents a b line f count prints = grind (arith, each_is_flat, flat_of_flat)
 
 -- the line of the channel with this number, if there is one
 abbrev pub numbered_channel_line : List (List Event) → ℕ → List ℕ
 numbered_channel_line histories c =
     if names_channel c then used_channel_line histories c else []
 
-where_named : (f : ℕ → List ℕ)
-    → flat_map f all_channels ≡ flat_map (λ c. if names_channel c then f c else []) all_channels
-unfolding all_channels tabulate channel_number names_channel is_number number_of
-where_named f = refl
-
-not_named : (b : Bool) (xs : List ℕ) → (IsTrue b → ⊥) → (if b then xs else []) ≡ []
-not_named b xs none = grind arith
-
 pub channels_by_number : (f : ℕ → List ℕ)
     → flat_map f all_channels
     ≡ flat_map (λ c. if names_channel c then f c else []) (range_with_len 0 0o100)
-channels_by_number f =
-    where_named f
-    ∙ numbers_of_channels (λ c. if names_channel c then f c else [])
-    (λ c none. not_named (names_channel c) (f c) none)
+unfolding all_channels tabulate channel_number names_channel is_number number_of
+channels_by_number f = grind (arith, numbers_of_channels)

@@ -1,4 +1,4 @@
-use Rattle.std.proofs.Common.{◌≡◌, ℕ, arith, below_more}
+use Rattle.std.proofs.Common.{◌≡◌, arith, below_more}
 use Rattle.pp_numbers.specs.ChannelNo.{all_channels, channel_count, channel_number, channel_places}
 use Rattle.pp_text.proofs.PrintingLemmas.{prints_nothing, prints_on, walk_more, walk_zero}
 use Rattle.pp_text.proofs.lines.print_each_channel.Goals as goal
@@ -13,8 +13,7 @@ pub loop-place-preserved : goal.loop-place-preserved
 loop-place-preserved g c = record {
   text = prints_on _ _ _ _ _ _ _ c.loop-place.invariant.text (rw c.at.ensures.number at c.print.ensures.text)
       (walk_more _ channel_number c.loop-place.place);
-  fits = below_more (λ (k : ℕ). g.L.Lines.Fits c.args.lines.now (channel_number k)) c.loop-place.place c.loop-place.invariant.fits
-      (rw c.at.ensures.number at c.print.ensures.fits);
+  fits = grind (arith, below_more);
 }
 
 pub returns-clause-text : goal.returns-clause-text

@@ -26,8 +26,7 @@ loop-place-preserved g c =
     ] in record {
       text = prints_on _ _ _ _ _ _ _ c.loop-place.invariant.text (rw c.at-n.ensures.number at step.0)
           (walk_more text_of processor_number c.loop-place.place);
-      fits = below_more (λ (k : ℕ). IsTrue (is_named named (processor_number k)) → g.L.Lines.Fits lines (processor_number k)) c.loop-place.place
-          c.loop-place.invariant.fits (rw c.at-n.ensures.number at step.1);
+      fits = grind (arith, below_more);
     }
 
 pub returns-clause-text : goal.returns-clause-text

@@ -1,7 +1,6 @@
-use Rattle.std.proofs.Common.{ℕ, List, eqb, length, arith, ap, subst, ◌∙◌}
+use Rattle.std.proofs.Common.{ℕ, List, eqb, length, arith, ap, ◌∙◌}
 use Rattle.std.specs.Prelude.{take_while}
 use Rattle.std.proofs.lemmas.List.{take_rest}
-use Rattle.pp_text.specs.TextWriter.{Prints}
 use Rattle.pp_text.proofs.OrderTextLemmas.{all_printed, with_comma, without}
 use Rattle.pp_text.proofs.PrintingLemmas.{prints_then}
 use Rattle.pp_text.proofs.order_text.print_order.Goals as goal
@@ -27,6 +26,4 @@ loop-place-preserved g c =
     )
 
 pub returns : goal.returns
-returns g c =
-    let (printed, prints, so_far) = c.loop-place.invariant in
-    subst (Prints _ _ _) (all_printed _ printed c.loop-place.place so_far (omega arith)) prints
+returns g c = grind (arith, all_printed)
