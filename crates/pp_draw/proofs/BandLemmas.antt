@@ -142,11 +142,11 @@ lower_row test a (suc k) has less =
 
 later_channel : (c d : ℕ) → IsTrue (names_channel c) → IsTrue (names_channel d) → c < d → channel_index c < channel_index d
 unfolding names_channel channel_index is_number index_of
-later_channel c d first second less = grind (arith)
+later_channel c d first second less = grind arith
 
 later_processor : (n k : ℕ) → IsTrue (names_processor n) → IsTrue (names_processor k) → n < k → processor_index n < processor_index k
 unfolding names_processor processor_index is_number index_of
-later_processor n k first second less = grind (arith)
+later_processor n k first second less = grind arith
 
 pub lower_channel : (m : MachineState) (c d : ℕ) → IsTrue (names_channel c) → IsTrue (names_channel d) → IsTrue (is_used m c) → c < d → used_among (channel_index c) m < used_among (channel_index d) m
 lower_channel m c d first second used less =

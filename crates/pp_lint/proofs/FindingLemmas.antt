@@ -150,7 +150,7 @@ pub stated_none : (fields : Fields) → lone_number fields ≡ None → 0o10000 
 unfolding central_line number
 stated_none [] none = refl
 stated_none (field ∷ []) none = rw none refl
-stated_none (field ∷ next ∷ more) none = grind (arith)
+stated_none (field ∷ next ∷ more) none = grind arith
 
 pub stated_is : (fields : Fields) (n : ℕ) → lone_number fields ≡ Some n → (nat_le 1 n && nat_le n 0o400000) ≡ true → n ≡ stated_size (central_line fields)
 unfolding central_line number

@@ -10,7 +10,7 @@ use Rattle.pp_numbers.specs.ChannelNo.{all_channels, names_channel, channel_numb
 -- a channel's number has two octal digits
 pub channel_fits : (c : ℕ) → IsTrue (names_channel c) → c < 0o100
 unfolding names_channel is_number
-channel_fits c names = grind (arith)
+channel_fits c names = grind arith
 
 -- the second half are named from 20 on
 pub named_high : (c : ℕ) → 0o17 < c → c < 0o34 → IsTrue (names_channel c)

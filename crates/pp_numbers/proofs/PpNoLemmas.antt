@@ -18,7 +18,7 @@ number_at place n below = grind (arith, eq-eqb, processor_places.number_of_place
 -- a processor's number has two octal digits
 pub processor_fits : (n : ℕ) → IsTrue (names_processor n) → n < 0o100
 unfolding names_processor is_number
-processor_fits n names = grind (arith)
+processor_fits n names = grind arith
 
 -- a processor's number is that of a channel
 pub channel_of_processor : (n : ℕ) → IsTrue (names_processor n) → IsTrue (names_channel n)

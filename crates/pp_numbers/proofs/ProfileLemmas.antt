@@ -40,7 +40,7 @@ most_channels Twenty = omega arith
 
 pub channel_named : (p : Profile) (c : ℕ) → IsTrue (has_channel p c) → IsTrue (names_channel c)
 unfolding has_channel
-channel_named p c has = let most = most_channels p in channel_places.named_below c (grind (arith))
+channel_named p c has = let most = most_channels p in channel_places.named_below c (grind arith)
 
 -- the channels of each profile by number
 pub channels_of_ten : (c : ℕ) → IsTrue (has_channel Ten c) ↔ (c < 0o14)
@@ -53,7 +53,7 @@ small_channels c below = channel_named Ten c ((channels_of_ten c).1 below)
 
 pub channels_of_twenty : (c : ℕ) → IsTrue (has_channel Twenty c) ↔ IsTrue (names_channel c)
 unfolding has_channel
-channels_of_twenty c = (λ has. channel_named Twenty c has, λ names. let below = channel_places.place_below c names in grind (arith))
+channels_of_twenty c = (λ has. channel_named Twenty c has, λ names. let below = channel_places.place_below c names in grind arith)
 
 -- turns within the first round come in the order of places
 pub place_in_turn : (p : Profile) (turn : ℕ) → turn < processors_in p → turn % processors_in p ≡ turn

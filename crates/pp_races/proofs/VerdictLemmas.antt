@@ -14,7 +14,7 @@ of_some going_on = if going_on then NoRaceSoFar else MayDiffer
 
 -- findings come to nothing only where there is none
 pub same_none : (all : List Finding) → Same ≡ verdict_of all → all ≡ []
-same_none all is = grind (arith)
+same_none all is = grind arith
 
 -- where they come to NO RACE SO FAR, all are of processors that go on
 pub so_far_going : (all : List Finding) → verdict_of all ≡ NoRaceSoFar → list_all is_going_on all ≡ true

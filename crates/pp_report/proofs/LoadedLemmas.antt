@@ -19,7 +19,7 @@ not_run lines deck holds = record { processors = holds.each_processor; channels 
 -- a processor that its machine lacks is at rest
 inside : (p : Profile) (n : ℕ) → IsTrue (has_processor p n) → processor_index n < processors_in p
 unfolding has_processor
-inside p n has = grind (arith)
+inside p n has = grind arith
 
 stopped_rests : (pp : Processor) → registers_of pp ≡ at_rest → IsAtRest pp
 stopped_rests pp is running = grind arith

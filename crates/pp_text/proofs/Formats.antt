@@ -152,7 +152,7 @@ pub channels_fit : (histories : List (List Event)) → ((c : ℕ) → IsTrue (na
 channels_fit histories fits = maybe_rows_fit IsChannelLine (named_channel histories) (λ c low. each c low (names_channel c) (history_on c histories) (fits c))
   where
     each : (c : ℕ) → c < 0o100 → (b : Bool) (h : List Event) → (IsTrue b → HistoryFits h) → IfSome (if b then channel_shown h else None) (λ x. IsChannelLine (c, x))
-    each c low b h fits = grind (arith)
+    each c low b h fits = grind arith
 
 pub channels_same : (histories others : List (List Event)) → channels_shown histories ≡ channels_shown others → (c : ℕ) → IsTrue (names_channel c) → ShowSameChannel (history_on c histories) (history_on c others)
 channels_same histories others e c names = alike (names_channel c) (history_on c histories) (history_on c others) names (maybe_rows_tell (named_channel histories) (named_channel others) e c (channel_fits c names))

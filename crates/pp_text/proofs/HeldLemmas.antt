@@ -42,7 +42,7 @@ held_where_none n c op m need_is other none = grind (arith, running, held_at)
 -- ---- the test that the code makes
 
 held_by : (b : Bool) (o : Outcome) → o ≡ cond b Held Moved → (IsTrue b → o ≡ Held) × (o ≡ Held → IsTrue b)
-held_by b o is = grind (arith)
+held_by b o is = grind arith
 
 pub test_looked : (n c : ℕ) (op : ChanOp) (m : MachineState) → need (processor_of n m) ≡ needs.Channel c op → only_looks op ≡ true → (IsTrue false → step_outcome n m ≡ Held) × (step_outcome n m ≡ Held → IsTrue false)
 test_looked n c op m need_is looks = grind (arith, moves_where_looked)

@@ -6,7 +6,7 @@ use Rattle.pp_word.specs.Numeral.{digit, octal, short_octal}
 
 -- a number of some digits ends with its last digit
 pub octal_more : (width n : ℕ) → 0 < width → octal (width - 1) (n / 8) ++ digit (n % 8) ≡ octal width n
-octal_more width n h = grind (arith)
+octal_more width n h = grind arith
 
 pub short_first : (most n : ℕ) → 0 < most → n < 8 → digit (n % 8) ≡ short_octal most n
 unfolding short_octal

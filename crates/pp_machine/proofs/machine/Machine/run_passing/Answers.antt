@@ -5,10 +5,10 @@ use Rattle.pp_machine.proofs.RoundLemmas.{event_after, profile_after, turns_afte
 use Rattle.pp_machine.proofs.machine.Machine.run_passing.Goals as goal
 
 one_round_more : (done turns : ℕ) → done * turns + turns ≡ (done + 1) * turns
-one_round_more done turns = grind (arith)
+one_round_more done turns = grind arith
 
 turns_left : (done rounds turns before : ℕ) → done < rounds → before < turns → done * turns + before < rounds * turns
-turns_left done rounds turns before fewer within = grind (arith)
+turns_left done rounds turns before fewer within = grind arith
 
 pub run_round-requires-clause-round : goal.run_round-requires-clause-round
 run_round-requires-clause-round g c =
