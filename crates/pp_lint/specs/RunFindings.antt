@@ -1,4 +1,4 @@
--- What is found in a line's instructions by how they run.
+-- What is found in a line's instructions.
 use Rattle.std.specs.Prelude.{ℕ, List, [], ◌∷◌, ◌++◌, Option}
 use Rattle.pp_numbers.specs.declared.profile.Profile.{Profile}
 use Rattle.pp_deck.specs.DeckLine.{Line}
@@ -11,8 +11,8 @@ use Rattle.pp_lint.specs.StraightLine.{behind, fault_finding, is_reached}
 use Rattle.pp_lint.specs.declared.{channel_use.ChannelUse.ChannelUse, row.Kind.Kind}
 use Rattle.pp_lint.specs.declared.row.Kind.TheVariants.{Word}
 
--- what is found in instructions of line k of processor n, whose first word is that of this place,
--- one after another, if a straight line has reached that place before them
+-- what is found in instructions of line k of processor n, one after another: the line's first word
+-- is that of place `first`, and a straight line has come to `reached` before them
 unfoldable pub instruction_findings : Profile → ℕ → List ℕ → List Note → List ChannelUse → ℕ → ℕ
     → Option ℕ → List Instruction → List Finding
 instruction_findings profile k line notes alone n first reached [] = []
@@ -21,7 +21,7 @@ instruction_findings profile k line notes alone n first reached (i ∷ is) =
     ++ alone_finding k line alone n first i
     ++ instruction_findings profile k line notes alone n first (behind profile notes n reached i) is
 
--- what is found in line k, if it gives words, and a straight line has reached this place before it
+-- what is found in line k, if it gives words, and a straight line has come to `reached` before it
 unfoldable pub run_findings : Profile → ℕ → List ℕ → List Note → List ChannelUse → Option ℕ → Kind
     → Option Line → List Finding
 run_findings profile k line notes alone reached (Word n) said =

@@ -42,7 +42,7 @@ pub(crate) fn print_run_findings<A: Allocator, W: Write>(
         (run_findings before.now.profile k line.now notes deck.now.alone.items reached.now
         (given before.now.section (said_after before.now (fields_of line.now))).kind
         (said_after before.now (fields_of line.now)))) }
-    ensures found { (k : ℕ) (notes : List Note) → Shows deck.now.firsts notes → number ≡ k + 1
+    ensures found { (k : ℕ) (notes : List Note) → Shows deck.now.firsts notes
         → result ≡ is_something_found (run_findings before.now.profile k line.now notes
         deck.now.alone.items reached.now
         (given before.now.section (said_after before.now (fields_of line.now))).kind
@@ -76,7 +76,7 @@ fn print_instruction_findings<A: Allocator, W: Write>(
         (flat_map finding_line (instruction_findings words.now.profile k words.now.line.now notes
         deck.now.alone.items words.now.n words.now.first reached.now instructions.old)) }
     ensures found { (k : ℕ) (notes : List Note) → Shows deck.now.firsts notes
-        → words.now.number ≡ k + 1 → result ≡ is_something_found
+        → result ≡ is_something_found
         (instruction_findings words.now.profile k words.now.line.now notes
         deck.now.alone.items words.now.n words.now.first reached.now instructions.old) }
 {

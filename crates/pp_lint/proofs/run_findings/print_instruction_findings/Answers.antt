@@ -8,7 +8,7 @@ pub loop-i-init : goal.loop-i-init
 loop-i-init g c = record {
   columns = c.of-columns.ensures;
   printed = λ k notes shows number out rest. rest;
-  found = λ k notes shows number. refl;
+  found = λ k notes shows. refl;
 }
 
 pub loop-i-preserved : goal.loop-i-preserved
@@ -20,9 +20,9 @@ loop-i-preserved g c =
       printed = λ k notes shows number out rest. c.loop-i.invariant.printed k notes shows number out
           (first_prints words.profile k words.line.now c.loop-i.columns notes alone words.n words.first c.loop-i.reached _ _ _ c.in-Some.i _ c.loop-i.invariant.columns c.in-Some.ensures.taken (c.is_reached-is_here.ensures notes shows) (c.behind-reached.ensures notes shows)
           _ _ _ _ _ (c.print_fault_finding-is_faulty.ensures.prints k number) (rw (c.deref.ensures.value, c.print_fault_finding-is_faulty.ensures.same) at (c.print_alone_finding-is_alone.ensures.prints k number)) rest);
-      found = λ k notes shows number.
+      found = λ k notes shows.
           first_found words.profile k words.line.now c.loop-i.columns notes alone words.n words.first c.loop-i.reached _ _ _ c.in-Some.i _ c.loop-i.invariant.columns c.in-Some.ensures.taken (c.is_reached-is_here.ensures notes shows) (c.behind-reached.ensures notes shows)
-          c.loop-i.is_found _ _ (c.print_fault_finding-is_faulty.ensures.found k) (rw (c.deref.ensures.value, c.print_fault_finding-is_faulty.ensures.same) at (c.print_alone_finding-is_alone.ensures.found k)) ∙ c.loop-i.invariant.found k notes shows number;
+          c.loop-i.is_found _ _ (c.print_fault_finding-is_faulty.ensures.found k) (rw (c.deref.ensures.value, c.print_fault_finding-is_faulty.ensures.same) at (c.print_alone_finding-is_alone.ensures.found k)) ∙ c.loop-i.invariant.found k notes shows;
     }
 
 pub returns-clause-prints : goal.returns-clause-prints
@@ -32,7 +32,7 @@ returns-clause-prints g c = λ k notes shows number.
     (prints_none _ _ _ (ap (instruction_findings words.profile k words.line.now notes c.args.deck.now.alone.items words.n words.first c.loop-i.reached) c.in_default.ensures.none.0 ∙ no_instruction words.profile k words.line.now notes c.args.deck.now.alone.items words.n words.first c.loop-i.reached))
 
 pub returns-clause-found : goal.returns-clause-found
-returns-clause-found g c = λ k notes shows number.
+returns-clause-found g c = λ k notes shows.
     let words = c.args.words.now in
     none_more c.loop-i.is_found _ (sym (none_found _ (ap (instruction_findings words.profile k words.line.now notes c.args.deck.now.alone.items words.n words.first c.loop-i.reached) c.in_default.ensures.none.0 ∙ no_instruction words.profile k words.line.now notes c.args.deck.now.alone.items words.n words.first c.loop-i.reached)))
-    ∙ c.loop-i.invariant.found k notes shows number
+    ∙ c.loop-i.invariant.found k notes shows

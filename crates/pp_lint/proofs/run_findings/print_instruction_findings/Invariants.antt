@@ -15,7 +15,7 @@ invariant-loop-i g l = record {
   printed : (k : ℕ) (notes : List Note) → Shows l.deck.firsts notes → l.words.number ≡ k + 1 → (out : TextWriter _)
       → Prints g.W.Write.contents l.text out (flat_map finding_line (instruction_findings l.words.profile k l.words.line.now notes l.deck.alone.items l.words.n l.words.first l.reached l.instructions))
       → Prints g.W.Write.contents l.fn.text out (flat_map finding_line (instruction_findings l.words.profile k l.words.line.now notes l.deck.alone.items l.words.n l.words.first l.fn.reached l.fn.instructions));
-  found : (k : ℕ) (notes : List Note) → Shows l.deck.firsts notes → l.words.number ≡ k + 1
+  found : (k : ℕ) (notes : List Note) → Shows l.deck.firsts notes
       → (l.is_found || is_something_found (instruction_findings l.words.profile k l.words.line.now notes l.deck.alone.items l.words.n l.words.first l.reached l.instructions))
       ≡ is_something_found (instruction_findings l.words.profile k l.words.line.now notes l.deck.alone.items l.words.n l.words.first l.fn.reached l.fn.instructions);
 }
