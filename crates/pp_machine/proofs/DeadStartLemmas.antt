@@ -19,10 +19,6 @@ use Rattle.pp_processor.specs.Processor.{Processor, no_processor, waiting_on}
 use Rattle.pp_numbers.specs.PpNo.{processor_places, names_processor, processor_count, processor_index, processor_number}
 use Rattle.pp_numbers.proofs.PpNoLemmas.{channel_of_processor}
 
--- a front of a list, at any place but the next
-same_in_front : (place i : ℕ) (bs : List Bool) → i ≢ place → get_or (take (place + 1) bs) i false ≡ get_or (take place bs) i false
-same_in_front place i bs other = grind (arith, get_or-take, length-take, get_or_past, cases_lt)
-
 -- nobody waits at first
 none_waits : (c : ℕ) → waits [] c ≡ false
 none_waits c = ⊎_elim (λ (t : names_processor c ≡ true). rw t refl) (λ (t : names_processor c ≡ false). rw t refl) (cases_Bool (names_processor c))
@@ -36,7 +32,7 @@ waits_not_yet place bs below = grind (arith, length-take, processor_places.place
 
 -- of every other processor it is known already
 waits_other : (place : ℕ) (bs : List Bool) (c : ℕ) → place < processor_count → c ≢ processor_number place → waits (take (place + 1) bs) c ≡ waits (take place bs) c
-waits_other place bs c below other = grind (arith, processor_places.number_of_place, same_in_front, cases_Bool)
+waits_other place bs c below other = grind (arith, processor_places.number_of_place, cases_Bool, get_or-take, length-take, get_or_past, cases_lt)
 
 -- no channel was opened before the first turn
 pub not_opened : (m : MachineState) (c : ℕ) → IsBeforeFirstTurn m → HoldsOnEachChannel m → IsTrue (names_channel c) → is_opened c m ≡ false

@@ -1,6 +1,5 @@
 -- What an event leaves of the headline.
-use Rattle.std.proofs.Common.{◌≡◌, ◌≢◌, ℕ, zero, suc, ◌<◌, ◌==◌, true, false, IsTrue, List, [], ◌∷◌, ◌++◌, length, replicate, slice_set, get_or, refl, sym, ap, subst, ◌∙◌, append_assoc, eq-eqb, inl, inr, get_or-set_same, get_or-set_other, arith}
-use Rattle.std.specs.Prelude.{if◌then◌else◌, Some, None}
+use Rattle.std.proofs.Common.{◌≡◌, ◌≢◌, ℕ, zero, suc, ◌<◌, false, IsTrue, List, [], ◌∷◌, ◌++◌, length, replicate, slice_set, get_or, refl, append_assoc, eq-eqb, inl, inr, get_or-set_same, get_or-set_other, arith}
 use Rattle.std.proofs.lemmas.List.{append-nil}
 use Rattle.std.proofs.lemmas.List.Elements.{filter_map-append}
 use Rattle.std.proofs.lemmas.Bool.{ne_eqb}
@@ -22,23 +21,13 @@ empty_at (suc n) (suc c) = empty_at n c
 pub headline_of_none : (hs : List (List Event)) (n : ℕ) (h : List Event) → hs ≡ replicate n [] → h ≡ [] → IsLawful h → KeepsLaw h → (c : ℕ) → HoldsOnChannel [] [] (get_or hs c [])
 headline_of_none hs n h is none lawful law c = grind (arith, empty_at)
 
-events_on-append : (c : ℕ) (trace : List Trace) (entry : Trace) → events_on c (trace ++ entry ∷ []) ≡ events_on c trace ++ events_on c (entry ∷ [])
-events_on-append c trace entry = filter_map-append (λ (x : Trace). if x.channel == c then Some x.event else None) trace (entry ∷ [])
-
--- an entry of the trace is on its own channel, and on no other
-own_entry : (entry : Trace) → events_on entry.channel (entry ∷ []) ≡ entry.event ∷ []
-own_entry entry = let same : (entry.channel == entry.channel) ≡ true = eq-eqb entry.channel entry.channel refl in rw same refl
-
-other_entry : (d : ℕ) (entry : Trace) → entry.channel ≢ d → events_on d (entry ∷ []) ≡ []
-other_entry d entry apart = let different : (entry.channel == d) ≡ false = ne_eqb entry.channel d apart in rw different refl
-
 -- the channel of the event
 on_own : (opening before : List Event) (trace : List Trace) (entry : Trace) (after : List Event) → HoldsOnChannel opening (events_on entry.channel trace) before → after ≡ before ++ entry.event ∷ [] → IsLawful after → KeepsLaw after → HoldsOnChannel opening (events_on entry.channel (trace ++ entry ∷ [])) after
-on_own opening before trace entry after old is lawful law = grind (arith, events_on-append, own_entry, append_assoc)
+on_own opening before trace entry after old is lawful law = grind (arith, append_assoc, filter_map-append, eq-eqb)
 
 -- any other channel
 on_other : (d : ℕ) (opening history : List Event) (trace : List Trace) (entry : Trace) → entry.channel ≢ d → HoldsOnChannel opening (events_on d trace) history → HoldsOnChannel opening (events_on d (trace ++ entry ∷ [])) history
-on_other d opening history trace entry apart old = grind (arith, events_on-append, other_entry, append-nil)
+on_other d opening history trace entry apart old = grind (arith, append-nil, filter_map-append, ne_eqb)
 
 -- the headline with one more event, whose entry of the trace names its channel
 pub headline_after_event : (opening : ℕ → List Event) (before after : List (List Event)) (trace : List Trace) (entry : Trace)
@@ -53,14 +42,8 @@ pub headline_after_event : (opening : ℕ → List Event) (before after : List (
 headline_after_event opening before after trace entry is within named own old lawful law d names =
     let i = channel_index entry.channel in
     elim (eqb_tells (channel_index d) i) as (λ _. HoldsOnChannel (opening d) (events_on d (trace ++ entry ∷ [])) (get_or after (channel_index d) [])) [
-      | inl same ↦
-          let P : ℕ → Type 0 = λ c. HoldsOnChannel (opening c) (events_on c (trace ++ entry ∷ [])) (get_or after (channel_index c) []) in
-          let grown = ap (λ hs. get_or hs i []) is ∙ get_or-set_same before i (get_or before i [] ++ entry.event ∷ []) [] within in
-          subst P (sym (own d names same.1)) (on_own (opening entry.channel) (get_or before i []) trace entry (get_or after i []) (old entry.channel named) grown lawful law)
-      | inr apart ↦
-          let Q : List Event → Type 0 = λ h. HoldsOnChannel (opening d) (events_on d (trace ++ entry ∷ [])) h in
-          let kept = ap (λ hs. get_or hs (channel_index d) []) is ∙ get_or-set_other before i (channel_index d) (get_or before i [] ++ entry.event ∷ []) [] apart.1 in
-          subst Q (sym kept) (on_other d (opening d) (get_or before (channel_index d) []) trace entry (λ e. apart.1 (ap channel_index (sym e))) (old d names))
+      | inl same ↦ grind (arith, get_or-set_same, on_own)
+      | inr apart ↦ grind (arith, get_or-set_other, on_other)
     ]
 
 -- no channel is opened where none is

@@ -1,11 +1,10 @@
 -- The order of a run, and its parts: of a list as many processors as there are steps, and then of the
 -- barrel. A run of two lists, one after the other.
-use Rattle.std.proofs.Common.{◌≡◌, ℕ, zero, suc, ◌+◌, ◌-◌, ◌<◌, ◌≤◌, List, [], ◌∷◌, ◌++◌, take, length, get_or, sym, ap, ◌∙◌, arith, inl, inr, add-one, append-nil, subst}
-use Rattle.std.specs.Prelude.{min, IsSome}
+use Rattle.std.proofs.Common.{◌≡◌, ℕ, zero, suc, ◌+◌, ◌-◌, ◌<◌, ◌≤◌, List, [], ◌∷◌, ◌++◌, take, length, get_or, sym, ap, ◌∙◌, arith, inl, inr, add-one, append-nil}
+use Rattle.std.specs.Prelude.{min}
 use Rattle.std.proofs.lemmas.Bool.{cases_lt}
 use Rattle.std.proofs.lemmas.List.{get_or-append-add, get_or_append_left, get_or_push, get_or-take, length-append, length-take, take-append-le, take_all}
 use Rattle.pp_machine.specs.MachineState.{MachineState}
-use Rattle.pp_machine.specs.MachineStep.{step_event}
 use Rattle.pp_numbers.specs.Profile.{processor_in_turn}
 use Rattle.pp_numbers.specs.declared.profile.Profile.{Profile}
 use Rattle.pp_machine.specs.Rounds.{IsEventAt}
@@ -18,9 +17,7 @@ use Rattle.pp_machine.proofs.RunLemmas.{length-barrel, run-both}
 pub take_barrel : (p : Profile) (turns t : ℕ) → t ≤ turns → take t (barrel p turns) ≡ barrel p t
 take_barrel p zero t low = grind arith
 take_barrel p (suc turns) t low = elim (cases_lt t (suc turns)) [
-  | inl below ↦
-      take-append-le t (barrel p turns) (processor_in_turn p turns ∷ []) (omega (arith, below, length-barrel p turns))
-      ∙ take_barrel p turns t (omega (arith, below))
+  | inl below ↦ grind (arith, take-append-le, length-barrel, take_barrel p turns t (omega (arith, below)))
   | inr past ↦
       let all : t ≡ suc turns = omega (arith, low, past) in
       take_all t (barrel p (suc turns)) (omega (arith, past, length-barrel p (suc turns))) ∙ ap (barrel p) (sym all)
@@ -36,11 +33,7 @@ turn_of_barrel p turns t before =
 
 -- a run of them that was cut, as one of a list
 pub barrel_cut : (turns done : ℕ) (m : MachineState) → IsEventAt turns m done → IsCutAtEvent (barrel m.profile turns) m done
-barrel_cut turns done m at_event = (
-  omega (arith, at_event.0, length-barrel m.profile turns),
-  subst (λ n. IsSome (step_event n (run (take done (barrel m.profile turns)) m))) (sym (turn_of_barrel m.profile turns done at_event.0))
-      (subst (λ (ns : List ℕ). IsSome (step_event (processor_in_turn m.profile done) (run ns m))) (sym (take_barrel m.profile turns done (omega (arith, at_event.0)))) at_event.1),
-)
+barrel_cut turns done m at_event = grind (arith, length-barrel, turn_of_barrel, take_barrel)
 
 pub barrel_made : (turns done : ℕ) (m n : MachineState) → IsEventAt turns m done → n ≡ run (barrel m.profile done) m → n ≡ run (take done (barrel m.profile turns)) m
 barrel_made turns done m n at_event made = made ∙ ap (λ ns. run ns m) (sym (take_barrel m.profile turns done (omega (arith, at_event.0))))
@@ -49,8 +42,7 @@ barrel_made turns done m n at_event made = made ∙ ap (λ ns. run ns m) (sym (t
 
 pub length-run_order : (first : List ℕ) (p : Profile) (steps : ℕ) → length (run_order first p steps) ≡ steps
 unfolding run_order
-length-run_order first p steps =
-    omega (arith, length-take steps (first ++ barrel p steps), length-append first (barrel p steps), length-barrel p steps)
+length-run_order first p steps = grind (arith, length-take, length-append, length-barrel)
 
 take-append-add : (xs ys : List ℕ) (n : ℕ) → take (length xs + n) (xs ++ ys) ≡ xs ++ take n ys
 take-append-add [] ys n = let here : 0 + n ≡ n = omega arith in ap (λ k. take k ys) here
@@ -69,13 +61,7 @@ order_parts first p steps count is = elim (cases_lt (length first) steps) [
       ∙ take-append-add first (barrel p steps) (steps - count)
       ∙ ap (λ ns. first ++ ns) (take_barrel p steps (steps - count) (omega arith))
       ∙ ap (λ ns. ns ++ barrel p (steps - count)) (sym (take_all count first (omega (arith, here))))
-  | inr past ↦
-      let here : count ≡ steps = omega (arith, is, past) in
-      let none : steps - count ≡ 0 = omega (arith, here) in
-      take-append-le steps first (barrel p steps) (omega (arith, past))
-      ∙ ap (λ k. take k first) (sym here)
-      ∙ sym (append-nil (take count first))
-      ∙ ap (λ k. take count first ++ barrel p k) (sym none)
+  | inr past ↦ grind (arith, take-append-le, append-nil)
 ]
 
 -- without a list, the turns of the barrel
@@ -90,29 +76,13 @@ pub made_of_first : (xs ys : List ℕ) (done : ℕ) (m n : MachineState) → don
 made_of_first xs ys done m n few made = made ∙ ap (λ ns. run ns m) (sym (take-append-le done xs ys (omega (arith, few))))
 
 pub cut_in_first : (xs ys : List ℕ) (done : ℕ) (m : MachineState) → IsCutAtEvent xs m done → IsCutAtEvent (xs ++ ys) m done
-cut_in_first xs ys done m (few, event) = (
-  omega (arith, few, length-append xs ys),
-  subst (λ n. IsSome (step_event n (run (take done (xs ++ ys)) m))) (sym (get_or_append_left xs ys 0 done few))
-      (subst (λ (ns : List ℕ). IsSome (step_event (get_or xs done 0) (run ns m))) (sym (take-append-le done xs ys (omega (arith, few)))) event),
-)
-
--- or in the second
-made_so_far : (xs ys : List ℕ) (done : ℕ) (m n : MachineState) → n ≡ run xs m → run (take done ys) n ≡ run (take (length xs + done) (xs ++ ys)) m
-made_so_far xs ys done m n first =
-    ap (run (take done ys)) first ∙ sym (run-both xs (take done ys) m) ∙ ap (λ ns. run ns m) (sym (take-append-add xs ys done))
+cut_in_first xs ys done m (few, event) = grind (arith, length-append, get_or_append_left, take-append-le)
 
 pub made_of_second : (xs ys : List ℕ) (count done : ℕ) (m n o : MachineState) → count ≡ length xs → n ≡ run xs m → o ≡ run (take done ys) n → o ≡ run (take (count + done) (xs ++ ys)) m
-made_of_second xs ys count done m n o is first made =
-    made ∙ made_so_far xs ys done m n first ∙ ap (λ (k : ℕ). run (take (k + done) (xs ++ ys)) m) (sym is)
+made_of_second xs ys count done m n o is first made = grind (arith, run-both, take-append-add)
 
 pub cut_in_second : (xs ys : List ℕ) (count done : ℕ) (m n : MachineState) → count ≡ length xs → n ≡ run xs m → IsCutAtEvent ys n done → IsCutAtEvent (xs ++ ys) m (count + done)
-cut_in_second xs ys count done m n is first (few, event) =
-    let here : length xs + done ≡ count + done = omega (arith, is) in
-    subst (IsCutAtEvent (xs ++ ys) m) here (
-      omega (arith, few, length-append xs ys),
-      subst (λ k. IsSome (step_event k (run (take (length xs + done) (xs ++ ys)) m))) (sym (get_or-append-add xs ys done 0))
-          (subst (λ (o : MachineState). IsSome (step_event (get_or ys done 0) o)) (made_so_far xs ys done m n first) event),
-    )
+cut_in_second xs ys count done m n is first (few, event) = grind (arith, length-append, get_or-append-add, run-both, take-append-add)
 
 -- neither was
 pub made_of_both : (xs ys : List ℕ) (m n o : MachineState) → n ≡ run xs m → o ≡ run ys n → o ≡ run (xs ++ ys) m

@@ -1,11 +1,11 @@
 -- Quiet steps of different processors: whole rounds of them are as many steps of each processor by itself.
-use Rattle.std.proofs.Common.{◌≡◌, ◌≢◌, ℕ, zero, suc, ◌+◌, ◌*◌, ◌-◌, ◌^◌, ◌<◌, ◌≤◌, List, length, append-nil, slice_set, get_or, refl, sym, ap, subst, ◌∙◌, arith, inl, inr, get_or-set_same, get_or-set_other}
-use Rattle.std.specs.Prelude.{min, Bool, IsTrue, false, Option, Some, None, is_none}
+use Rattle.std.proofs.Common.{◌≡◌, ℕ, zero, suc, ◌+◌, ◌*◌, ◌-◌, ◌^◌, ◌<◌, ◌≤◌, List, length, append-nil, slice_set, get_or, refl, sym, ap, subst, ◌∙◌, arith, inl, inr, get_or-set_same, get_or-set_other}
+use Rattle.std.specs.Prelude.{min, IsTrue, false, None, is_none}
 use Rattle.std.proofs.lemmas.Bool.{false≢true}
 use Rattle.std.proofs.lemmas.Bool.Decides.{eqb_tells, leb_tells}
 use Rattle.std.proofs.lemmas.List.{set-get_or, length-set, ext_get_or}
 use Rattle.pp_channel.specs.Answer.{event_of, reply_to, flags_of}
-use Rattle.pp_channel.specs.declared.{chan_op.ChanOp.ChanOp, event.Event.Event, flags.Flags.Flags, reply.Reply.Reply}
+use Rattle.pp_channel.specs.declared.{chan_op.ChanOp.ChanOp, flags.Flags.Flags, reply.Reply.Reply}
 use Rattle.pp_channel.specs.declared.chan_op.ChanOp.TheVariants.{Probe}
 use Rattle.pp_channel.specs.declared.reply.Reply.TheVariants as replies
 use Rattle.pp_processor.specs.declared.{need.Need.Need}
@@ -30,24 +30,12 @@ use Rattle.pp_machine.proofs.RunLemmas.{barrel_more}
 abbrev pub beside : List Processor → ℕ → MachineState → MachineState
 beside processors turns m = record m { processors = processors; turns = turns }
 
-none_made : (made : Option Event) → IsTrue (is_none made) → made ≡ None
-none_made None none = refl
-none_made (Some event) none = cc
-
--- an operation that makes no event changes no history
-served_quiet : (n c : ℕ) (operation : ChanOp) (m : MachineState) → event_of operation (history_of c m) ≡ None → served n (Channel c operation) m ≡ m
-served_quiet n c operation m none = grind (arith, append-nil, set-get_or)
-
 -- a quiet step changes its processor, and counts a turn
 quiet_need : (n : ℕ) (x : Need) (pp : Processor) (ps : List Processor) (t : ℕ) (m : MachineState) → IsTrue (is_quiet x m) → pp ≡ processor_of n (beside ps t m)
     → taken n (answer_to x (beside ps t m)) (served n x (beside ps t m)) ≡ beside (slice_set ps (processor_index n) (processor_after pp (answer_to x m))) (counted t) m
 quiet_need n Nothing pp ps t m quiet here = rw here refl
 quiet_need n Local pp ps t m quiet here = rw here refl
-quiet_need n (Channel c operation) pp ps t m quiet here =
-    let k = beside ps t m in
-    let x = Channel c operation in
-    ap (λ (l : MachineState). taken n (answer_to x m) l) (served_quiet n c operation k (none_made (event_of operation (history_of c m)) quiet))
-    ∙ ap (λ (q : Processor). beside (slice_set ps (processor_index n) (processor_after q (answer_to x m))) (counted t) m) (sym here)
+quiet_need n (Channel c operation) pp ps t m quiet here = grind (arith, slice_set, append-nil, set-get_or)
 quiet_need n (Read a) pp ps t m quiet here = cc
 quiet_need n (Write a w) pp ps t m quiet here = cc
 
@@ -75,12 +63,8 @@ stepping_before : (place k : ℕ) (m : MachineState) (ps : List Processor) → p
 stepping_before zero k m ps within before = absurd (omega arith)
 stepping_before (suc place) k m ps within before =
     elim (eqb_tells k place) as (λ _. get_or (stepping (suc place) m ps) k no_processor ≡ step_beside m (get_or ps k no_processor)) [
-      | inl same ↦
-          let inside : place < length (stepping place m ps) = omega (arith, length-stepping place m ps) in
-          rw same.1 (get_or-set_same (stepping place m ps) place (step_beside m (get_or ps place no_processor)) no_processor inside)
-      | inr apart ↦
-          get_or-set_other (stepping place m ps) place k (step_beside m (get_or ps place no_processor)) no_processor apart.1
-          ∙ stepping_before place k m ps (omega arith) (omega (arith, apart.1))
+      | inl same ↦ grind (arith, length-stepping, get_or-set_same)
+      | inr apart ↦ grind (arith, get_or-set_other, stepping_before place k m ps (omega arith) (omega (arith, apart.1)))
     ]
 
 -- the first turns of a round of quiet steps
@@ -192,11 +176,7 @@ ahead_more steps more m old between new first then = record {
 -- one quiet step more
 pub one_more_ahead : (steps : ℕ) (m : MachineState) (old between new : Processor) → IsAhead steps m old between → IsTrue (is_quiet (need between) m) → new ≡ step_beside m between → IsAhead (steps + 1) m old new
 unfolding steps_beside
-one_more_ahead steps m old between new first quiet then =
-    ahead_more steps 1 m old between new first (record {
-      quiet = λ j before. let here : j ≡ 0 = omega arith in subst (λ i. IsTrue (is_quiet (need (steps_beside i m between)) m)) (sym here) quiet;
-      after = then;
-    })
+one_more_ahead steps m old between new first quiet then = grind (arith, ahead_more)
 
 -- that needs nothing
 pub local_ahead : (steps : ℕ) (m : MachineState) (old between new : Processor) → IsAhead steps m old between → need between ≡ Local → new ≡ processor_after between answers.Local → IsAhead (steps + 1) m old new
@@ -235,9 +215,6 @@ ahead_and_still steps most m old new first quiet still within =
 rest_still : (m : MachineState) (pp : Processor) → need pp ≡ Nothing → step_beside m pp ≡ pp
 rest_still m pp rests = rest_changes_nothing pp (answer_to (need pp) m) ((nothing_at_rest pp).0 rests)
 
-rest_ahead : (steps : ℕ) (m : MachineState) (pp : Processor) → need pp ≡ Nothing → IsAhead steps m pp pp
-rest_ahead steps m pp rests = still_ahead steps m pp (ap (λ x. is_quiet x m) rests) (rest_still m pp rests)
-
 -- as one at rest
 pub ahead_at_rest : (steps most : ℕ) (m : MachineState) (old new : Processor) → IsAhead steps m old new → need new ≡ Nothing → steps ≤ most → IsAhead most m old new
 ahead_at_rest steps most m old new first rests within = ahead_and_still steps most m old new first (ap (λ x. is_quiet x m) rests) (rest_still m new rests) within
@@ -253,37 +230,16 @@ ahead_held steps most c operation reply m old between new first asks none shown 
 
 -- a processor at rest is as far ahead as those behind its place
 pub ahead_with_rest : (steps round place : ℕ) (m : MachineState) (ps qs : List Processor) → IsAtRest (get_or ps place no_processor) → AreAhead steps round (place + 1) m ps qs → AreAhead steps round place m ps qs
-ahead_with_rest steps round place m ps qs rests further = record {
-  as_many = further.as_many;
-  before = λ k before. further.before k (omega arith);
-  behind = further.behind;
-  ahead = λ k after within.
-      elim (eqb_tells k place) as (λ _. IsAhead steps m (get_or ps k no_processor) (get_or qs k no_processor)) [
-        | inl same ↦
-            let pp = get_or ps place no_processor in
-            let here : get_or qs place no_processor ≡ pp = further.before place (omega arith) in
-            let there : IsAhead steps m pp (get_or qs place no_processor) = subst (λ (q : Processor). IsAhead steps m pp q) (sym here) (rest_ahead steps m pp ((nothing_at_rest pp).1 rests)) in
-            subst (λ i. IsAhead steps m (get_or ps i no_processor) (get_or qs i no_processor)) (sym same.1) there
-        | inr apart ↦ further.ahead k (omega (arith, apart.1)) within
-      ];
-}
+ahead_with_rest steps round place m ps qs rests further = grind (arith, eqb_tells, nothing_at_rest, still_ahead, rest_still)
 
 -- a processor that went ahead, and then those behind its place, as far as it did
 pub ahead_together : (steps round place : ℕ) (m : MachineState) (ps qs : List Processor) (new : Processor) → place < length ps → place < round → IsAhead steps m (get_or ps place no_processor) new
     → AreAhead steps round (place + 1) m (slice_set ps place new) qs → AreAhead steps round place m ps qs
 ahead_together steps round place m ps qs new inside turn first further = grind (arith, length-set, get_or-set_other, eqb_tells, get_or-set_same)
 
-refuted : (b : Bool) → IsTrue b → b ≡ false → ⊥
-refuted b holds fails = absurd (false≢true (sym fails ∙ holds))
-
--- as many steps as it made before, or fewer, are made again
-made_again : (again steps most : ℕ) (m : MachineState) (old between new : Processor) → IsAhead most m old between → steps ≤ most → IsAhead again m old new → again ≤ steps
-    → (again < steps → is_quiet (need new) m ≡ false) → IsAhead steps m old new
-made_again again steps most m old between new first within then less exact = grind (arith, leb_tells, refuted)
-
 -- where it was put back, and went as far as the others
 pub ahead_again : (again steps most round place : ℕ) (m : MachineState) (ps qs : List Processor) (old between new : Processor) → place < length ps → place < round → old ≡ get_or ps place no_processor
     → IsAhead most m old between → steps < most → AreAhead steps round (place + 1) m (slice_set ps place between) qs
     → IsAhead again m old new → again ≤ steps → (again < steps → is_quiet (need new) m ≡ false)
     → AreAhead steps round place m ps (slice_set (slice_set qs place old) place new)
-ahead_again again steps most round place m ps qs old between new inside turn here first within further then less exact = grind (arith, made_again, length-set, eqb_tells, get_or-set_same, get_or-set_other, ahead_together)
+ahead_again again steps most round place m ps qs old between new inside turn here first within further then less exact = grind (arith, length-set, eqb_tells, get_or-set_same, get_or-set_other, ahead_together, leb_tells, false≢true)

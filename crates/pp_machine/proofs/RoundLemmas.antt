@@ -1,13 +1,12 @@
 -- Processors at rest in the rounds of the barrel.
-use Rattle.std.proofs.Common.{◌≡◌, ◌≢◌, ℕ, zero, suc, ◌+◌, ◌-◌, ◌*◌, ◌^◌, ◌<◌, ◌≤◌, List, slice_set, get_or, refl, sym, ap, subst, ◌∙◌, arith, inl, inr, get_or-set_same, get_or-set_other, length}
+use Rattle.std.proofs.Common.{◌≡◌, ℕ, zero, suc, ◌+◌, ◌-◌, ◌*◌, ◌^◌, ◌<◌, ◌≤◌, List, slice_set, get_or, refl, sym, ap, subst, ◌∙◌, arith, get_or-set_same, get_or-set_other, length}
 use Rattle.std.specs.Prelude.{min, IsSome}
 use Rattle.std.proofs.Math.Nat.{mul-le-mul_left}
 use Rattle.std.proofs.lemmas.Bool.Decides.{eqb_tells}
 use Rattle.pp_machine.specs.MachineState.{MachineState, processor_of}
-use Rattle.pp_machine.specs.MachineStep.{answer_to, stepped, step_event}
-use Rattle.pp_processor.specs.NeedAndEffect.{need, processor_after}
+use Rattle.pp_machine.specs.MachineStep.{stepped, step_event}
 use Rattle.pp_processor.specs.Processor.{Processor, no_processor, IsAtRest}
-use Rattle.pp_numbers.specs.PpNo.{processor_count, processor_index}
+use Rattle.pp_numbers.specs.PpNo.{processor_count}
 use Rattle.pp_numbers.specs.Profile.{processors_in, processor_in_turn}
 use Rattle.pp_numbers.specs.declared.profile.Profile.{Profile}
 use Rattle.pp_machine.specs.Rounds.{RestBetween, PassesOverRest, IsCut, whole_rounds}
@@ -16,57 +15,23 @@ use Rattle.pp_machine.proofs.MachineStepLemmas.{stepped_at_rest}
 use Rattle.pp_numbers.proofs.ProfileLemmas.{most_processors, index_in_turn, in_round, more_rounds, fewer_rounds}
 use Rattle.pp_machine.proofs.RunLemmas.{run-append, run_profile, barrel_more}
 
--- a step changes no other processor
-other_processor : (n place : ℕ) (m : MachineState) → place ≢ processor_index n → get_or (stepped n m).processors place no_processor ≡ get_or m.processors place no_processor
-unfolding stepped
-other_processor n place m apart = get_or-set_other m.processors (processor_index n) place (processor_after (processor_of n m) (answer_to (need (processor_of n m)) m)) no_processor apart
-
--- what is at rest stays at rest
-rest_stays : (n place : ℕ) (m : MachineState) → IsAtRest (get_or m.processors place no_processor) → IsAtRest (get_or (stepped n m).processors place no_processor)
-rest_stays n place m rests = grind (arith, eqb_tells, stepped_at_rest, other_processor)
-
 pub passes_over_stepped : (next : List ℕ) (n : ℕ) (m : MachineState) → PassesOverRest next m.processors → PassesOverRest next (stepped n m).processors
-passes_over_stepped next n m passes = grind (arith, rest_stays)
+unfolding stepped
+passes_over_stepped next n m passes = grind (arith, eqb_tells, stepped_at_rest, get_or-set_other)
 
 -- so far all processors from place to running are at rest, and the list passes over them from each place on
 pub record PassesFrom (next : List ℕ) (place running : ℕ) (processors : List Processor) : Type 0 where
   pub ahead : RestBetween place running processors
   pub further : (k : ℕ) → place ≤ k → k ≤ processor_count → RestBetween k (get_or next k 0) processors
 
-none_between : (place : ℕ) (processors : List Processor) → place ≤ processor_count → RestBetween place place processors
-none_between place processors within = grind arith
-
 pub passes_from_end : (next : List ℕ) (processors : List Processor) → get_or next processor_count 0 ≡ processor_count → PassesFrom next processor_count processor_count processors
-passes_from_end next processors last = record {
-  ahead = none_between processor_count processors (omega arith);
-  further = λ k after within.
-      let here : processor_count ≡ k = omega arith in
-      let none = none_between processor_count processors (omega arith) in
-      subst (λ i. RestBetween i (get_or next i 0) processors) here (subst (λ running. RestBetween processor_count running processors) (sym last) none);
-}
-
--- the list is set at the place before
-set_before : (next : List ℕ) (place running : ℕ) (processors : List Processor) → place < length next → RestBetween place running processors
-    → ((k : ℕ) → place + 1 ≤ k → k ≤ processor_count → RestBetween k (get_or next k 0) processors)
-    → PassesFrom (slice_set next place running) place running processors
-set_before next place running processors inside ahead further = grind (arith, eqb_tells, get_or-set_same, get_or-set_other)
+passes_from_end next processors last = grind (arith)
 
 pub passes_from_running : (next : List ℕ) (place running : ℕ) (processors : List Processor) → place < length next → place < processor_count → PassesFrom next (place + 1) running processors → PassesFrom (slice_set next place place) place place processors
-passes_from_running next place running processors inside named so_far =
-    set_before next place place processors inside (none_between place processors (omega arith)) so_far.further
+passes_from_running next place running processors inside named so_far = grind (arith, eqb_tells, get_or-set_same, get_or-set_other)
 
 pub passes_from_rest : (next : List ℕ) (place running : ℕ) (processors : List Processor) → place < length next → IsAtRest (get_or processors place no_processor) → PassesFrom next (place + 1) running processors → PassesFrom (slice_set next place running) place running processors
-passes_from_rest next place running processors inside rests so_far =
-    let ahead : RestBetween place running processors = record {
-      forward = let after = so_far.ahead.forward in omega arith;
-      within = so_far.ahead.within;
-      at_rest = λ between after before.
-          elim (eqb_tells between place) as (λ _. IsAtRest (get_or processors between no_processor)) [
-            | inl same ↦ rw same.1 rests
-            | inr apart ↦ so_far.ahead.at_rest between (omega (arith, apart.1)) before
-          ];
-    } in
-    set_before next place running processors inside ahead so_far.further
+passes_from_rest next place running processors inside rests so_far = grind (arith, eqb_tells, get_or-set_same, get_or-set_other)
 
 pub passes_from_start : (next : List ℕ) (running : ℕ) (processors : List Processor) → PassesFrom next 0 running processors → PassesOverRest next processors
 passes_from_start next running processors all = λ place named. all.further place (omega arith) named
@@ -187,10 +152,7 @@ pub cut_after : (rounds more all turns done : ℕ) (m n o : MachineState) → n 
     → IsCut (more * processors_in n.profile) turns n o → rounds + more ≤ all → IsCut (all * processors_in m.profile) (done + turns) m o
 cut_after rounds more all turns done m n o before counted cut within = record {
   ran = turns_after rounds turns done m n o before counted cut.ran;
-  at_event = (
-    within_after rounds more all turns done m n before counted cut.at_event.0 within,
-    event_after rounds turns done m n before counted cut.at_event.1,
-  );
+  at_event = grind (arith, within_after, event_after);
 }
 
 pub ruleset passes = (passes_from_end, passes_from_running, passes_from_rest, passes_from_start)

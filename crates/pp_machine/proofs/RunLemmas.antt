@@ -7,7 +7,7 @@ use Rattle.pp_machine.specs.MachineStep.{stepped, answer_to, served, taken}
 use Rattle.pp_numbers.specs.Profile.{processor_in_turn}
 use Rattle.pp_machine.specs.Run.{run, barrel}
 use Rattle.pp_numbers.specs.declared.profile.Profile.{Profile}
-use Rattle.std.specs.Prelude.{Option, Some, None, Result, Ok, Err, IsNone, IsSome, IsOk, IsErr, OnOk}
+use Rattle.std.specs.Prelude.{Option, Some, None, Result, IsNone, IsSome, IsOk, IsErr, OnOk}
 use Rattle.std.specs.Option.{option_to_list}
 use Rattle.std.specs.Result.{is_err}
 use Rattle.std.proofs.lemmas.Bool.{ne_eqb}
@@ -47,14 +47,11 @@ pub barrel_more : (p : Profile) (n : ℕ) (m : MachineState)
     → run (barrel p (n + 1)) m ≡ stepped (processor_in_turn p n) (run (barrel p n) m)
 barrel_more p n m = grind (arith, run-append)
 
-stepped_profile : (n : ℕ) (m : MachineState) → (stepped n m).profile ≡ m.profile
-unfolding stepped
-stepped_profile n m = refl
-
 -- a machine keeps its profile
 pub run_profile : (ns : List ℕ) (m : MachineState) → (run ns m).profile ≡ m.profile
+unfolding stepped
 run_profile [] m = refl
-run_profile (n ∷ ns) m = run_profile ns (stepped n m) ∙ stepped_profile n m
+run_profile (n ∷ ns) m = grind (arith, run_profile ns (stepped n m))
 
 -- as many processors as turns
 pub length-barrel : (p : Profile) (turns : ℕ) → length (barrel p turns) ≡ turns
@@ -69,9 +66,6 @@ abbrev Leaves : ℕ → ℕ → MachineState → Option Event → Type 0
 Leaves n c m o = (d : ℕ) → IsTrue (names_channel d)
     → HoldsOnChannel (opening_history d m) (events_on d (m.trace ++ map (entry_of n c m) (option_to_list o)))
     (get_or (slice_set m.histories (channel_index c) (history_of c m ++ option_to_list o)) (channel_index d) [])
-
-no_event : (n c : ℕ) (m : MachineState) → HoldsOnEachChannel m → Leaves n c m None
-no_event n c m h d names = grind (arith, append-nil, set-get_or)
 
 elsewhere : (d : ℕ) (trace : List Trace) (entry : Trace) → entry.channel ≢ d → events_on d (trace ++ entry ∷ []) ≡ events_on d trace
 elsewhere d trace entry apart = grind (arith, ne_eqb, filter_map-append, append-nil)
@@ -97,7 +91,7 @@ on_channel n c op m e each true is made h =
 on_channel n c op m e each false is made h = unnamed n c m e each (λ named. let never : true ≡ false = sym named ∙ is in absurd (cc)) h
 
 by_event : (n c : ℕ) (op : ChanOp) (m : MachineState) (o : Option Event) → length m.histories ≡ channel_count → event_of op (history_of c m) ≡ o → HoldsOnEachChannel m → Leaves n c m o
-by_event n c op m None each made h = no_event n c m h
+by_event n c op m None each made h = grind (arith, append-nil, set-get_or)
 by_event n c op m (Some e) each made h = on_channel n c op m e each (names_channel c) refl made h
 
 served_keeps : (n : ℕ) (x : Need) (m : MachineState) → length m.histories ≡ channel_count → HoldsOnEachChannel m → HoldsOnEachChannel (taken n (answer_to x m) (served n x m))
@@ -107,35 +101,22 @@ served_keeps n (Read a) m each h = h
 served_keeps n (Write a w) m each h = h
 served_keeps n (Channel c op) m each h = by_event n c op m (event_of op (history_of c m)) each refl h
 
-served_each : (n : ℕ) (x : Need) (m : MachineState) → length m.histories ≡ channel_count → length (taken n (answer_to x m) (served n x m)).histories ≡ channel_count
-served_each n Nothing m each = each
-served_each n Local m each = each
-served_each n (Read a) m each = each
-served_each n (Write a w) m each = each
-served_each n (Channel c op) m each = length-set m.histories (channel_index c) (history_of c m ++ option_to_list (event_of op (history_of c m))) ∙ each
-
 step_keeps : (n : ℕ) (m : MachineState) → length m.histories ≡ channel_count → HoldsOnEachChannel m → HoldsOnEachChannel (stepped n m)
 unfolding stepped
 step_keeps n m each h = served_keeps n (need (processor_of n m)) m each h
 
 step_each : (n : ℕ) (m : MachineState) → length m.histories ≡ channel_count → length (stepped n m).histories ≡ channel_count
 unfolding stepped
-step_each n m each = served_each n (need (processor_of n m)) m each
+step_each n m each = grind (arith, length-set)
 
 pub run_keeps : (ns : List ℕ) (m : MachineState) → length m.histories ≡ channel_count → HoldsOnEachChannel m → HoldsOnEachChannel (run ns m)
 run_keeps [] m each h = h
 run_keeps (n ∷ ns) m each h = run_keeps ns (stepped n m) (step_each n m each) (step_keeps n m each h)
 
-not_both : {X Y : Type 0} (answer : Result X Y) → IsErr answer → IsOk answer → ⊥
-not_both (Ok x) refused done = cc
-not_both (Err y) refused done = cc
-
 -- what is true of an answer that is no refusal
 pub if_made : {X Y : Type 0} {P : Type 0} (answer : Result X Y) → is_err answer ≡ false → OnOk answer P → P
-if_made (Ok x) made p = p
-if_made (Err y) made p = cc
+if_made answer made p = grind arith
 
 -- a step that was refused makes an event, where one that makes none is not refused
 pub some_event : {E X Y : Type 0} (event : Option E) (answer : Result X Y) → IsErr answer → (IsNone event → IsOk answer) → IsSome event
-some_event None answer refused none = absurd (not_both answer refused (none refl))
-some_event (Some e) answer refused none = refl
+some_event event answer refused none = grind (arith)

@@ -1,24 +1,19 @@
 -- A step of a machine, put together from what its parts left in the machine's fields.
-use Rattle.std.proofs.Common.{◌≡◌, ℕ, ◌-◌, ◌<◌, List, [], ◌∷◌, ◌++◌, length, length-append, take, get_or, slice_set, Option, None, Some, false, refl, ap, ◌∙◌, arith, rules}
+use Rattle.std.proofs.Common.{◌≡◌, ℕ, ◌-◌, ◌<◌, List, [], ◌∷◌, ◌++◌, length, length-append, take, get_or, slice_set, Option, None, Some, ap, ◌∙◌, arith}
 use Rattle.std.proofs.Math.Seq.{take-append_seam}
-use Rattle.std.specs.Prelude.{Bool, true, IsNone, IsSome, IsTrue, ◌↔◌, if◌then◌else◌}
+use Rattle.std.specs.Prelude.{Bool, IsNone, IsSome, IsTrue, ◌↔◌, if◌then◌else◌}
 use Rattle.std.proofs.lemmas.List.{get_or_read, set-get_or}
 use Rattle.pp_numbers.specs.ChannelNo.{channel_index}
 use Rattle.pp_channel.specs.declared.event.Event.{Event}
 use Rattle.pp_machine.specs.Headline.{IsMachine}
 use Rattle.pp_machine.specs.MachineState.{MachineState, history_of, processor_of}
 use Rattle.pp_machine.specs.MachineStep.{answer_to, counted, served, taken, stepped, step_outcome}
-use Rattle.pp_word.specs.declared.opcode.Opcode.{Opcode}
-use Rattle.pp_processor.specs.InstructionTable.{row}
-use Rattle.pp_processor.specs.NeedAndEffect.{need, processor_after, outcome, is_held, if_running, answered}
-use Rattle.pp_processor.specs.NextStep.{IsAtInstruction}
-use Rattle.pp_processor.specs.Replay.{fits}
-use Rattle.pp_processor.specs.Step.{Step, need_of}
+use Rattle.pp_processor.specs.NeedAndEffect.{need, processor_after, outcome}
 use Rattle.pp_processor.specs.Processor.{Processor}
 use Rattle.pp_numbers.specs.PpNo.{processor_index}
-use Rattle.pp_processor.specs.declared.{answer.Answer.Answer, block.Block.Block, need.Need.Need}
+use Rattle.pp_processor.specs.declared.{answer.Answer.Answer, need.Need.Need}
 use Rattle.pp_processor.specs.declared.answer.Answer.TheVariants.{Local}
-use Rattle.pp_processor.specs.declared.outcome.Outcome.TheVariants.{Held, Moved, AtRest}
+use Rattle.pp_processor.specs.declared.outcome.Outcome.TheVariants.{Moved}
 use Rattle.pp_processor.specs.declared.pp_state.PpState.TheVariants.{Running}
 
 -- what was read at the place of processor n is that processor
@@ -34,24 +29,17 @@ taken_by {before} {now} {new} {i} {pp} {after} n x view place own is new_is = gr
 pub with_processors : {m : MachineState} (processors : List Processor) → length processors ≡ length m.processors → IsMachine m → IsMachine (record m { processors = processors })
 with_processors processors many is = grind arith
 
-never_held : (block : Option Block) → is_held block Local ≡ false
-never_held None = refl
-never_held (Some block) = refl
-
 -- what needs nothing from outside moves a running processor
 pub moved_alone : (pp : Processor) → pp.state ≡ Running → outcome pp Local ≡ Moved
 unfolding outcome
-moved_alone pp running = ap (λ s. if_running s (if is_held pp.block Local then Held else Moved) AtRest) running ∙ ap (λ held. if held then Held else Moved) (never_held pp.block)
+moved_alone pp running = grind arith
 
 -- a choice by whether a number names something, where the search for it is known
 pub if_found : {X Y : Type 0} (found : X) (b : Bool) (t e : Y) → (IsSome (Some found) ↔ IsTrue b) → (if b then t else e) ≡ t
-if_found found true t e h = refl
-if_found found false t e h = search rules
+if_found found b t e h = grind arith
 
 pub if_missing : {X Y : Type 0} (missing : Option X) (b : Bool) (t e : Y) → missing ≡ None → (IsSome missing ↔ IsTrue b) → (if b then t else e) ≡ e
-if_missing missing false t e none h = refl
-if_missing None true t e none h = search rules
-if_missing (Some found) true t e none h = cc
+if_missing missing b t e none h = grind arith
 
 -- a machine that got one of its processors back as it was
 pub same_machine : {before now : MachineState} {pp after : Processor} (i : ℕ) → before ≡ now → pp ≡ get_or before.processors i pp → after ≡ pp → record before { processors = slice_set before.processors i after } ≡ now
@@ -78,5 +66,4 @@ popped {X} {before} {pushed} {after} {n} e push count pop =
 
 -- what is there is not missing
 pub some_is_made : {X : Type 0} (made : Option X) (event : X) → made ≡ Some event → IsNone made → ⊥
-some_is_made None event is none = cc
-some_is_made (Some other) event is none = search rules
+some_is_made made event is none = grind arith

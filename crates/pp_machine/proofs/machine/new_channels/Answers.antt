@@ -1,7 +1,6 @@
 use Rattle.std.proofs.lemmas.Grind.{common_steps}
 use Rattle.std.proofs.Common.{arith, ◌≡◌, ◌+◌, List, [], length, replicate, ap, ◌∙◌}
 use Rattle.std.proofs.lemmas.List.{length-replicate}
-use Rattle.pp_numbers.specs.ChannelNo.{channel_count}
 use Rattle.pp_channel.specs.declared.event.Event.{Event}
 use Rattle.pp_machine.proofs.HeadlineLemmas.{headline_of_none}
 use Rattle.pp_machine.proofs.machine.new_channels.Goals as goal
@@ -19,6 +18,4 @@ pub push_reserved-requires : goal.push_reserved-requires
 push_reserved-requires g c = omega (arith, c.loop.channels.ok.0, ap length c.loop.invariant.without_history, length-replicate {A = List Event} c.loop.counter [])
 
 pub returns-clause-items : goal.returns-clause-items
-returns-clause-items g c =
-    let all : c.loop.counter ≡ channel_count = omega arith in
-    c.loop.invariant.without_history ∙ ap (λ k. replicate {A = List Event} k []) all
+returns-clause-items g c = grind arith

@@ -1,7 +1,6 @@
-use Rattle.std.proofs.Common.{◌≡◌, arith, length, replicate, ap, ◌∙◌}
+use Rattle.std.proofs.Common.{arith, length, ap}
 use Rattle.std.proofs.lemmas.List.{length-replicate}
 use Rattle.std.proofs.lemmas.Grind.{replicate_next}
-use Rattle.pp_numbers.specs.PpNo.{processor_count}
 use Rattle.pp_processor.specs.Processor.{new_processor}
 use Rattle.pp_machine.proofs.machine.new_processors.Goals as goal
 
@@ -15,6 +14,4 @@ pub push_reserved-requires : goal.push_reserved-requires
 push_reserved-requires g c = omega (arith, c.loop.processors.ok.0, ap length c.loop.invariant.made, length-replicate c.loop.counter (new_processor c.args.profile))
 
 pub returns : goal.returns
-returns g c =
-    let all : c.loop.counter ≡ processor_count = omega arith in
-    c.loop.invariant.made ∙ ap (λ k. replicate k (new_processor c.args.profile)) all
+returns g c = grind arith

@@ -1,6 +1,6 @@
 use Rattle.std.proofs.Common.{◌≡◌, ◌<◌, ◌≤◌, ◌+◌, ◌-◌, refl, List, [], ap, get_or, length, sym, subst, ◌∙◌, arith}
 use Rattle.std.proofs.lemmas.List.{get_or_read}
-use Rattle.std.specs.Prelude.{None, Option, Some, false, is_some}
+use Rattle.std.specs.Prelude.{None, Option, false, is_some}
 use Rattle.pp_channel.specs.Answer.{channel_state, event_of, reply_by, reply_shown, reply_to}
 use Rattle.pp_numbers.specs.ChannelNo.{channel_index}
 use Rattle.pp_channel.specs.declared.{chan_op.ChanOp.ChanOp, event.Event.Event}
@@ -9,8 +9,7 @@ use Rattle.pp_machine.proofs.QuietLemmas.{none_ahead, ahead_more, local_ahead, s
 use Rattle.pp_machine.proofs.quiet.run_quiet_steps.Goals as goal
 
 no_event : (made : Option Event) → is_some made ≡ false → made ≡ None
-no_event None none = refl
-no_event (Some e) none = cc
+no_event made none = grind arith
 
 shown_reply : (op : ChanOp) (h : List Event) → event_of op h ≡ None → reply_shown op (channel_state h) ≡ reply_to op h
 shown_reply op h none = sym (ap (reply_by op (channel_state h)) none)

@@ -1,4 +1,4 @@
-use Rattle.std.proofs.Common.{◌-◌, arith}
+use Rattle.std.proofs.Common.{arith}
 use Rattle.pp_machine.proofs.DeadStartLemmas.{none_started, one_more, still_unused}
 use Rattle.pp_machine.proofs.machine.Machine.+open_below.Goals as goal
 

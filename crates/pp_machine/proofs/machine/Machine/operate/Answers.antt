@@ -1,20 +1,16 @@
-use Rattle.std.proofs.Common.{◌≡◌, List, Option, map, ◌++◌, ◌∷◌, [], arith, ℕ, get_or, get_or-set_same, slice_set, refl, ap, sym, subst, ◌∙◌, rules}
+use Rattle.std.proofs.Common.{◌≡◌, List, ◌++◌, ◌∷◌, [], arith, ℕ, get_or, get_or-set_same, slice_set, ap, sym, subst, ◌∙◌, rules}
 use Rattle.std.specs.Prelude.{Some, length, IsTrue, ◌<◌}
 use Rattle.std.specs.Option.{option_to_list}
 use Rattle.std.proofs.lemmas.Grind.{common_steps}
 use Rattle.std.proofs.lemmas.List.{get_or_read, set-get_or}
-use Rattle.pp_channel.specs.Answer.{event_of, history_after, reply_to}
+use Rattle.pp_channel.specs.Answer.{event_of, history_after}
 use Rattle.pp_channel.specs.History.{IsLawful}
 use Rattle.pp_channel.specs.Law.{KeepsLaw}
 use Rattle.pp_channel.specs.declared.event.Event.{Event}
 use Rattle.pp_numbers.specs.ChannelNo.{channel_index, names_channel}
-use Rattle.pp_processor.specs.declared.{need.Need.Need}
 use Rattle.pp_machine.specs.declared.{trace.Trace.Trace}
-use Rattle.pp_machine.specs.Headline.{IsMachine, opening_history}
-use Rattle.pp_machine.specs.MachineState.{MachineState, history_of}
-use Rattle.pp_machine.specs.MachineStep.{histories_after, served}
-use Rattle.pp_processor.specs.declared.answer.Answer.TheVariants as answers
-use Rattle.pp_processor.specs.declared.need.Need.TheVariants.{Channel}
+use Rattle.pp_machine.specs.Headline.{opening_history}
+use Rattle.pp_machine.specs.MachineState.{MachineState}
 use Rattle.pp_machine.proofs.TakenLemmas.{own_history, popped, some_is_made}
 use Rattle.pp_machine.proofs.MachineStepLemmas.{served_without_event}
 use Rattle.pp_machine.proofs.HeadlineLemmas.{headline_after_event}
@@ -31,12 +27,7 @@ pub invariant_of-self : goal.invariant_of-self
 invariant_of-self g c = grind arith
 
 pub invariant_of-self-in-Err : goal.invariant_of-self-in-Err
-invariant_of-self-in-Err g c =
-    let inside = c.self.inside in
-    let before : MachineState = record { profile = inside.profile; processors = inside.processors.items; histories = inside.channels.items; central = inside.central; turns = inside.turns; trace = inside.trace.items; opened = inside.opened } in
-    let trace = popped _ c.in_ok-push-in-Some.ensures.items (omega (arith, c.push.new.self.ok.0)) c.pop.ensures.rest in
-    subst (λ (hs : List (List Event)). IsMachine (record before { histories = hs; trace = c.pop.new.self.items })) (sym (same_histories c.index-i.result c.index_mut-lent.ensures.value c.in-Err.ensures.unchanged_after_memory))
-    (subst (λ (t : List Trace). IsMachine (record before { trace = t })) (sym trace) c.self.invariant)
+invariant_of-self-in-Err g c = grind (arith, popped, same_histories)
 
 pub returns-in-Err-clause-unchanged_after_memory : goal.returns-in-Err-clause-unchanged_after_memory
 returns-in-Err-clause-unchanged_after_memory g c =
@@ -86,22 +77,7 @@ pub returns-in-Err-clause-no_event : goal.returns-in-Err-clause-no_event
 returns-in-Err-clause-no_event g c = grind (arith, own_history, some_is_made)
 
 pub returns-in-Ok-clause-reply : goal.returns-in-Ok-clause-reply
-returns-in-Ok-clause-reply g c =
-    ap answers.Channel (c.in-Ok.ensures.reply ∙ ap (reply_to c.args.op) (own_history c.args.channel c.self.view_is c.index-i.ensures.place (omega (arith, c.index-i.ensures.below, c.self.invariant.channels)) c.index_mut-lent.ensures.value))
+returns-in-Ok-clause-reply g c = grind (arith, own_history)
 
 pub returns-in-Ok-clause-ok : goal.returns-in-Ok-clause-ok
-returns-in-Ok-clause-ok g c =
-    let made : event_of c.args.op (history_of c.args.channel c.args.self.now) ≡ Some c.in-Some.event = ap (event_of c.args.op) (sym (own_history c.args.channel c.self.view_is c.index-i.ensures.place (omega (arith, c.index-i.ensures.below, c.self.invariant.channels)) c.index.ensures)) ∙ (sym c.next_event-made.ensures.event ∙ c.in-Some.is) in
-    let inside = c.self.inside in
-    let n = c.args.n in
-    let x : Need = Channel c.args.channel c.args.op in
-    let entry : Trace = record { turn = inside.turns; pp = n; channel = c.args.channel; event = c.in-Some.event } in
-    let before : MachineState = record { profile = inside.profile; processors = inside.processors.items; histories = inside.channels.items; central = inside.central; turns = inside.turns; trace = inside.trace.items; opened = inside.opened } in
-    let one : event_of c.args.op (history_of c.args.channel before) ≡ Some c.in-Some.event = ap (λ (m : MachineState). event_of c.args.op (history_of c.args.channel m)) c.self.view_is ∙ made in
-    let below : c.index-i.result < length inside.channels.items = omega (arith, c.index-i.ensures.below, c.self.invariant.channels) in
-    let read : c.index_mut-lent.result.now ≡ history_of c.args.channel before = own_history {before = before} c.args.channel refl c.index-i.ensures.place below c.index_mut-lent.ensures.value in
-    let histories = ap (λ k. slice_set inside.channels.items k c.make-reply.new.self) c.index-i.ensures.place ∙ ap (slice_set inside.channels.items (channel_index c.args.channel)) (c.in-Ok.ensures.history ∙ ap (history_after c.args.op) read) in
-    ap (λ (hs : List (List Event)). record before { histories = hs; trace = c.push.new.self.items }) histories
-    ∙ ap (λ (t : List Trace). record before { histories = histories_after x before; trace = t }) c.in_ok-push-in-Some.ensures.items
-    ∙ ap (λ (e : Option Event). record before { histories = histories_after x before; trace = before.trace ++ map (λ v. record { turn = before.turns; pp = n; channel = c.args.channel; event = v }) (option_to_list e) }) (sym one)
-    ∙ ap (served n x) c.self.view_is
+returns-in-Ok-clause-ok g c = grind (arith, own_history, slice_set)

@@ -53,11 +53,7 @@ at_event_of_round : (g : _) (c : In-Err g) → IsEventAt c.args.turns c.args.sel
 at_event_of_round g c = grind (arith, whole_and_rest)
 
 pub returns-in-Err-clause-run : goal.returns-in-Err-clause-run
-returns-in-Err-clause-run g c = record {
-  ran = tt;
-  cut = barrel_made c.args.turns _ c.args.self.now c.run_rounds.new.self (at_event_of_round g (goal.at.returns-in-Err-clause-run g c).In-Err) c.in-Err.ensures.cut.ran;
-  headline = c.run_rounds.ensures.headline;
-}
+returns-in-Err-clause-run g c = grind (arith, barrel_made, at_event_of_round, goal.at.returns-in-Err-clause-run)
 
 pub returns-in-Err-clause-cut_at_event : goal.returns-in-Err-clause-cut_at_event
 returns-in-Err-clause-cut_at_event g c = barrel_cut c.args.turns _ c.args.self.now (at_event_of_round g (goal.at.returns-in-Err-clause-cut_at_event g c).In-Err)

@@ -1,7 +1,6 @@
-use Rattle.std.proofs.Common.{◌*◌, ap, subst, ◌∙◌, arith}
+use Rattle.std.proofs.Common.{◌*◌, subst, ◌∙◌, arith}
 use Rattle.pp_numbers.specs.Profile.{processors_in}
 use Rattle.pp_machine.specs.Rounds.{IsCut}
-use Rattle.pp_machine.specs.Run.{run, barrel}
 use Rattle.pp_machine.proofs.RoundLemmas.{counted_rounds, turns_at_most, round_later, rounds_after, cut_after}
 use Rattle.pp_machine.proofs.machine.Machine.run_by_turns.Goals as goal
 
@@ -13,23 +12,13 @@ returns-in-Err-clause-cut g c =
     cut_after c.loop-done.done c.min-further.result c.args.rounds c.in-Err.before (c.from.result * c.from-in-Err.result) c.args.self.now c.loop-done.self c.run_passing.new.self c.loop-done.invariant.ran counted cut (omega arith)
 
 pub loop-done-preserved : goal.loop-done-preserved
-loop-done-preserved g c =
-    let round = round_later c.loop-done.done c.round-round.result c.args.self.now c.loop-done.self c.loop-done.invariant.ran c.round-round.ensures in
-    let ran = c.in_default.ensures.ok ∙ ap (λ k. run (barrel c.loop-done.self.profile (c.min-further.result * k)) c.loop-done.self) round in
-    record {
-      ran = rounds_after c.loop-done.done c.min-further.result c.args.self.now c.loop-done.self c.run_passing.new.self c.loop-done.invariant.ran ran;
-      within = omega arith;
-      headline = c.run_passing.ensures.headline;
-    }
+loop-done-preserved g c = grind (arith, round_later, rounds_after)
 
 pub run_passing-requires-clause-round : goal.run_passing-requires-clause-round
-run_passing-requires-clause-round g c =
-    let round = round_later c.loop-done.done c.round-round.result c.args.self.now c.loop-done.self c.loop-done.invariant.ran c.round-round.ensures in
-    omega (arith, round)
+run_passing-requires-clause-round g c = grind (arith, round_later)
 
 pub run_passing-requires-clause-whole : goal.run_passing-requires-clause-whole
-run_passing-requires-clause-whole g c = λ several.
-    round_later c.loop-done.done c.round-round.result c.args.self.now c.loop-done.self c.loop-done.invariant.ran c.round-round.ensures
+run_passing-requires-clause-whole g c = grind (arith, round_later)
 
 pub overflow_mul-result : goal.overflow_mul-result
 overflow_mul-result g c = omega (arith, c.from.ensures, turns_at_most c.args.self.now.profile c.from.result c.from-in-Err.result (c.from-in-Err.ensures ∙ c.round-round.ensures))

@@ -1,6 +1,6 @@
-use Rattle.std.proofs.Common.{◌≡◌, ◌+◌, ◌-◌, List, ℕ, length, take, ap, sym, ◌∙◌, subst, arith}
+use Rattle.std.proofs.Common.{◌≡◌, ◌+◌, ◌-◌, List, ℕ, length, take, sym, subst, arith}
 use Rattle.std.proofs.lemmas.List.{length-take}
-use Rattle.pp_machine.specs.Run.{IsCutAtEvent, barrel, run}
+use Rattle.pp_machine.specs.Run.{IsCutAtEvent, barrel}
 use Rattle.pp_machine.proofs.OrderLemmas.{cut_in_first, cut_in_second, made_of_both, made_of_first, made_of_second, order_parts}
 use Rattle.pp_machine.proofs.RoundLemmas.{profile_after}
 use Rattle.pp_machine.proofs.RunLemmas.{length-barrel}
@@ -12,8 +12,7 @@ returns-in-Err-clause-run g c =
     let parts = order_parts c.args.first.now m.profile c.args.steps c.min-count.result c.min-count.ensures in
     record {
       ran = tt;
-      cut = made_of_first _ (barrel m.profile (c.args.steps - c.min-count.result)) _ m _ c.in-Err.ensures.cut_at_event.0 c.in-Err.ensures.run.cut
-          ∙ ap (λ (ns : List ℕ). run (take c.in-Err.cut.done ns) m) (sym parts);
+      cut = grind (arith, made_of_first);
       headline = c.run_turns.ensures.run.headline;
     }
 
@@ -29,9 +28,7 @@ returns-in-Ok-clause-run g c =
     let parts = order_parts c.args.first.now m.profile c.args.steps c.min-count.result c.min-count.ensures in
     let same = profile_after (take c.min-count.result c.args.first.now) m c.run_turns.new.self c.in_default.ensures.run.ran in
     record {
-      ran = made_of_both (take c.min-count.result c.args.first.now) (barrel m.profile (c.args.steps - c.min-count.result)) m c.run_turns.new.self _ c.in_default.ensures.run.ran
-          (c.in-Ok.ensures.run.ran ∙ ap (λ p. run (barrel p (c.args.steps - c.min-count.result)) c.run_turns.new.self) same)
-          ∙ ap (λ (ns : List ℕ). run ns m) (sym parts);
+      ran = grind (arith, made_of_both);
       cut = tt;
       headline = c.run_barrel.ensures.run.headline;
     }
@@ -45,9 +42,7 @@ returns-in-Err-run_barrel-clause-run g c =
     let long : count ≡ length (take count c.args.first.now) = omega (arith, length-take count c.args.first.now, c.min-count.ensures) in
     record {
       ran = tt;
-      cut = made_of_second (take count c.args.first.now) (barrel m.profile (c.args.steps - count)) count c.in-Err-run_barrel.cut.done m c.run_turns.new.self _ long c.in_default.ensures.run.ran
-          (c.in-Err-run_barrel.ensures.run.cut ∙ ap (λ p. run (take c.in-Err-run_barrel.cut.done (barrel p (c.args.steps - count))) c.run_turns.new.self) same)
-          ∙ ap (λ (ns : List ℕ). run (take (count + c.in-Err-run_barrel.cut.done) ns) m) (sym parts);
+      cut = grind (arith, made_of_second);
       headline = c.run_barrel.ensures.run.headline;
     }
 

@@ -5,10 +5,10 @@ use Rattle.pp_machine.proofs.RoundLemmas.{event_after, profile_after, turns_afte
 use Rattle.pp_machine.proofs.machine.Machine.run_passing.Goals as goal
 
 one_round_more : (done turns : ℕ) → done * turns + turns ≡ (done + 1) * turns
-one_round_more done turns = grind arith
+one_round_more done turns = grind (arith)
 
 turns_left : (done rounds turns before : ℕ) → done < rounds → before < turns → done * turns + before < rounds * turns
-turns_left done rounds turns before fewer within = grind arith
+turns_left done rounds turns before fewer within = grind (arith)
 
 pub run_round-requires-clause-round : goal.run_round-requires-clause-round
 run_round-requires-clause-round g c =
@@ -25,10 +25,7 @@ returns-in-Err-clause-cut g c =
     let so_far : c.from.result * c.from-in-Err.result ≡ done * c.args.turns = ap (λ k. k * c.from-in-Err.result) c.from.ensures ∙ ap (λ k. done * k) c.from-in-Err.ensures in
     record {
       ran = turns_after done c.in-Err.before (c.from.result * c.from-in-Err.result) m c.loop-done.self c.run_round.new.self ran (so_far ∙ whole) c.in-Err.ensures.cut.ran;
-      at_event = (
-        rw so_far (turns_left done c.args.rounds c.args.turns c.in-Err.before (omega arith) c.in-Err.ensures.cut.at_event.0),
-        event_after done c.in-Err.before (c.from.result * c.from-in-Err.result) m c.loop-done.self ran (so_far ∙ whole) c.in-Err.ensures.cut.at_event.1,
-      );
+      at_event = grind (arith, turns_left, event_after);
     }
 
 pub loop-done-preserved : goal.loop-done-preserved

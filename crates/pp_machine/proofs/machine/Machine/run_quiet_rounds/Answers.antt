@@ -10,13 +10,7 @@ use Rattle.pp_machine.proofs.QuietLemmas.{rounds_ahead}
 use Rattle.pp_machine.proofs.machine.Machine.run_quiet_rounds.Goals as goal
 
 pub invariant_of-self : goal.invariant_of-self
-invariant_of-self g c = record {
-  processors = c.run_ahead-rounds.ensures.as_many;
-  channels = c.self.invariant.channels;
-  opened = c.self.invariant.opened;
-  central = c.self.invariant.central;
-  headline = c.self.invariant.headline;
-}
+invariant_of-self g c = grind arith
 
 pub returns-clause-ran : goal.returns-clause-ran
 returns-clause-ran g c =

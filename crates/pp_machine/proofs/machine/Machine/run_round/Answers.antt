@@ -5,9 +5,8 @@ use Rattle.pp_numbers.specs.Profile.{processor_in_turn}
 use Rattle.pp_machine.specs.Rounds.{PassesOverRest}
 use Rattle.pp_machine.specs.Run.{run, barrel}
 use Rattle.pp_machine.proofs.RoundLemmas.{passes_over_stepped}
-use Rattle.pp_machine.proofs.RunLemmas.{some_event}
+use Rattle.pp_machine.proofs.RunLemmas.{some_event, barrel_more}
 use Rattle.pp_numbers.proofs.ProfileLemmas.{in_turn_at}
-use Rattle.pp_machine.proofs.RunLemmas.{barrel_more}
 use Rattle.pp_machine.proofs.machine.Machine.run_round.Goals as goal
 
 pub loop-self-preserved : goal.loop-self-preserved

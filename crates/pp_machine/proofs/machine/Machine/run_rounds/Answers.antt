@@ -1,5 +1,4 @@
-use Rattle.std.proofs.Common.{◌*◌, ◌+◌, refl, ◌∙◌, arith}
-use Rattle.pp_numbers.specs.Profile.{processors_in}
+use Rattle.std.proofs.Common.{◌*◌, ◌+◌, ◌∙◌, arith}
 use Rattle.pp_machine.proofs.RoundLemmas.{counted_rounds, turns_at_most, rounds_after, cut_after}
 use Rattle.pp_machine.proofs.machine.Machine.run_rounds.Goals as goal
 
@@ -21,12 +20,4 @@ pub overflow_mul-result : goal.overflow_mul-result
 overflow_mul-result g c = omega (arith, c.from.ensures, turns_at_most c.args.self.now.profile c.from.result c.from-in-Err.result (c.from-in-Err.ensures ∙ c.round-round.ensures))
 
 pub overflow_add-result : goal.overflow_add-result
-overflow_add-result g c =
-    let now = c.run_quiet_rounds-quiet.new.self.profile in
-    omega (
-      arith,
-      c.from.ensures,
-      turns_at_most c.args.self.now.profile c.from.result c.from-in-Err.result (c.from-in-Err.ensures ∙ c.round-round.ensures),
-      turns_at_most now c.min-further.result (processors_in now) refl,
-      c.in-Err.ensures.cut.at_event.0,
-    )
+overflow_add-result g c = grind (arith, turns_at_most)

@@ -1,13 +1,11 @@
 use Rattle.std.proofs.Common.{◌≡◌, length, arith, refl, sym, ap, ◌∙◌, subst, slice_set, slice_get}
-use Rattle.std.specs.Prelude.{IsTrue, nat_lt}
+use Rattle.std.specs.Prelude.{nat_lt}
 use Rattle.std.proofs.lemmas.List.{length-set}
-use Rattle.pp_channel.specs.Answer.{channel_state}
 use Rattle.pp_processor.specs.NextStep.{IsNext}
-use Rattle.pp_machine.specs.MachineState.{MachineState, history_of, processor_of}
+use Rattle.pp_machine.specs.MachineState.{MachineState, processor_of}
 use Rattle.pp_machine.specs.MachineStep.{answer_to, served, taken}
 use Rattle.pp_processor.specs.NeedAndEffect.{need, outcome}
 use Rattle.pp_processor.specs.Processor.{Processor}
-use Rattle.pp_processor.specs.Replay.{fits}
 use Rattle.pp_processor.specs.declared.{answer.Answer.Answer, need.Need.Need}
 use Rattle.pp_processor.specs.declared.answer.Answer.TheVariants as answers
 use Rattle.pp_processor.specs.declared.need.Need.TheVariants.{Channel, Read, Write}
@@ -31,13 +29,7 @@ pub invariant_of-self-in-Channel : goal.invariant_of-self-in-Channel
 invariant_of-self-in-Channel g c = grind (arith, with_processors, length-set)
 
 pub give_reply-outcome-requires-clause-fits : goal.give_reply-outcome-requires-clause-fits
-give_reply-outcome-requires-clause-fits g c =
-    let op = c.in-Channel.op in
-    let x : Need = Channel c.in-Channel.channel op in
-    let needs : need (processor_of c.args.n c.args.self.now) ≡ x = ap need (sym (own_processor c.args.n c.self.view_is c.index-i.ensures.place (omega (arith, c.index-i.ensures.below, c.self.invariant.processors)) c.index.ensures)) ∙ (sym c.wants_next.ensures ∙ c.in-Channel.is) in
-    let own = own_processor c.args.n (c.self-in-Channel.view_is ∙ c.in_ok-reply-in-Channel.ensures.ok) c.index-i.ensures.place (omega (arith, c.index-i.ensures.below, c.self-in-Channel.invariant.processors)) c.index_mut-in-Channel.ensures.value in
-    subst (λ (y : Need). IsTrue (fits y (answers.Channel c.in_ok-reply-in-Channel.reply))) (sym (ap need own ∙ needs))
-    (subst (λ (a : Answer). IsTrue (fits x a)) (sym c.in_ok-reply-in-Channel.ensures.reply) (state_fits op (channel_state (history_of c.in-Channel.channel c.args.self.now))))
+give_reply-outcome-requires-clause-fits g c = grind (arith, own_processor, state_fits)
 
 pub give_central-requires-clause-next : goal.give_central-requires-clause-next
 give_central-requires-clause-next g c = subst (λ (pp : Processor). IsNext c.args.next.now c.args.d pp) (sym (own_processor c.args.n c.self.view_is c.index-i.ensures.place (omega (arith, c.index-i.ensures.below, c.self.invariant.processors)) c.index_mut-in-Read.ensures.value)) c.requires

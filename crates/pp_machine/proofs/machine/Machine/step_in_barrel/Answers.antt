@@ -5,10 +5,9 @@ use Rattle.pp_channel.specs.declared.chan_op.ChanOp.TheVariants.{Probe}
 use Rattle.pp_processor.specs.NextStep.{IsNext}
 use Rattle.pp_machine.specs.MachineState.{MachineState, processor_of}
 use Rattle.pp_machine.specs.MachineStep.{IsStep, stepped, step_outcome}
-use Rattle.pp_processor.specs.NeedAndEffect.{need, outcome}
+use Rattle.pp_processor.specs.NeedAndEffect.{need}
 use Rattle.pp_processor.specs.Processor.{Processor}
 use Rattle.pp_numbers.specs.Profile.{has_channel}
-use Rattle.pp_processor.specs.declared.answer.Answer.TheVariants as answers
 use Rattle.pp_processor.specs.declared.need.Need.TheVariants.{Local, Channel}
 use Rattle.pp_machine.proofs.MachineStepLemmas.{stepped_alone, outcome_alone}
 use Rattle.pp_machine.proofs.TakenLemmas.{own_processor, taken_by, same_machine, with_processors}
@@ -23,19 +22,10 @@ step_internal-requires g c =
     subst (λ (pp : Processor). IsNext (Some c.in-Some.op) c.next_instruction-next.result.1 pp) (read ∙ sym lent) (rw c.in-Some.is at c.next_instruction-next.ensures)
 
 pub invariant_of-self : goal.invariant_of-self
-invariant_of-self g c =
-    with_processors _ (length-set c.self.inside.processors.items c.index-i.result c.step_internal.new.self) c.self.invariant
+invariant_of-self g c = grind (arith, with_processors, length-set)
 
 pub returns-then-step_internal-clause-step : goal.returns-then-step_internal-clause-step
-returns-then-step_internal-clause-step g c =
-    let own = own_processor c.args.n c.self.view_is c.index-i.ensures.place (omega (arith, c.index-i.ensures.below, c.self.invariant.processors)) c.index_mut.ensures.value in
-    let local : need (processor_of c.args.n c.args.self.now) ≡ Local = ap need (sym own) ∙ c.if-step_internal.ensures.local in
-    record {
-      ok = taken_by c.args.n answers.Local c.self.view_is c.index-i.ensures.place own c.if-step_internal.ensures.after c.count_turn-then-step_internal.ensures.turn ∙ sym (stepped_alone c.args.n c.args.self.now local);
-      outcome = sym (outcome_alone c.args.n c.args.self.now local (ap (λ pp. outcome pp answers.Local) (sym own) ∙ c.if-step_internal.ensures.moved));
-      unchanged_after_memory = tt;
-      no_event = λ none. refl;
-    }
+returns-then-step_internal-clause-step g c = grind (arith, own_processor, taken_by, stepped_alone, outcome_alone)
 
 pub tests_flags-requires : goal.tests_flags-requires
 tests_flags-requires g c =
@@ -46,8 +36,7 @@ tests_flags-requires g c =
     subst (λ (pp : Processor). IsNext (Some c.in-Some.op) c.next_instruction-next.result.1 pp) (read ∙ sym again) (rw c.in-Some.is at c.next_instruction-next.ensures)
 
 pub invariant_of-self-then-tests_flags : goal.invariant_of-self-then-tests_flags
-invariant_of-self-then-tests_flags g c =
-    with_processors _ (length-set c.self.inside.processors.items c.index-i.result c.step_internal.new.self) c.self.invariant
+invariant_of-self-then-tests_flags g c = grind (arith, with_processors, length-set)
 
 pub test_flags-requires-clause-next : goal.test_flags-requires-clause-next
 test_flags-requires-clause-next g c =
@@ -76,8 +65,7 @@ returns-then-tests_flags-clause-step g c =
     }
 
 pub invariant_of-self-else-tests_flags : goal.invariant_of-self-else-tests_flags
-invariant_of-self-else-tests_flags g c =
-    with_processors _ (length-set c.self.inside.processors.items c.index-i.result c.step_internal.new.self) c.self.invariant
+invariant_of-self-else-tests_flags g c = grind (arith, with_processors, length-set)
 
 pub step_external-requires : goal.step_external-requires
 step_external-requires g c =
