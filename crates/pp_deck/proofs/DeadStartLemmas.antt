@@ -1,15 +1,14 @@
 -- A loaded deck at dead start: who waits, on which channel, and what stays as the lines set it.
 use Rattle.std.proofs.Common.{◌≡◌, ℕ, ◌<◌, ◌≤◌, ◌&&◌, Bool, true, false, IsTrue, List, [], ◌∷◌, length, replicate, get_or, if◌then◌else◌, refl, sym, ap, ◌∙◌, arith}
 use Rattle.std.specs.Prelude.{Contains, not, nat_lt, slice_index_or}
-use Rattle.std.proofs.lemmas.Bool.{and_from, and_parts, both_ways, false_from_ne_true, not_from_false, not-true, ltb-true, ltb-false, le-ltb}
-use Rattle.std.proofs.lemmas.Bool.Decides.{leb_tells}
-use Rattle.std.proofs.lemmas.List.{ext_get_or, get_or_past, get_or-replicate, length-replicate}
+use Rattle.std.proofs.lemmas.Bool.{and_from, and_parts, both_ways, false_from_ne_true, not_from_false, not-true, ltb-true, ltb-false}
+use Rattle.std.proofs.lemmas.List.{ext_get_or, get_or-replicate, length-replicate}
 use Rattle.std.proofs.lemmas.List.FromFn.{length-map-range_with_len, get_or-map-range_with_len}
 use Rattle.std.proofs.lemmas.List.Folds.{list_any_at}
 use Rattle.pp_numbers.specs.ChannelNo.{channel_count, channel_index, channel_number, names_channel, channel_places}
 use Rattle.pp_channel.specs.declared.event.Event.{Event}
 use Rattle.pp_channel.specs.declared.event.Event.TheVariants.{Activate}
-use Rattle.pp_machine.specs.DeadStart.{WaitsWithin, waits, processor_started, history_started, processors_started, histories_started, opened_where, dead_started}
+use Rattle.pp_machine.specs.DeadStart.{waits, processor_started, history_started, processors_started, histories_started, opened_where, dead_started}
 use Rattle.pp_machine.specs.MachineState.{MachineState, processor_of, history_of, is_opened}
 use Rattle.pp_processor.specs.Processor.{no_processor, waiting_on}
 use Rattle.pp_numbers.specs.PpNo.{names_processor, processor_count, processor_index, processor_number, processor_places}
@@ -51,8 +50,7 @@ some_asks : (lines : List Line) → asks_dead_start lines ≡ true → Contains 
 some_asks lines e = some_line is_dead_start dead_start lines is_request e
   where
     is_request : (line : Line) → is_dead_start line ≡ true → line ≡ dead_start
-    is_request dead_start e = refl
-    is_request line e = absurd (cc)
+    is_request line e = grind arith
 
 -- ---- the loaded machine, where dead start was asked for and where it was not
 
@@ -80,18 +78,13 @@ unnamed_are p named list all done left =
     wanted n = has_processor p n && not (slice_index_or named (processor_index n) false)
 
     by : (i : ℕ) (b : Bool) → nat_lt i (processors_in p) ≡ b → get_or list i false ≡ (b && not (get_or named i false))
-    by i true e = done i (ltb-true i (processors_in p) e)
-    by i false e = left i (ltb-false i (processors_in p) e)
+    by i b e = grind (arith, ltb-true, ltb-false)
 
     at : (i : ℕ) → i < processor_count → get_or list i false ≡ wanted (processor_number i)
     at i within =
         by i (nat_lt i (processors_in p)) refl
         ∙ ap (λ (b : Bool). b && not (get_or named i false)) (sym (has_at p i within))
         ∙ ap (λ k. has_processor p (processor_number i) && not (get_or named k false)) (sym (processor_places.place_of_number i within))
-
--- none of them is one that the profile lacks
-pub unnamed_within : (p : Profile) (named : List Bool) → WaitsWithin p (unnamed_in p named)
-unnamed_within p named place past = grind (arith, leb_tells, get_or_past, length-tabulate, get_or-tabulate, has_at, le-ltb)
 
 -- ---- dead start where nobody waits
 
@@ -176,13 +169,7 @@ module _ (profile : Profile) where
       ∙ ap (λ opened. record set.machine { opened = opened }) (none_opened list nobody) in
       ap (λ (m : MachineState). record set { machine = m }) same
 
-  not_asked : (size : ℕ) (lines : List Line) (c : ℕ) → asks_dead_start lines ≡ false → IsTrue (names_channel c) → is_opened c (set_by profile size lines).machine ≡ false
-  not_asked size lines c e named = opened_is size lines false c e named ∙ ap (λ (b : Bool). b && (has_processor profile c && not (is_named lines c))) e
-
   -- whether dead start was asked for shows in the channels that it opened, as far as it changed anything
   pub dead_start_shows : (size : ℕ) (lines : List Line) (b shown : Bool) → asks_dead_start lines ≡ b → (((c : ℕ) → IsTrue (names_channel c) → is_opened c (with_dead_start b (set_by profile size lines)).machine ≡ false) → shown ≡ false) → (shown ≡ false → (c : ℕ) → IsTrue (names_channel c) → is_opened c (with_dead_start b (set_by profile size lines)).machine ≡ false)
       → with_dead_start shown (set_by profile size lines) ≡ with_dead_start b (set_by profile size lines)
-  dead_start_shows size lines true true e none hidden = refl
-  dead_start_shows size lines true false e none hidden = sym (no_dead_start size lines e (λ c named. sym (opened_is size lines true c e named) ∙ hidden refl c named))
-  dead_start_shows size lines false true e none hidden = let h : true ≡ false = none (λ c named. not_asked size lines c e named) in absurd (cc)
-  dead_start_shows size lines false false e none hidden = refl
+  dead_start_shows size lines b shown e none hidden = grind (arith, no_dead_start, opened_is)

@@ -1,6 +1,6 @@
 -- Each deck that has a meaning keeps the law of loaded decks.
-use Rattle.std.proofs.Common.{◌≡◌, ℕ, ◌<◌, Bool, true, false, cond, IsTrue, List, [], ◌∷◌, length, get_or, Option, Some, None, Ok, Err, if◌then◌else◌, refl, sym, ap, subst, ◌∙◌, ◌++◌, append-nil, arith}
-use Rattle.std.specs.Prelude.{option_map, position, slice_index, Some, None}
+use Rattle.std.proofs.Common.{◌≡◌, ℕ, ◌<◌, Bool, true, false, IsTrue, List, [], ◌∷◌, length, get_or, Some, None, Ok, if◌then◌else◌, refl, sym, ap, subst, ◌∙◌, ◌++◌, append-nil, arith}
+use Rattle.std.specs.Prelude.{option_map, slice_index, Some, None}
 use Rattle.std.proofs.lemmas.List.{length-replicate}
 use Rattle.pp_numbers.specs.ChannelNo.{channel_count}
 use Rattle.pp_channel.specs.declared.event.Event.{Event}
@@ -12,9 +12,8 @@ use Rattle.pp_numbers.proofs.ProfileLemmas.{processor_named}
 use Rattle.pp_deck.specs.DeckLaw.{NamesWithin, SetsWord, SetsCentralWord, Starts, registers_of, at_rest, HoldsLast, WaitsAtDeadStart, KeepsDeckLaw, line_of}
 use Rattle.pp_deck.specs.DeckLine.{Line}
 use Rattle.pp_deck.specs.DeckLoad.{word_for, central_word_for, start_in, asks_dead_start, central_loaded, processor_loaded, is_named}
-use Rattle.pp_deck.specs.DeckMeaning.{LoadedDeck, set_by, loaded, size_of, parsed_deck, unless_faulty, meaning_of_lines, is_foreign, unless_foreign, deck_meaning}
+use Rattle.pp_deck.specs.DeckMeaning.{LoadedDeck, set_by, loaded, size_of, parsed_deck, meaning_of_lines, deck_meaning}
 use Rattle.pp_deck.specs.DeckText.{lines_of}
-use Rattle.pp_deck.specs.declared.deck_fault.DeckFault.{DeckFault}
 use Rattle.pp_deck.proofs.DeadStartLemmas.{is_waiting, waiting, waiting_where, not_waiting, processor_is, opened_is, history_is, all_processors, each_history, stays}
 use Rattle.pp_deck.proofs.LawLemmas.{processor_here, place_here, registers_here, no_block_here, central_here, named_here, some_name, named_some, own_last, all_last, registers_at, start_set, set_start, word_set, set_word, central_set, set_central}
 use Rattle.pp_numbers.proofs.TableLemmas.{length-tabulate}
@@ -26,21 +25,14 @@ use Rattle.pp_channel.specs.Law.{KeepsLaw}
 use Rattle.pp_machine.specs.Headline.{HoldsOnEachChannel, events_on, opening_history}
 
 module _ (profile : Profile) where
-  -- a processor that waits keeps its memory
-  word_either : (b : Bool) (n place : ℕ) (pp : Processor) → word_at (if b then waiting_on n pp else pp) place ≡ word_at pp place
-  word_either b n place pp = grind arith
-
-  here : (size : ℕ) (lines : List Line) (n : ℕ) → IsTrue (names_processor n) → processor_of n (loaded profile size lines).machine ≡ (if is_waiting profile lines n then waiting_on n (processor_of n (set_by profile size lines).machine) else processor_of n (set_by profile size lines).machine)
-  here size lines n named = processor_is profile size lines (asks_dead_start lines) n refl named
-
   as_set : (size : ℕ) (lines : List Line) (n : ℕ) → IsTrue (names_processor n) → (WaitsAtDeadStart profile lines n → ⊥) → processor_of n (loaded profile size lines).machine ≡ processor_of n (set_by profile size lines).machine
-  as_set size lines n named not_so = grind (arith, here, not_waiting)
+  as_set size lines n named not_so = grind (arith, not_waiting, processor_is)
 
   waits_there : (size : ℕ) (lines : List Line) (n : ℕ) → WaitsAtDeadStart profile lines n → processor_of n (loaded profile size lines).machine ≡ waiting_on n (processor_of n (loaded profile size lines).machine)
-  waits_there size lines n w = grind (arith, here, processor_named, waiting_where)
+  waits_there size lines n w = grind (arith, processor_named, waiting_where, processor_is)
 
   places_hold : (size : ℕ) (lines : List Line) (n place : ℕ) → IsTrue (names_processor n) → word_at (processor_of n (loaded profile size lines).machine) place ≡ word_at (processor_of n (set_by profile size lines).machine) place
-  places_hold size lines n place named = grind (arith, here, word_either, is_waiting)
+  places_hold size lines n place named = grind (arith, is_waiting, processor_is)
 
   central_holds : (size : ℕ) (lines : List Line) (central : List ℕ) → central ≡ central_loaded size lines → (address : ℕ) → address < length central → HoldsLast lines (λ k w. SetsCentralWord (line_of lines k) address w) 0 (slice_index central address)
   central_holds size lines central is =
@@ -67,9 +59,7 @@ module _ (profile : Profile) where
             (λ e. some_name n lines (sym same ∙ e), λ h. same ∙ named_some n lines h);
         waits = λ n w. waits_there size lines n (so n w);
         no_block = λ n named not_so. ap (λ (pp : Processor). pp.block) (as_set size lines n named (λ w. not_so (wait n w)) ∙ processor_here profile size lines n named) ∙ no_block_here profile lines n;
-        opened = λ c named.
-            let is = opened_is profile size lines asked c refl named in
-            (λ e. wait c (waiting profile lines c (sym is ∙ e)), λ w. is ∙ waiting_where profile lines c (so c w));
+        opened = grind (arith, opened_is, waiting, waiting_where);
         history = λ c named. history_is profile size lines asked c refl named ∙ sym (ap (λ (b : Bool). if b then Activate ∷ [] else []) (opened_is profile size lines asked c refl named));
         each_processor = all_processors asked set (length-tabulate processor_count (λ place. processor_loaded profile lines (processor_number place)));
         each_name = ap length (stays (λ d. d.named) asked set refl) ∙ length-tabulate processor_count (λ place. is_named lines (processor_number place));
@@ -80,20 +70,10 @@ module _ (profile : Profile) where
 
   -- ---- a deck that has a meaning
 
-  of_faults : (faults : List DeckFault) (set deck : LoadedDeck) → unless_faulty faults set ≡ Ok deck → set ≡ deck
-  of_faults faults set deck e = grind arith
-
-  of_ascii : (text : List ℕ) (o : Option ℕ) (deck : LoadedDeck) → unless_foreign profile text o ≡ Ok deck → loaded profile (size_of (lines_of text)) (parsed_deck profile (lines_of text)) ≡ deck
-  unfolding meaning_of_lines
-  of_ascii text o deck e = grind (arith, of_faults)
-
-  of_short : (text : List ℕ) (b : Bool) (fault : DeckFault) (deck : LoadedDeck) → cond b (Err fault) (unless_foreign profile text (position is_foreign text)) ≡ Ok deck → loaded profile (size_of (lines_of text)) (parsed_deck profile (lines_of text)) ≡ deck
-  of_short text b fault deck e = grind (arith, of_ascii)
-
   -- it is what its lines load
   pub loaded_is : (text : List ℕ) (deck : LoadedDeck) → deck_meaning profile text ≡ Ok deck → loaded profile (size_of (lines_of text)) (parsed_deck profile (lines_of text)) ≡ deck
-  unfolding deck_meaning
-  loaded_is text deck e = of_short text _ _ deck e
+  unfolding deck_meaning meaning_of_lines
+  loaded_is text deck e = grind (arith)
 
   -- it keeps the law of loaded decks
   pub deck_law_of : (text : List ℕ) (deck : LoadedDeck) → deck_meaning profile text ≡ Ok deck → KeepsDeckLaw (parsed_deck profile (lines_of text)) deck

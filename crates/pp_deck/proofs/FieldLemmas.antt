@@ -1,7 +1,7 @@
 -- The fields of a text, and its lines, taken off one by one.
-use Rattle.std.proofs.Common.{◌≡◌, ℕ, suc, ◌+◌, ◌<◌, ◌≤◌, Bool, true, false, not, cond, List, [], ◌∷◌, length, take, drop, get_or, Option, Some, None, refl, sym, ap, ◌∙◌, arith, add-zero, map}
-use Rattle.std.specs.Prelude.{position, unwrap_or, nat_lt, filter, slice_index, ◌==◌}
-use Rattle.std.specs.List.{position_or_len, slice_split, onto_first}
+use Rattle.std.proofs.Common.{◌≡◌, ℕ, ◌+◌, ◌<◌, ◌≤◌, Bool, true, false, not, cond, List, [], ◌∷◌, length, take, drop, get_or, Option, Some, None, refl, sym, ap, ◌∙◌, arith, add-zero, map}
+use Rattle.std.specs.Prelude.{position, unwrap_or, filter, slice_index, ◌==◌}
+use Rattle.std.specs.List.{position_or_len, slice_split}
 use Rattle.std.proofs.lemmas.List.{drop_all, length-drop, get_or-drop, drop_more, length-map}
 use Rattle.std.proofs.lemmas.List.Sums.{prefix_len-le-length, take_while-cons, count_by-le-length}
 use Rattle.std.proofs.lemmas.List.Splits.{slice_split-cons_yes, slice_split-cons_no, length-slice_split}
@@ -12,24 +12,15 @@ use Rattle.pp_deck.specs.DeckText.{is_blank, is_nonempty, fields_in, is_line_fee
 
 -- ---- the first element that passes
 
-or_length : (p : ℕ → Bool) (xs : List ℕ) (b : Bool) → nat_lt (position_or_len p xs) (length xs) ≡ b → unwrap_or (cond b (Some (position_or_len p xs)) None) (length xs) ≡ position_or_len p xs
-or_length p xs b e = grind (arith, ltb-false, prefix_len-le-length)
-
 -- where it stands, or the length
 pub unwrap_or_position : (p : ℕ → Bool) (xs : List ℕ) → unwrap_or (position p xs) (length xs) ≡ position_or_len p xs
-unwrap_or_position p xs = or_length p xs (nat_lt (position_or_len p xs) (length xs)) refl
+unwrap_or_position p xs = grind (arith, ltb-false, prefix_len-le-length)
 
 -- ---- blanks
 
-one_more : (n : ℕ) → 1 + n ≡ suc n
-one_more n = omega arith
-
-blank_first : (x : ℕ) (xs : List ℕ) → is_blank x ≡ true → fields_in (x ∷ xs) ≡ fields_in xs
-unfolding fields_in
-blank_first x xs e = grind (arith, slice_split-cons_yes)
-
 after_blank : (x n : ℕ) (xs : List ℕ) (b : Bool) → is_blank x ≡ b → fields_in (drop n xs) ≡ fields_in xs → fields_in (drop (cond (not (not b)) (1 + n) 0) (x ∷ xs)) ≡ fields_in (x ∷ xs)
-after_blank x n xs b e h = grind (arith, one_more, blank_first)
+unfolding fields_in
+after_blank x n xs b e h = grind (arith, slice_split-cons_yes)
 
 -- blanks before a field say nothing
 behind_blanks : (xs : List ℕ) → fields_in (drop (position_or_len (λ byte. not (is_blank byte)) xs) xs) ≡ fields_in xs
@@ -65,28 +56,15 @@ piece_more x n xs true e more h = (
     behind = ap (filter is_nonempty) (slice_split-cons_yes is_blank x xs e);
   },
 )
-piece_more x n xs false e more h = (
-  more,
-  record {
-    pieces = slice_split-cons_no is_blank x xs e ∙ ap (onto_first x) h.pieces ∙ ap (λ (i : ℕ). take i (x ∷ xs) ∷ more) (sym (one_more n));
-    behind = ap (λ (i : ℕ). filter is_nonempty (slice_split is_blank (drop i (x ∷ xs)))) (one_more n) ∙ h.behind;
-  },
-)
+piece_more x n xs false e more h = grind (arith, slice_split-cons_no)
 
 first_piece : (xs : List ℕ) → (more : List (List ℕ)) × TakesPiece xs (position_or_len is_blank xs) more
 first_piece [] = ([], record { pieces = refl; behind = refl })
 first_piece (x ∷ xs) = let h = first_piece xs in piece_more x (position_or_len is_blank xs) xs (is_blank x) refl h.0 h.1
 
-unless_comment : (b : Bool) (field : List ℕ) (fields : List (List ℕ)) → cond (not b) (field ∷ fields) [] ≡ cond b [] (field ∷ fields)
-unless_comment b field fields = grind arith
-
--- a piece that is not empty is a field or begins a comment
-piece_named : (x : ℕ) (xs : List ℕ) (text rest : List ℕ) (more : List (List ℕ)) → slice_split is_blank text ≡ (x ∷ xs) ∷ more → filter is_nonempty (slice_split is_blank rest) ≡ filter is_nonempty more → fields_in text ≡ cond (x == 42) [] ((x ∷ xs) ∷ fields_in rest)
-unfolding fields_in
-piece_named x xs text rest more h k = grind (arith, take_while-cons, unless_comment)
-
 piece_at : (x n : ℕ) (xs : List ℕ) (b : Bool) → b ≡ false → (more : List (List ℕ)) → TakesPiece (x ∷ xs) (cond (not b) (1 + n) 0) more → fields_in (x ∷ xs) ≡ cond (x == 42) [] (take (cond (not b) (1 + n) 0) (x ∷ xs) ∷ fields_in (drop (cond (not b) (1 + n) 0) (x ∷ xs)))
-piece_at x n xs b e more h = grind (arith, one_more, piece_named)
+unfolding fields_in
+piece_at x n xs b e more h = grind (arith, take_while-cons)
 
 first_field : (xs : List ℕ) → 0 < length xs → is_blank (slice_index xs 0) ≡ false → fields_in xs ≡ cond (slice_index xs 0 == 42) [] (take (position_or_len is_blank xs) xs ∷ fields_in (drop (position_or_len is_blank xs) xs))
 first_field [] lt e = absurd (omega (arith, lt))
@@ -112,9 +90,6 @@ field_first text rest field behind start n e h other m f d =
     b.same ∙ first_field rest b.some b.first ∙ cond-false (slice_index rest 0 == 42) _ _ (ne_eqb _ _ other)
     ∙ ap (λ (i : ℕ). take i rest ∷ fields_in (drop i rest)) (sym m)
     ∙ ap (λ (l : List ℕ). l ∷ fields_in (drop n rest)) (sym f) ∙ ap (λ (l : List ℕ). field ∷ fields_in l) (sym d)
-
-pub field_length-le : (n : ℕ) (text : List ℕ) → n ≡ position_or_len is_blank text → n ≤ length text
-field_length-le n text e = omega (arith, e, prefix_len-le-length (λ x. not (is_blank x)) text)
 
 pub line_first : (text rest : List ℕ) (i : ℕ) → Some i ≡ position is_line_feed text → rest ≡ drop (i + 1) text → lines_of text ≡ fields_of (take i text) ∷ lines_of rest
 unfolding lines_of

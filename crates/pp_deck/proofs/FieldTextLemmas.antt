@@ -1,7 +1,7 @@
 -- Fields that were printed are read as they stand; printed numbers are such fields, and octal ones are read back.
-use Rattle.std.proofs.Common.{◌≡◌, ℕ, zero, suc, replicate, ◌-◌, ◌<◌, ◌≤◌, Bool, true, false, not, List, [], ◌∷◌, ◌++◌, length, get_or, refl, sym, ap, ◌∙◌, arith, ◌+◌, ◌^◌, Option, Ok, lit<, append_assoc}
+use Rattle.std.proofs.Common.{◌≡◌, ℕ, zero, suc, replicate, ◌-◌, ◌<◌, ◌≤◌, Bool, true, false, not, List, [], ◌∷◌, ◌++◌, length, get_or, refl, ap, ◌∙◌, arith, ◌+◌, ◌^◌, Option, Ok, lit<, append_assoc}
 use Rattle.std.specs.Prelude.{nat_le, filter, slice_index, ◌==◌, ◌&&◌}
-use Rattle.std.specs.List.{AllByRecursion, join_with_byte, list_all, slice_split, onto_first, take_while, All}
+use Rattle.std.specs.List.{AllByRecursion, join_with_byte, list_all, slice_split, take_while, All}
 use Rattle.std.proofs.lemmas.Bool.{and_from, and_parts, cond-false, le-leb, leb-true, ne_eqb}
 use Rattle.std.proofs.lemmas.List.Folds.{list_all-append}
 use Rattle.std.proofs.lemmas.List.Sums.{take_while-cons, AllPass-from_list_all}
@@ -48,42 +48,25 @@ fields_are : (text : List ℕ) → fields_in text ≡ pieces (slice_split is_bla
 unfolding fields_in pieces
 fields_are text = refl
 
-no_star : (c : ℕ) (field : List ℕ) → list_all is_ink (c ∷ field) ≡ true → (c == 42) ≡ false
-no_star c field e = let least = ink_least c (and_parts (is_ink c) (list_all is_ink field) e).0 in ne_eqb c 42 (λ h. absurd (omega (arith, least, h)))
-
-field_piece : (c : ℕ) (field : List ℕ) (more : List (List ℕ)) → list_all is_ink (c ∷ field) ≡ true → pieces ((c ∷ field) ∷ more) ≡ (c ∷ field) ∷ pieces more
-unfolding pieces
-field_piece c field more e = grind (arith, take_while-cons, no_star)
-
-empty_piece : (more : List (List ℕ)) → pieces ([] ∷ more) ≡ pieces more
-unfolding pieces
-empty_piece more = refl
-
-no_more : pieces [] ≡ []
-unfolding pieces
-no_more = refl
-
 -- a field at the end of a text
 fields_last : (field : List ℕ) → IsField field → fields_in field ≡ field ∷ []
+unfolding pieces
 fields_last [] h = absurd (omega (arith, h.some))
-fields_last (c ∷ field) h = grind (arith, fields_are, pieces, slice_split_none, no_blanks, field_piece, no_more)
+fields_last (c ∷ field) h = grind (arith, fields_are, pieces, slice_split_none, no_blanks, take_while-cons, ink_least, and_parts, ne_eqb)
 
 -- one before a blank
 pub fields_first : (field text : List ℕ) → IsField field → fields_in (field ++ 32 ∷ text) ≡ field ∷ fields_in text
+unfolding pieces
 fields_first [] text h = absurd (omega (arith, h.some))
-fields_first (c ∷ field) text h = grind (arith, fields_are, pieces, slice_split_at, no_blanks, field_piece)
+fields_first (c ∷ field) text h = grind (arith, fields_are, pieces, slice_split_at, no_blanks, take_while-cons, ink_least, and_parts, ne_eqb)
 
 pub fields_blank : (text : List ℕ) → fields_in (32 ∷ text) ≡ fields_in text
-fields_blank text = fields_are (32 ∷ text) ∙ ap pieces (slice_split-cons_yes is_blank 32 text refl) ∙ empty_piece (slice_split is_blank text) ∙ sym (fields_are text)
-
--- a comment has no fields
-star_piece : (parts : List (List ℕ)) → pieces (onto_first 42 parts) ≡ []
 unfolding pieces
-star_piece [] = refl
-star_piece (part ∷ parts) = take_while-cons (λ field. not (is_comment field)) (42 ∷ part) (filter is_nonempty parts)
+fields_blank text = grind (arith, fields_are, pieces, slice_split-cons_yes)
 
 pub fields_comment : (text : List ℕ) → fields_in (42 ∷ text) ≡ []
-fields_comment text = fields_are (42 ∷ text) ∙ ap pieces (slice_split-cons_no is_blank 42 text refl) ∙ star_piece (slice_split is_blank text)
+unfolding pieces
+fields_comment text = grind (arith, fields_are, pieces, slice_split-cons_no, take_while-cons)
 
 pub no_fields : fields_in [] ≡ []
 unfolding fields_in
@@ -104,9 +87,7 @@ fields_joined (field ∷ next ∷ fields) all = fields_first field _ all.0 ∙ a
 -- before what has none
 pub fields_commented : (field : List ℕ) (fields : List (List ℕ)) (text : List ℕ) → AllByRecursion IsField (field ∷ fields) → fields_in text ≡ [] → fields_in (join_with_byte 32 (field ∷ fields) ++ 32 ∷ text) ≡ field ∷ fields
 fields_commented field [] text all none = fields_first field text all.0 ∙ ap (λ more. field ∷ more) none
-fields_commented field (next ∷ fields) text all none =
-    ap fields_in (append_assoc field (32 ∷ join_with_byte 32 (next ∷ fields)) (32 ∷ text)) ∙ fields_first field _ all.0
-    ∙ ap (λ more. field ∷ more) (fields_commented next fields text all.1 none)
+fields_commented field (next ∷ fields) text all none = grind (arith, append_assoc, fields_first, fields_commented next fields text all.1 none)
 
 ink_plain : (field : List ℕ) → list_all is_ink field ≡ true → list_all is_plain field ≡ true
 ink_plain [] ink = refl

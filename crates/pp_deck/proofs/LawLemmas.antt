@@ -1,5 +1,5 @@
 -- The last line that sets something holds.
-use Rattle.std.proofs.Common.{◌≡◌, ℕ, zero, suc, ◌+◌, ◌-◌, ◌<◌, ◌≤◌, ◌⊎◌, Bool, true, false, cond, leb, List, [], ◌∷◌, length, take, map, get_or, Option, Some, None, refl, sym, ap, subst, ◌∙◌, arith, add-one, inl, inr}
+use Rattle.std.proofs.Common.{◌≡◌, ℕ, zero, suc, ◌+◌, ◌-◌, ◌<◌, ◌≤◌, ◌⊎◌, Bool, true, false, cond, leb, List, [], ◌∷◌, length, take, map, get_or, Option, Some, None, refl, sym, ap, subst, ◌∙◌, arith, add-one}
 use Rattle.std.specs.Prelude.{Contains, IsTrue, filter_map, option_map, slice_get, unwrap_or}
 use Rattle.std.specs.List.{range_with_len, cons_option, list_any}
 use Rattle.std.proofs.lemmas.Bool.{leb-true, le-leb, eqb-true, eq-eqb, cases_eq, cases_order}
@@ -13,9 +13,9 @@ use Rattle.pp_machine.specs.MachineState.{processor_of}
 use Rattle.pp_processor.specs.Processor.{word_at}
 use Rattle.pp_numbers.specs.PpNo.{names_processor, processor_index, processor_places}
 use Rattle.pp_processor.specs.declared.pp_state.PpState.TheVariants.{Running}
-use Rattle.pp_deck.specs.DeckLaw.{IsFor, StandsAt, SetsWord, SetsCentralWord, Starts, Registers, registers_of, at_rest, HoldsLast, line_of}
+use Rattle.pp_deck.specs.DeckLaw.{IsFor, SetsWord, SetsCentralWord, Starts, Registers, registers_of, at_rest, HoldsLast, line_of}
 use Rattle.pp_deck.specs.DeckLine.{Line, nothing, central_words, section, start, words}
-use Rattle.pp_deck.specs.DeckLoad.{word_among, word_for, central_word_for, start_in, is_for, section_of, lines_for, memory_of, processor_with, processor_loaded, central_loaded}
+use Rattle.pp_deck.specs.DeckLoad.{word_for, central_word_for, start_in, is_for, section_of, lines_for, memory_of, processor_loaded, central_loaded}
 use Rattle.pp_deck.specs.DeckMeaning.{set_by}
 use Rattle.pp_deck.proofs.SectionLemmas.{current_after, names, section_more}
 use Rattle.pp_numbers.proofs.GrowingLists.{last_of, or_else, range_more, last_of_more, filter_map_more}
@@ -40,15 +40,7 @@ last_none {A} f (suc n) none = grind (arith, last_more, or_else, last_of, last_n
 -- the last is at k
 last_at : {A : Type 0} (f : ℕ → Option A) (n k : ℕ) (x : A) → k < n → f k ≡ Some x → ((j : ℕ) → k < j → j < n → f j ≡ None) → last_of (filter_map f (range_with_len 0 n)) ≡ Some x
 last_at f zero k x lt here behind = absurd (omega (arith, lt))
-last_at {A} f (suc n) k x lt here behind = last_more f n ∙ by (last_at f n k x) (cases_eq k n)
-  where
-    earlier : Option A
-    earlier = last_of (filter_map f (range_with_len 0 n))
-
-    by : (k < n → f k ≡ Some x → ((j : ℕ) → k < j → j < n → f j ≡ None) → earlier ≡ Some x) → (k ≡ n) ⊎ (k ≡ n → ⊥) → or_else (f n) earlier ≡ Some x
-    by before (inl e) = ap (λ (o : Option A). or_else o earlier) (ap f (sym e) ∙ here)
-    by before (inr ne) =
-        ap (λ (o : Option A). or_else o earlier) (behind n (omega (arith, lt, ne)) (omega arith)) ∙ before (omega (arith, lt, ne)) here (λ j less within. behind j less (omega (arith, within)))
+last_at {A} f (suc n) k x lt here behind = grind (arith, last_more, cases_eq, last_of, or_else, last_at f n k x)
 
 -- a value that is the last one found holds the last
 holds_last : {A : Type 0} (lines : List Line) (f : ℕ → Option A) (Sets : ℕ → A → Type 0) (otherwise value : A) → ((k : ℕ) (x : A) → k < length lines → f k ≡ Some x → Sets k x) → ((k : ℕ) (x : A) → k < length lines → Sets k x → f k ≡ Some x) → value ≡ unwrap_or (last_of (filter_map f (range_with_len 0 (length lines)))) otherwise → HoldsLast lines Sets otherwise value
@@ -63,39 +55,28 @@ holds_last {A} lines f Sets otherwise value found there is = record {
 
 -- ---- the section of a line
 
--- the heading after one line more
-for_more : (lines : List Line) (k n : ℕ) → IsFor lines k n → ((m : ℕ) → line_of lines k ≡ section m → ⊥) → IsFor lines (k + 1) n
-for_more lines k n h other = grind (arith, names, cases_order)
-
 section_next : (lines : List Line) (k : ℕ) → k < length lines → section_of (take (suc k) lines) ≡ current_after (line_of lines k) (section_of (take k lines))
 section_next lines k lt =
     ap (λ (i : ℕ). section_of (take i lines)) (sym (add-one k)) ∙ ap section_of (take_more lines k nothing lt) ∙ section_more (take k lines) (line_of lines k)
-
-no_section : (n : ℕ) → section_of [] ≡ Some n → ⊥
-unfolding section_of
-no_section n e = cc
 
 -- a line is the heading, or the section is as before
 heading_or : (line : Line) (current : Option ℕ) (n : ℕ) → current_after line current ≡ Some n → (line ≡ section n) ⊎ ((current ≡ Some n) × ((m : ℕ) → line ≡ section m → ⊥))
 heading_or line current n e = grind arith
 
-section_kept : (line : Line) (current : Option ℕ) → ((m : ℕ) → line ≡ section m → ⊥) → current_after line current ≡ current
-section_kept (section m) current other = absurd (other m refl)
-section_kept line current other = refl
-
 heading_at : (lines : List Line) (k n : ℕ) → (section_of (take k lines) ≡ Some n → IsFor lines k n) → (line_of lines k ≡ section n) ⊎ ((section_of (take k lines) ≡ Some n) × ((m : ℕ) → line_of lines k ≡ section m → ⊥)) → IsFor lines (k + 1) n
-heading_at lines k n before h4 = grind (arith, names, for_more)
+heading_at lines k n before h4 = grind (arith, names, cases_order)
 
 -- the section behind k lines is that of the last heading before line k
 pub heading_of : (lines : List Line) (k n : ℕ) → k ≤ length lines → section_of (take k lines) ≡ Some n → IsFor lines k n
-heading_of lines zero n le e = absurd (no_section n e)
+unfolding section_of
+heading_of lines zero n le e = grind arith
 heading_of lines (suc k) n le e =
     let P : ℕ → Type 0 = λ i. IsFor lines i n in
     subst P (add-one k) (heading_at lines k n (heading_of lines k n (omega (arith, le)))
     (heading_or (line_of lines k) (section_of (take k lines)) n (sym (section_next lines k (omega (arith, le))) ∙ e)))
 
 section_at : (lines : List Line) (k n : ℕ) → (IsFor lines k n → section_of (take k lines) ≡ Some n) → (h : IsFor lines (suc k) n) → (h.heading ≡ k) ⊎ ((h.heading < k) ⊎ (k < h.heading)) → current_after (line_of lines k) (section_of (take k lines)) ≡ Some n
-section_at lines k n before h h5 = grind (arith, current_after, section_kept, names)
+section_at lines k n before h h5 = grind (arith, current_after, names)
 
 section_for : (lines : List Line) (k n : ℕ) → k ≤ length lines → IsFor lines k n → section_of (take k lines) ≡ Some n
 section_for lines zero n le h = absurd (omega (arith, h.before))
@@ -104,28 +85,19 @@ section_for lines (suc k) n le h =
 
 -- ---- what lines set
 
-found_among : (first place w : ℕ) (ws : List ℕ) (b : Bool) → leb first place ≡ b → cond b (slice_get ws (place - first)) None ≡ Some w → StandsAt first ws place w
-found_among first place w ws b e h = grind (arith, leb-true)
-
-stands : (first place w : ℕ) (ws : List ℕ) → word_among first ws place ≡ Some w → StandsAt first ws place w
-stands first place w ws h = found_among first place w ws (leb first place) refl h
-
-is_among : (first place w : ℕ) (ws : List ℕ) → StandsAt first ws place w → word_among first ws place ≡ Some w
-is_among first place w ws h = grind (arith, le-leb)
-
 pub word_set : (line : Line) (place w : ℕ) → word_for place line ≡ Some w → SetsWord line place w
-word_set (words x ws) place w e = stands x place w ws e
+word_set (words x ws) place w e = grind (arith, leb, leb-true)
 word_set line place w e = absurd (cc)
 
 pub set_word : (line : Line) (place w : ℕ) → SetsWord line place w → word_for place line ≡ Some w
-set_word line place w h = grind (arith, is_among)
+set_word line place w h = grind (arith, le-leb)
 
 pub central_set : (line : Line) (address w : ℕ) → central_word_for address line ≡ Some w → SetsCentralWord line address w
-central_set (central_words a ws) address w e = stands a address w ws e
+central_set (central_words a ws) address w e = grind (arith, leb, leb-true)
 central_set line address w e = absurd (cc)
 
 pub set_central : (line : Line) (address w : ℕ) → SetsCentralWord line address w → central_word_for address line ≡ Some w
-set_central line address w h = grind (arith, is_among)
+set_central line address w h = grind (arith, le-leb)
 
 -- the registers at a start
 abbrev pub registers_at : ℕ × ℕ → Registers
@@ -219,29 +191,20 @@ named_some n lines h = list_any_at (names n) lines h.0 (section n) h.1 (ap (name
 -- ---- what a loaded machine holds
 
 module _ (profile : Profile) where
-  registers_with : (memory : List ℕ) (s : Option (ℕ × ℕ)) → registers_of (processor_with profile memory s) ≡ unwrap_or (option_map registers_at s) at_rest
-  registers_with memory s = grind arith
-
-  memory_with : (memory : List ℕ) (s : Option (ℕ × ℕ)) → (processor_with profile memory s).memory ≡ memory
-  memory_with memory s = grind arith
-
-  block_with : (memory : List ℕ) (s : Option (ℕ × ℕ)) → (processor_with profile memory s).block ≡ None
-  block_with memory s = grind arith
-
   pub processor_here : (size : ℕ) (lines : List Line) (n : ℕ) → IsTrue (names_processor n) → processor_of n (set_by profile size lines).machine ≡ processor_loaded profile lines n
   processor_here size lines n names = grind (arith, get_or-tabulate, processor_places.place_below, processor_places.number_of_place)
 
   pub place_here : (lines : List Line) (n place : ℕ) → place < place_count → word_at (processor_loaded profile lines n) place ≡ unwrap_or (last_of (filter_map (word_for place) (lines_for n lines))) 0
   unfolding processor_loaded memory_of
-  place_here lines n place lt = grind (arith, memory_with, last_of, get_or-tabulate)
+  place_here lines n place lt = grind (arith, last_of, get_or-tabulate)
 
   pub registers_here : (lines : List Line) (n : ℕ) → registers_of (processor_loaded profile lines n) ≡ unwrap_or (last_of (filter_map (λ line. option_map registers_at (start_in line)) (lines_for n lines))) at_rest
   unfolding processor_loaded
-  registers_here lines n = grind (arith, registers_with, last_of, last_start)
+  registers_here lines n = grind (arith, last_of, last_start)
 
   pub no_block_here : (lines : List Line) (n : ℕ) → (processor_loaded profile lines n).block ≡ None
   unfolding processor_loaded
-  no_block_here lines n = block_with (memory_of (lines_for n lines)) (last_of (filter_map start_in (lines_for n lines)))
+  no_block_here lines n = grind (arith, last_of)
 
   pub named_here : (size : ℕ) (lines : List Line) (n : ℕ) → IsTrue (names_processor n) → get_or (set_by profile size lines).named (processor_index n) false ≡ list_any (names n) lines
   named_here size lines n named = grind (arith, get_or-tabulate, processor_places.place_below, processor_places.number_of_place)

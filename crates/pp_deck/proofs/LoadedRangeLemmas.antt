@@ -1,7 +1,7 @@
 -- The words, starts and central words that a deck loads are in range.
-use Rattle.std.proofs.Common.{ℕ, zero, suc, ◌^◌, ◌<◌, ◌≤◌, Bool, true, false, cond, List, [], ◌∷◌, length, take, get_or, Option, Some, None, Result, Ok, Err, arith}
+use Rattle.std.proofs.Common.{ℕ, zero, suc, ◌^◌, ◌<◌, ◌≤◌, Bool, true, false, cond, List, [], ◌∷◌, length, take, get_or, Option, Some, None, Result, arith}
 use Rattle.std.specs.Prelude.{All, Contains, IfSome, IsTrue, filter_map, slice_get, unwrap_or}
-use Rattle.std.specs.List.{AllByRecursion, cons_option, last_or, list_any, range_with_len}
+use Rattle.std.specs.List.{AllByRecursion, last_or, list_any, range_with_len}
 use Rattle.std.specs.Result.{result_ok}
 use Rattle.std.proofs.lemmas.Bool.{cases_lt}
 use Rattle.std.proofs.lemmas.List.{get_or_past}
@@ -15,7 +15,7 @@ use Rattle.pp_processor.specs.PpMemory.{IsMemory}
 use Rattle.pp_processor.specs.Processor.{IsProcessor}
 use Rattle.pp_numbers.specs.Profile.{has_processor}
 use Rattle.pp_numbers.specs.declared.profile.Profile.{Profile}
-use Rattle.pp_deck.specs.DeckLine.{Line, nothing, section, start}
+use Rattle.pp_deck.specs.DeckLine.{Line, nothing, section}
 use Rattle.pp_deck.specs.DeckLoad.{word_for, central_word_for, start_in, is_for, section_of, lines_for, memory_of, central_loaded, processor_with, processor_loaded}
 use Rattle.pp_deck.specs.DeckMeaning.{has_fields, begins_section, line_at, size_of, parsed_deck}
 use Rattle.pp_deck.specs.DeckText.{Fields}
@@ -25,13 +25,9 @@ use Rattle.pp_deck.proofs.RangeLemmas.{Holds, InRange, IsKnown, line_holds}
 
 -- ---- what holds of each that is found in a list
 
-cons_all : {A : Type 0} (P : A → Type 0) (o : Option A) (xs : List A) → IfSome o P → AllByRecursion P xs → AllByRecursion P (cons_option o xs)
-cons_all P None xs h k = k
-cons_all P (Some x) xs h k = (h, k)
-
 all_found : {X A : Type 0} (Q : X → Type 0) (P : A → Type 0) (f : X → Option A) (xs : List X) → ((x : X) → Q x → IfSome (f x) P) → AllByRecursion Q xs → AllByRecursion P (filter_map f xs)
 all_found Q P f [] h k = tt
-all_found Q P f (x ∷ xs) h k = cons_all P (f x) (filter_map f xs) (h x k.0) (all_found Q P f xs h k.1)
+all_found Q P f (x ∷ xs) h k = grind (arith, all_found Q P f xs h k.1)
 
 found_among : {A : Type 0} (P : A → Type 0) (f : ℕ → Option A) (ks : List ℕ) → ((k : ℕ) → IfSome (f k) P) → AllByRecursion P (filter_map f ks)
 found_among P f ks h = all_found (λ k. Unit {0}) P f ks (λ k t. h k) (anything ks)
@@ -62,8 +58,7 @@ module _ (profile : Profile) where
   -- ---- the lines of a deck
 
   said_line : (begins : Bool) (r : Result Line Flaw) → Holds (IsKnown profile begins) r → IfSome (result_ok r) (InRange profile)
-  said_line begins (Ok line) h = h.1
-  said_line begins (Err flaw) h = tt
+  said_line begins r h = grind arith
 
   pub said_in_range : (lines : List Fields) → AllByRecursion (InRange profile) (parsed_deck profile lines)
   unfolding parsed_deck line_at
@@ -81,8 +76,7 @@ module _ (profile : Profile) where
   get_in (line ∷ lines) (suc k) h = get_in lines k h.1
 
   picked : (b : Bool) (line : Line) → InRange profile line → IfSome (cond b (Some line) None) (InRange profile)
-  picked true line h = h
-  picked false line h = tt
+  picked b line h = grind arith
 
   for_in_range : (n : ℕ) (lines : List Line) → AllByRecursion (InRange profile) lines → AllByRecursion (InRange profile) (lines_for n lines)
   unfolding lines_for
@@ -106,8 +100,7 @@ module _ (profile : Profile) where
   IsStart s = (s.0 < 8 ^ 4) × (s.1 < 8 ^ 6)
 
   start_small : (line : Line) → InRange profile line → IfSome (start_in line) IsStart
-  start_small (start p a) h = h
-  start_small line h = tt
+  start_small line h = grind arith
 
   memory_in_range : (lines : List Line) → AllByRecursion (InRange profile) lines → IsMemory (memory_of lines)
   unfolding memory_of

@@ -1,5 +1,5 @@
 -- One line more: the words that it sets.
-use Rattle.std.proofs.Common.{◌≡◌, ℕ, ◌+◌, ◌<◌, false, leb, List, [], ◌∷◌, ◌++◌, length, get_or, set, replicate, Option, Some, None, refl, sym, ap, ◌∙◌, arith}
+use Rattle.std.proofs.Common.{◌≡◌, ℕ, ◌+◌, ◌<◌, leb, List, [], ◌∷◌, ◌++◌, length, get_or, set, replicate, Option, None, refl, sym, ap, ◌∙◌, arith}
 use Rattle.std.specs.Prelude.{filter_map, unwrap_or}
 use Rattle.std.proofs.lemmas.Bool.{le-leb, lt-leb, cases_order}
 use Rattle.std.proofs.lemmas.List.{length-set, get_or-set_same, get_or-set_other}
@@ -9,7 +9,7 @@ use Rattle.pp_numbers.specs.Tables.{tabulate}
 use Rattle.pp_numbers.proofs.TableLemmas.{length-tabulate, get_or-tabulate, tabulate_is, tabulate_same, tabulate_const}
 use Rattle.pp_deck.specs.DeckLoad.{word_among, word_for, central_word_for, memory_of, central_loaded}
 use Rattle.pp_deck.specs.Reading.{with_words}
-use Rattle.pp_numbers.proofs.GrowingLists.{last_of, or_else, last_of_more, filter_map_more}
+use Rattle.pp_numbers.proofs.GrowingLists.{last_of, last_of_more, filter_map_more}
 
 pub length-with_words : (first : ℕ) (ws memory : List ℕ) → length (with_words first ws memory) ≡ length memory
 length-with_words first [] memory = refl
@@ -17,31 +17,22 @@ length-with_words first (w ∷ ws) memory = length-with_words (first + 1) ws (se
 
 -- ---- where words stand
 
-before_first : (first place : ℕ) (ws : List ℕ) → place < first → word_among first ws place ≡ None
-before_first first place ws lt = let no : leb first place ≡ false = lt-leb first place lt in rw no refl
-
-at_first : (first w : ℕ) (ws : List ℕ) → word_among first (w ∷ ws) first ≡ Some w
-at_first first w ws = grind (arith, le-leb)
-
 behind_first : (first place w : ℕ) (ws : List ℕ) → first < place → word_among first (w ∷ ws) place ≡ word_among (first + 1) ws place
 behind_first first place w ws lt = grind (arith, le-leb)
 
 -- a place holds the word that is set there, else what it held
 pub get_or-with_words : (first : ℕ) (ws memory : List ℕ) (place : ℕ) → place < length memory → get_or (with_words first ws memory) place 0 ≡ unwrap_or (word_among first ws place) (get_or memory place 0)
 get_or-with_words first [] memory place lt = grind arith
-get_or-with_words first (w ∷ ws) memory place lt = grind (arith, length-set, cases_order, before_first, get_or-set_same, at_first, get_or-set_other, behind_first, get_or-with_words (first + 1) ws (set memory first w) place (omega (arith, lt, length-set memory first w)))
+get_or-with_words first (w ∷ ws) memory place lt = grind (arith, length-set, cases_order, get_or-set_same, get_or-set_other, behind_first, get_or-with_words (first + 1) ws (set memory first w) place (omega (arith, lt, length-set memory first w)), leb, lt-leb, le-leb)
 
 -- ---- the last word
 
 last_word : (ℕ → Line → Option ℕ) → List Line → ℕ → ℕ
 last_word word_of lines place = unwrap_or (last_of (filter_map (word_of place) lines)) 0
 
-or_else_is : (o last : Option ℕ) → unwrap_or (or_else o last) 0 ≡ unwrap_or o (unwrap_or last 0)
-or_else_is o last = grind arith
-
 last_word_more : (word_of : ℕ → Line → Option ℕ) (lines : List Line) (line : Line) (place : ℕ) → last_word word_of (lines ++ line ∷ []) place ≡ unwrap_or (word_of place line) (last_word word_of lines place)
 unfolding last_word
-last_word_more word_of lines line place = grind (arith, last_of, filter_map_more, last_of_more, or_else_is)
+last_word_more word_of lines line place = grind (arith, last_of, filter_map_more, last_of_more)
 
 last_words_none : (word_of : ℕ → Line → Option ℕ) (n : ℕ) → tabulate n (last_word word_of []) ≡ replicate n 0
 unfolding last_word
@@ -56,9 +47,6 @@ last_words_set word_of n lines line first ws same =
     ∙ ap (λ (o : Option ℕ). unwrap_or o (last_word word_of lines i)) (sym (same i))
     ∙ sym (last_word_more word_of lines line i)))
 
-last_words_kept : (word_of : ℕ → Line → Option ℕ) (n : ℕ) (lines : List Line) (line : Line) → ((place : ℕ) → word_of place line ≡ None) → tabulate n (last_word word_of (lines ++ line ∷ [])) ≡ tabulate n (last_word word_of lines)
-last_words_kept word_of n lines line none = grind (arith, tabulate_same, last_word, last_word_more)
-
 -- ---- memories
 
 memory_is : (lines : List Line) → memory_of lines ≡ tabulate place_count (last_word word_for lines)
@@ -72,7 +60,7 @@ pub memory_set : (lines : List Line) (x : ℕ) (ws : List ℕ) → memory_of (li
 memory_set lines x ws = grind (arith, memory_is, last_words_set)
 
 pub memory_kept : (lines : List Line) (line : Line) → ((place : ℕ) → word_for place line ≡ None) → memory_of (lines ++ line ∷ []) ≡ memory_of lines
-memory_kept lines line none = memory_is (lines ++ line ∷ []) ∙ last_words_kept word_for place_count lines line none ∙ sym (memory_is lines)
+memory_kept lines line none = grind (arith, memory_is, tabulate_same, last_word, last_word_more)
 
 central_is : (size : ℕ) (lines : List Line) → central_loaded size lines ≡ tabulate size (last_word central_word_for lines)
 unfolding central_loaded last_word
@@ -88,4 +76,4 @@ pub central_set : (size : ℕ) (lines : List Line) (a : ℕ) (ws : List ℕ) →
 central_set size lines a ws = grind (arith, central_is, last_words_set)
 
 pub central_kept : (size : ℕ) (lines : List Line) (line : Line) → ((address : ℕ) → central_word_for address line ≡ None) → central_loaded size (lines ++ line ∷ []) ≡ central_loaded size lines
-central_kept size lines line none = central_is size (lines ++ line ∷ []) ∙ last_words_kept central_word_for size lines line none ∙ sym (central_is size lines)
+central_kept size lines line none = grind (arith, central_is, tabulate_same, last_word, last_word_more)

@@ -1,21 +1,18 @@
 -- What is known of each line that a deck says: its numbers are in range, and only one with the keyword `PP` begins a section.
-use Rattle.std.proofs.Common.{◌≡◌, IsTrue, if◌then◌else◌, ℕ, ◌+◌, ◌-◌, ◌*◌, ◌^◌, ◌<◌, ◌≤◌, Bool, true, false, cond, List, [], ◌∷◌, length, fold, Option, Some, None, Result, Ok, Err, refl, arith, lit<}
-use Rattle.std.specs.Prelude.{nat_le, nat_lt, ◌&&◌, ◌||◌, All, find, is_some}
+use Rattle.std.proofs.Common.{◌≡◌, IsTrue, ℕ, ◌+◌, ◌-◌, ◌*◌, ◌^◌, ◌<◌, ◌≤◌, Bool, true, false, cond, List, [], ◌∷◌, length, fold, Option, Result, Ok, Err, arith, lit<}
+use Rattle.std.specs.Prelude.{nat_le, nat_lt, ◌&&◌, ◌||◌, All, is_some}
 use Rattle.std.specs.List.{list_all}
-use Rattle.std.specs.Option.{ok_or}
 use Rattle.std.proofs.Math.Nat.{mul-le-mul_left, pow-le-pow_right, pow-suc, pow-zero}
 use Rattle.std.proofs.lemmas.Bool.{and_parts, leb-true, ltb-true}
 use Rattle.std.proofs.lemmas.List.Elements.{All-nil}
 use Rattle.pp_word.specs.Numeral.{is_digit, numeral, value_of}
 use Rattle.pp_numbers.specs.Profile.{has_processor}
 use Rattle.pp_numbers.specs.declared.profile.Profile.{Profile}
-use Rattle.pp_numbers.specs.declared.profile.Profile.TheVariants.{Ten}
 use Rattle.pp_deck.specs.OctalNumber.{number}
-use Rattle.pp_deck.specs.DeckLine.{Line, central_size, central_words, section, start, words, line_by, number_then, ends_with, start_from, words_in, central_line, central_words_line, section_line, start_line, words_line, ◌>>=◌, line_after}
-use Rattle.pp_deck.specs.DeckMeaning.{begins_section, has_fields, is_processor_keyword, stated_size, size_by, size_in, size_of}
+use Rattle.pp_deck.specs.DeckLine.{Line, central_size, central_words, section, start, words, line_by, number_then, ends_with, words_in, central_line, central_words_line, section_line, start_line, words_line, ◌>>=◌, line_after}
+use Rattle.pp_deck.specs.DeckMeaning.{begins_section, is_processor_keyword, size_of}
 use Rattle.pp_deck.specs.DeckText.{Fields}
 use Rattle.pp_deck.specs.declared.{flaw.Flaw.Flaw, keyword.Keyword.Keyword}
-use Rattle.pp_deck.specs.declared.keyword.Keyword.TheVariants as keywords
 use Rattle.pp_deck.proofs.SectionLemmas.{current_after}
 
 -- ---- results
@@ -25,12 +22,10 @@ Holds P (Ok x) = P x
 Holds P (Err flaw) = Unit {0}
 
 holds_bind : {A B : Type 0} (P : A → Type 0) (Q : B → Type 0) (r : Result A _) (next : A → Result B _) → Holds P r → ((x : A) → P x → Holds Q (next x)) → Holds Q (r >>= next)
-holds_bind P Q (Ok x) next h k = k x h
-holds_bind P Q (Err flaw) next h k = tt
+holds_bind P Q r next h k = grind arith
 
 holds_if : {A F : Type 0} (P : A → Type 0) (b : Bool) (r : Result A F) (flaw : F) → (b ≡ true → Holds P r) → Holds P (cond b r (Err flaw))
-holds_if P true r flaw h = h refl
-holds_if P false r flaw h = tt
+holds_if P b r flaw h = grind arith
 
 -- ---- numbers
 
@@ -49,13 +44,9 @@ value_below most field e =
     let all = (and_parts (nat_le 1 (length field) && nat_le (length field) most) (list_all (is_digit 8) field) e).1 in
     omega (arith, octal_below field 0 all, pow-le-pow_right {n = 8} (lit< tt) {i = length field} {j = most} short)
 
-holds_read : {A F : Type 0} (P : A → Type 0) (b : Bool) (x : A) (flaw : F) → (b ≡ true → P x) → Holds P (ok_or (cond b (Some x) None) flaw)
-holds_read P true x flaw h = h refl
-holds_read P false x flaw h = tt
-
 number_holds : (most : ℕ) (field : List ℕ) → Holds (λ n. n < 8 ^ most) (number most field)
 unfolding number numeral
-number_holds most field = holds_read (λ n. n < 8 ^ most) (nat_le 1 (length field) && nat_le (length field) most && list_all (is_digit 8) field) (value_of 8 field) _ (value_below most field)
+number_holds most field = grind (arith, value_below)
 
 words_hold : (most place end : ℕ) (past : _) (fields : List (List ℕ)) → Holds (All (λ w. w < 8 ^ most)) (words_in most place end past fields)
 unfolding words_in
@@ -78,47 +69,27 @@ is_section (section n) = true
 is_section line = false
 
 then_holds : (most : ℕ) (fields : Fields) (next : ℕ → Fields → Result Line _) (P : Line → Type 0) → ((n : ℕ) (more : Fields) → n < 8 ^ most → Holds P (next n more)) → Holds P (number_then most fields next)
-then_holds most [] next P h = tt
-then_holds most (field ∷ fields) next P h = holds_bind (λ n. n < 8 ^ most) P (number most field) (λ n. next n fields) (number_holds most field) (λ n small. h n fields small)
+then_holds most fields next P h = grind (arith, holds_bind, number_holds)
 
 end_holds : (P : Line → Type 0) (line : Line) (more : Fields) → P line → Holds P (ends_with line more)
-end_holds P line [] h = h
-end_holds P line (field ∷ more) h = tt
-
-unless_holds : (P : Line → Type 0) (b : Bool) (r : Result Line Flaw) (flaw : Flaw) → Holds P r → Holds P (cond b (Err flaw) r)
-unless_holds P true r flaw h = tt
-unless_holds P false r flaw h = h
+end_holds P line more h = grind arith
 
 module _ (profile : Profile) where
   -- what is known of a line: whether it begins a section, and that its numbers are in range
   abbrev pub IsKnown : Bool → Line → Type 0
   IsKnown begins line = (is_section line ≡ begins) × InRange profile line
 
-  central_holds : (fields : Fields) → Holds (IsKnown false) (central_line fields)
-  unfolding central_line
-  central_holds fields = grind (arith, then_holds, holds_if, end_holds, leb-true, and_parts)
-
-  central_words_hold : (size : ℕ) (fields : Fields) → Holds (IsKnown false) (central_words_line size fields)
-  unfolding central_words_line
-  central_words_hold size fields = grind (arith, then_holds, holds_bind, words_hold)
-
-  section_holds : (fields : Fields) → Holds (IsKnown true) (section_line profile fields)
-  unfolding section_line
-  section_holds fields = then_holds 2 fields _ (IsKnown true) (λ n more small. holds_if (IsKnown true) _ (ends_with (section n) more) _ (λ has. end_holds (IsKnown true) (section n) more (refl, has)))
-
-  start_from_holds : (p : ℕ) (more : Fields) → p < 8 ^ 4 → Holds (IsKnown false) (start_from p more)
-  start_from_holds p more small = grind (arith, holds_bind, number_holds, end_holds)
-
   start_holds : (fields : Fields) → Holds (IsKnown false) (start_line fields)
   unfolding start_line
-  start_holds fields = then_holds 4 fields start_from (IsKnown false) start_from_holds
+  start_holds fields = grind (arith, then_holds, holds_bind, number_holds, end_holds)
 
   words_line_holds : (field : List ℕ) (fields : Fields) → Holds (IsKnown false) (words_line field fields)
   unfolding words_line
   words_line_holds field fields = grind (arith, holds_bind, number_holds, words_hold)
 
   by_keyword : (size : ℕ) (b s : Bool) (keyword : Keyword) (field : List ℕ) (fields : Fields) → Holds (IsKnown (is_processor_keyword keyword)) (line_by profile size b s keyword field fields)
-  by_keyword size b s keyword field fields = grind (arith, unless_holds, central_holds, central_words_hold, section_holds, holds_if, start_holds, end_holds, words_line_holds)
+  unfolding central_line central_words_line section_line
+  by_keyword size b s keyword field fields = grind (arith, holds_if, start_holds, end_holds, words_line_holds, then_holds, leb-true, and_parts, holds_bind, words_hold)
 
   pub line_holds : (size : ℕ) (b s : Bool) (fields : Fields) → Holds (IsKnown (begins_section fields)) (line_after profile size b s fields)
   unfolding line_after
@@ -126,18 +97,12 @@ module _ (profile : Profile) where
 
   -- ---- the section behind a line
 
-  or_else : (b t : Bool) → b ≡ t → (c : Bool) → (if b then true else c) ≡ (c || t)
-  or_else b t e c = grind arith
-
-  current_is_some : (line : Line) (current : Option ℕ) → is_some (current_after line current) ≡ (if is_section line then true else is_some current)
-  current_is_some line current = grind arith
-
   known : (r : Result Line Flaw) (begins : Bool) (line : Line) → Holds (IsKnown begins) r → r ≡ Ok line → is_section line ≡ begins
   known r begins line h e = grind arith
 
   -- there is a current processor where there was one, or where the line begins with `PP`
   pub section_after : (size : ℕ) (b s : Bool) (fields : Fields) (line : Line) (current : Option ℕ) → line_after profile size b s fields ≡ Ok line → is_some (current_after line current) ≡ (is_some current || begins_section fields)
-  section_after size b s fields line current e = grind (arith, current_is_some, or_else, is_section, known, line_holds)
+  section_after size b s fields line current e = grind (arith, is_section, known, line_holds)
 
 -- ---- the size of central memory
 
@@ -148,17 +113,6 @@ default_size : IsSize 0o10000
 unfolding IsSize
 default_size = (omega arith, omega arith)
 
-stated : (r : Result Line _) → Holds (IsKnown Ten false) r → IsSize (stated_size r)
-unfolding IsSize
-stated r h = grind (arith, default_size)
-
-size_by_range : (keyword : Keyword) (fields : Fields) → IsSize (size_by keyword fields)
-size_by_range keywords.Central fields = stated (central_line fields) (central_holds Ten fields)
-size_by_range keyword fields = default_size
-
-size_is : (o : Option Fields) → IsSize (size_in o)
-size_is o = grind (arith, size_by_range, default_size)
-
 pub size_in_range : (lines : List Fields) → (1 ≤ size_of lines) × (size_of lines ≤ 0o400000)
-unfolding size_of IsSize
-size_in_range lines = size_is (find has_fields lines)
+unfolding size_of IsSize central_line
+size_in_range lines = grind (arith, default_size, then_holds, holds_if, end_holds, leb-true, and_parts)

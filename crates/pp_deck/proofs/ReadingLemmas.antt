@@ -62,14 +62,8 @@ module _ (profile : Profile) where
   read_more lines k progress b line h lt e =
       let there : line_at profile (size_of lines) lines k ≡ Ok line = line_is lines k progress b h ∙ e in
       record {
-        faultless =
-            one_more (fault_at lines) k
-            ∙ ap (λ (o : Option DeckFault). filter_map (fault_at lines) (range_with_len 0 k) ++ option_to_list o) (ap (fault_in k) there)
-            ∙ append-nil (filter_map (fault_at lines) (range_with_len 0 k)) ∙ h.faultless;
-        progress_is =
-            ap (λ (p : Progress). after_line p line) h.progress_is
-            ∙ sym (fold-append after_line (before_lines profile (size_of lines)) (filter_map (said_at lines) (range_with_len 0 k)) (line ∷ []))
-            ∙ ap (fold after_line (before_lines profile (size_of lines))) (sym (one_more (said_at lines) k ∙ ap (λ (o : Option Line). filter_map (said_at lines) (range_with_len 0 k) ++ option_to_list o) (ap result_ok there)));
+        faultless = grind (arith, one_more, fault_at, append-nil);
+        progress_is = grind (arith, fold-append, said_at, fold, one_more);
         behind = ap (λ (t : Bool). t || has_fields (get_or lines k [])) h.behind ∙ sym (list_any_more has_fields lines k [] lt);
         in_section =
             ap (λ (p : Progress). is_some p.current) (after_line_parts progress line)

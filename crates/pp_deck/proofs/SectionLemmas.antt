@@ -1,11 +1,11 @@
 -- One line more: what it changes, the section that it begins, and the processor that it is for.
-use Rattle.std.proofs.Common.{◌≡◌, ℕ, ◌+◌, ◌<◌, ◌≤◌, Bool, true, false, cond, List, [], ◌∷◌, ◌++◌, length, take, get_or, Option, Some, None, refl, ap, ◌∙◌, arith}
-use Rattle.std.specs.Prelude.{filter_map, option_to_list, slice_set}
+use Rattle.std.proofs.Common.{◌≡◌, ℕ, Bool, true, false, cond, List, [], ◌∷◌, ◌++◌, length, take, get_or, Option, Some, None, refl, arith}
+use Rattle.std.specs.Prelude.{filter_map, slice_set}
 use Rattle.std.specs.List.{range_with_len}
 use Rattle.std.proofs.lemmas.List.{take-append-le, take_at, get_or_append_left, get_or_push, length_push}
 use Rattle.pp_deck.specs.DeckLine.{Line, nothing, central_words, section, start, words, dead_start}
 use Rattle.pp_deck.specs.DeckLoad.{processor_in, section_of, is_for, lines_for}
-use Rattle.pp_numbers.proofs.GrowingLists.{last_of, or_else, last_of_more, filter_map_more, filter_map_same, range_more}
+use Rattle.pp_numbers.proofs.GrowingLists.{last_of, last_of_more, filter_map_more, filter_map_same, range_more}
 use Rattle.pp_machine.specs.MachineState.{MachineState}
 use Rattle.pp_processor.specs.Processor.{runs_from}
 use Rattle.pp_numbers.specs.PpNo.{processor_index}
@@ -42,33 +42,19 @@ after_line_parts progress line = grind arith
 abbrev pub names : ℕ → Line → Bool
 names n line = is_for n (processor_in line)
 
-current_is : (line : Line) (current : Option ℕ) → or_else (processor_in line) current ≡ current_after line current
-current_is line current = grind arith
-
 -- the section after one line more
 pub section_more : (lines : List Line) (line : Line) → section_of (lines ++ line ∷ []) ≡ current_after line (section_of lines)
 unfolding section_of
-section_more lines line = grind (arith, last_of, filter_map_more, last_of_more, current_is)
+section_more lines line = grind (arith, last_of, filter_map_more, last_of_more)
 
 -- line k, where it is for processor n
 pick : ℕ → List Line → ℕ → Option Line
 pick n lines k = cond (is_for n (section_of (take k lines))) (Some (get_or lines k nothing)) None
 
-picked_before : (n : ℕ) (lines : List Line) (line : Line) (k : ℕ) → 0 ≤ k → k < 0 + length lines → pick n (lines ++ line ∷ []) k ≡ pick n lines k
-unfolding pick
-picked_before n lines line k le lt = grind (arith, take-append-le, get_or_append_left)
-
-picked_last : (n : ℕ) (lines : List Line) (line : Line) → pick n (lines ++ line ∷ []) (length lines) ≡ cond (is_for n (section_of lines)) (Some line) None
-unfolding pick
-picked_last n lines line = grind (arith, take_at, get_or_push)
-
 -- a line, where it is for its processor
 abbrev pub own : Bool → Line → List Line
 own true line = line ∷ []
 own false line = []
-
-picked_is : (b : Bool) (line : Line) → option_to_list (cond b (Some line) None) ≡ own b line
-picked_is b line = grind arith
 
 picks : ℕ → List Line → List Line
 picks n lines = filter_map (pick n lines) (range_with_len 0 (length lines))
@@ -78,18 +64,8 @@ unfolding lines_for picks pick
 picks_are n lines = refl
 
 picks_more : (n : ℕ) (lines : List Line) (line : Line) → picks n (lines ++ line ∷ []) ≡ picks n lines ++ own (is_for n (section_of lines)) line
-unfolding picks
-picks_more n lines line =
-    ap (λ (m : ℕ). filter_map (pick n (lines ++ line ∷ [])) (range_with_len 0 m)) (length_push lines line)
-    ∙ ap (filter_map (pick n (lines ++ line ∷ []))) (range_more 0 (length lines))
-    ∙ filter_map_more (pick n (lines ++ line ∷ [])) (range_with_len 0 (length lines)) (0 + length lines)
-    ∙ ap (λ (ls : List Line). ls ++ option_to_list (pick n (lines ++ line ∷ []) (0 + length lines))) (filter_map_same (pick n (lines ++ line ∷ [])) (pick n lines) 0 (length lines) (picked_before n lines line))
-    ∙ ap (λ (k : ℕ). picks n lines ++ option_to_list (pick n (lines ++ line ∷ []) k)) (from_zero (length lines))
-    ∙ ap (λ (o : Option Line). picks n lines ++ option_to_list o) (picked_last n lines line)
-    ∙ ap (λ (ls : List Line). picks n lines ++ ls) (picked_is (is_for n (section_of lines)) line)
-  where
-    from_zero : (m : ℕ) → 0 + m ≡ m
-    from_zero m = omega arith
+unfolding picks pick
+picks_more n lines line = grind (arith, pick, length_push, range_more, filter_map_more, filter_map_same, picks, take_at, get_or_push, take-append-le, get_or_append_left)
 
 -- the lines for a processor, with one line more
 pub lines_for_more : (n : ℕ) (lines : List Line) (line : Line) → lines_for n (lines ++ line ∷ []) ≡ lines_for n lines ++ own (is_for n (section_of lines)) line

@@ -1,6 +1,6 @@
 -- Lines that stand in sections, and what each section sets.
-use mathlib.Core.Bool.{and-true, or-false}
-use Rattle.std.proofs.Common.{◌≡◌, ℕ, zero, suc, ◌+◌, ◌<◌, ◌≤◌, ◌⊎◌, Bool, true, false, cond, eqb, List, [], ◌∷◌, ◌++◌, length, take, get_or, Option, Some, None, refl, sym, ap, ◌∙◌, arith, append_assoc, append-nil, inl, inr}
+use mathlib.Core.Bool.{and-true}
+use Rattle.std.proofs.Common.{◌≡◌, ℕ, zero, suc, ◌+◌, ◌<◌, ◌≤◌, ◌⊎◌, Bool, true, false, cond, eqb, List, [], ◌∷◌, ◌++◌, length, take, get_or, Option, Some, None, refl, sym, ap, ◌∙◌, arith, append_assoc, append-nil}
 use Rattle.std.specs.Prelude.{filter_map, ◌&&◌, ◌||◌}
 use Rattle.std.specs.List.{AllByRecursion, flat_map, list_any, range_with_len, cons_option}
 use Rattle.std.proofs.lemmas.Bool.{and_right, eq-eqb, ne_eqb, cases_eq, cond-true, cond-false}
@@ -19,29 +19,18 @@ flat_only g n a zero none low high = absurd (omega (arith, low, high))
 flat_only {A} g n a (suc len) none low high = at (λ ne. flat_only g n (a + 1) len none (omega (arith, low, ne)) (omega (arith, high))) (cases_eq n a)
   where
     at : ((n ≡ a → ⊥) → flat_map g (range_with_len (a + 1) len) ≡ g n) → (n ≡ a) ⊎ (n ≡ a → ⊥) → g a ++ flat_map g (range_with_len (a + 1) len) ≡ g n
-    at later (inl e) =
-        ap (λ (xs : List A). g a ++ xs) (flat_map_none g (a + 1) len (λ m le lt. none m (λ h. absurd (omega (arith, e, h, le)))))
-        ∙ append-nil (g a) ∙ ap g (sym e)
-    at later (inr ne) =
-        ap (λ (xs : List A). xs ++ flat_map g (range_with_len (a + 1) len)) (none a ne)
-        ∙ later ne
+    at later h2 = grind (arith, flat_map_none, append-nil)
 
 pub any_none : (q : ℕ → Bool) (a len : ℕ) → ((m : ℕ) → a ≤ m → q m ≡ false) → list_any q (range_with_len a len) ≡ false
 any_none q a zero none = refl
-any_none q a (suc len) none =
-    ap (λ (b : Bool). b || list_any q (range_with_len (a + 1) len)) (none a (omega arith)) ∙ any_none q (a + 1) len (λ m le. none m (omega (arith, le)))
+any_none q a (suc len) none = grind (arith, any_none q (a + 1) len (λ m le. none m (omega (arith, le))))
 
 pub any_only : (q : ℕ → Bool) (n a len : ℕ) → ((m : ℕ) → (n ≡ m → ⊥) → q m ≡ false) → a ≤ n → n < a + len → list_any q (range_with_len a len) ≡ q n
 any_only q n a zero none low high = absurd (omega (arith, low, high))
 any_only q n a (suc len) none low high = at (λ ne. any_only q n (a + 1) len none (omega (arith, low, ne)) (omega (arith, high))) (cases_eq n a)
   where
     at : ((n ≡ a → ⊥) → list_any q (range_with_len (a + 1) len) ≡ q n) → (n ≡ a) ⊎ (n ≡ a → ⊥) → (q a || list_any q (range_with_len (a + 1) len)) ≡ q n
-    at later (inl e) =
-        ap (λ (b : Bool). q a || b) (any_none q (a + 1) len (λ m le. none m (λ h. absurd (omega (arith, e, h, le)))))
-        ∙ or-false (q a) ∙ ap q (sym e)
-    at later (inr ne) =
-        ap (λ (b : Bool). b || list_any q (range_with_len (a + 1) len)) (none a ne)
-        ∙ later ne
+    at later h2 = grind (arith, any_none)
 
 pub filter_flat : {X Y A : Type 0} (f : Y → Option A) (g : X → List Y) (xs : List X) → filter_map f (flat_map g xs) ≡ flat_map (λ x. filter_map f (g x)) xs
 filter_flat f g [] = refl
@@ -69,17 +58,10 @@ all_unset {A} f (line ∷ lines) h = ap (λ (o : Option A). cons_option o (filte
 abbrev pub KeepsCurrent : Line → Type 0
 KeepsCurrent line = (c : Option ℕ) → current_after line c ≡ c
 
-glue : (b : Bool) (xs : List Line) (line : Line) (body : List Line) → (xs ++ own b line) ++ cond b body [] ≡ xs ++ cond b (line ∷ body) []
-glue true xs line body = append_assoc xs (line ∷ []) body
-glue false xs line body = append-nil (xs ++ [])
-
-kept_section : (lines : List Line) (line : Line) → KeepsCurrent line → section_of (lines ++ line ∷ []) ≡ section_of lines
-kept_section lines line h = section_more lines line ∙ h (section_of lines)
-
 -- such lines are for the processor of the section before them
 pub lines_for_body : (n : ℕ) (lines body : List Line) → AllByRecursion KeepsCurrent body → lines_for n (lines ++ body) ≡ lines_for n lines ++ cond (is_for n (section_of lines)) body []
 lines_for_body n lines [] h = grind (arith, append-nil)
-lines_for_body n lines (line ∷ body) h = grind (arith, append_assoc, kept_section, lines_for_more, glue, lines_for_body n (lines ++ line ∷ []) body h.1)
+lines_for_body n lines (line ∷ body) h = grind (arith, append_assoc, lines_for_more, lines_for_body n (lines ++ line ∷ []) body h.1, append-nil, section_more)
 
 no_lines_for : (n : ℕ) → lines_for n [] ≡ []
 unfolding lines_for
@@ -98,12 +80,10 @@ lines_for_head n lines h =
 -- ---- sections
 
 no_heading : {A : Type 0} (f : Line → Option A) (m : ℕ) (b : Bool) → f (section m) ≡ None → filter_map f (own b (section m)) ≡ []
-no_heading f m true none = ap (λ (o : Option _). cons_option o []) none
-no_heading f m false none = refl
+no_heading f m b none = grind arith
 
 pick_body : {A : Type 0} (f : Line → Option A) (b : Bool) (body : List Line) → filter_map f (cond b body []) ≡ cond b (filter_map f body) []
-pick_body f true body = refl
-pick_body f false body = refl
+pick_body f b body = grind arith
 
 -- what a section of processor m sets for processor n
 pub held_section : {A : Type 0} (f : Line → Option A) (n m : ℕ) (lines body : List Line) → f (section m) ≡ None → AllByRecursion KeepsCurrent body → filter_map f (lines_for n (lines ++ section m ∷ body)) ≡ filter_map f (lines_for n lines) ++ cond (eqb n m) (filter_map f body) []
@@ -123,17 +103,12 @@ held_section {A} f n m lines body none h =
 abbrev pub section_if : (ℕ → Bool) → (ℕ → List Line) → ℕ → List Line
 section_if named body m = cond (named m) (section m ∷ body m) []
 
-held_if : {A : Type 0} (f : Line → Option A) (n m : ℕ) (lines body : List Line) (b : Bool) → f (section m) ≡ None → AllByRecursion KeepsCurrent body → filter_map f (lines_for n (lines ++ cond b (section m ∷ body) [])) ≡ filter_map f (lines_for n lines) ++ cond b (cond (eqb n m) (filter_map f body) []) []
-held_if f n m lines body true none h = held_section f n m lines body none h
-held_if f n m lines body false none h = ap (λ (ls : List Line). filter_map f (lines_for n ls)) (append-nil lines) ∙ sym (append-nil (filter_map f (lines_for n lines)))
-
 pub held_sections : {A : Type 0} (f : Line → Option A) (named : ℕ → Bool) (body : ℕ → List Line) (n : ℕ) (lines : List Line) (ms : List ℕ) → ((m : ℕ) → f (section m) ≡ None) → ((m : ℕ) → AllByRecursion KeepsCurrent (body m)) → filter_map f (lines_for n (lines ++ flat_map (section_if named body) ms)) ≡ filter_map f (lines_for n lines) ++ flat_map (λ m. cond (named m) (cond (eqb n m) (filter_map f (body m)) []) []) ms
 held_sections f named body n lines [] none h = ap (λ (ls : List Line). filter_map f (lines_for n ls)) (append-nil lines) ∙ sym (append-nil (filter_map f (lines_for n lines)))
-held_sections {A} f named body n lines (m ∷ ms) none h = grind (arith, append_assoc, section_if, held_if, held_sections f named body n (lines ++ section_if named body m) ms none h)
+held_sections {A} f named body n lines (m ∷ ms) none h = grind (arith, append_assoc, section_if, held_sections f named body n (lines ++ section_if named body m) ms none h, held_section, append-nil)
 
 other_empty : {A : Type 0} (b : Bool) (xs : List A) (n m : ℕ) → (n ≡ m → ⊥) → cond b (cond (eqb n m) xs []) [] ≡ []
-other_empty true xs n m ne = cond-false (eqb n m) xs [] (ne_eqb n m ne)
-other_empty false xs n m ne = refl
+other_empty b xs n m ne = grind (arith, cond-false, eqb, ne_eqb)
 
 -- what all sections set for processor n
 pub held_by_sections : {A : Type 0} (f : Line → Option A) (named : ℕ → Bool) (body : ℕ → List Line) (n count : ℕ) (head : List Line) → ((m : ℕ) → f (section m) ≡ None) → ((m : ℕ) → AllByRecursion KeepsCurrent (body m)) → AllByRecursion KeepsCurrent head → n < count → filter_map f (lines_for n (head ++ flat_map (section_if named body) (range_with_len 0 count))) ≡ cond (named n) (filter_map f (body n)) []
@@ -146,8 +121,7 @@ held_by_sections {A} f named body n count head none h k lt =
 -- ---- names
 
 named_if : (n m : ℕ) (b : Bool) (body : List Line) → list_any (names n) body ≡ false → list_any (names n) (cond b (section m ∷ body) []) ≡ (b && eqb n m)
-named_if n m true body none = ap (λ (b : Bool). eqb n m || b) none ∙ or-false (eqb n m)
-named_if n m false body none = refl
+named_if n m b body none = grind (arith, eqb)
 
 -- the processors that sections name
 pub named_by_sections : (named : ℕ → Bool) (body : ℕ → List Line) (n count : ℕ) (head : List Line) → ((m : ℕ) → list_any (names n) (body m) ≡ false) → list_any (names n) head ≡ false → n < count → list_any (names n) (head ++ flat_map (section_if named body) (range_with_len 0 count)) ≡ named n
@@ -161,21 +135,15 @@ named_by_sections named body n count head none no_head lt =
 
 -- ---- central words
 
-central_if : (f : Line → Option ℕ) (m : ℕ) (b : Bool) (body : List Line) → f (section m) ≡ None → filter_map f body ≡ [] → filter_map f (cond b (section m ∷ body) []) ≡ []
-central_if f m true body none no_body = ap (λ (o : Option ℕ). cons_option o (filter_map f body)) none ∙ no_body
-central_if f m false body none no_body = refl
-
 -- sections that set nothing
 pub unset_by_sections : (f : Line → Option ℕ) (named : ℕ → Bool) (body : ℕ → List Line) (count : ℕ) (head : List Line) → ((m : ℕ) → f (section m) ≡ None) → ((m : ℕ) → filter_map f (body m) ≡ []) → filter_map f (head ++ flat_map (section_if named body) (range_with_len 0 count)) ≡ filter_map f head
-unset_by_sections f named body count head none no_body = grind (arith, filter_map-append, section_if, filter_flat, flat_map_none, central_if, append-nil)
+unset_by_sections f named body count head none no_body = grind (arith, filter_map-append, section_if, filter_flat, flat_map_none, append-nil)
 
 -- ---- processors that are not named
 
 none_in : {A : Type 0} (f : ℕ → Option A) (a n : ℕ) → ((k : ℕ) → a ≤ k → k < a + n → f k ≡ None) → filter_map f (range_with_len a n) ≡ []
 none_in f a zero none = refl
-none_in {A} f a (suc n) none =
-    ap (λ (o : Option A). cons_option o (filter_map f (range_with_len (a + 1) n))) (none a (omega arith) (omega arith))
-    ∙ none_in f (a + 1) n (λ k le lt. none k (omega (arith, le)) (omega (arith, lt)))
+none_in {A} f a (suc n) none = grind (arith, none_in f (a + 1) n (λ k le lt. none k (omega (arith, le)) (omega (arith, lt))))
 
 not_picked : (n : ℕ) (lines : List Line) (k : ℕ) → k < length lines → list_any (names n) lines ≡ false → (b : Bool) → is_for n (section_of (take k lines)) ≡ b → cond b (Some (get_or lines k nothing)) None ≡ None
 not_picked n lines k lt absent false e = refl

@@ -1,16 +1,13 @@
 -- The words of a line, taken one by one: `whole` is what the line comes to.
 use Rattle.std.proofs.Common.{sym, ◌≡◌, ℕ, ◌+◌, ◌<◌, ◌≤◌, List, [], ◌∷◌, Result, Ok, Err, lt-ltb, le-ltb, arith}
 use Rattle.pp_deck.specs.OctalNumber.{number}
-use Rattle.pp_deck.specs.DeckLine.{words_in, ◌>>=◌}
+use Rattle.pp_deck.specs.DeckLine.{words_in}
 use Rattle.pp_deck.specs.Reading.{on_read}
 use Rattle.pp_deck.specs.declared.flaw.Flaw.{Flaw}
 
-onto : {A : Type 0} (use_of : List ℕ → A) (word : ℕ) (r : Result (List ℕ) Flaw) → on_read use_of (r >>= λ more. Ok (word ∷ more)) ≡ on_read (λ ws. use_of (word ∷ ws)) r
-onto use_of word r = grind arith
-
 pub words_more : {A : Type 0} (use_of : List ℕ → A) (most place end word : ℕ) (past : Flaw) (field : List ℕ) (all fields : List (List ℕ)) (whole : Result A Flaw) → on_read use_of (words_in most place end past all) ≡ whole → all ≡ field ∷ fields → Ok word ≡ number most field → place < end → on_read (λ ws. use_of (word ∷ ws)) (words_in most (place + 1) end past fields) ≡ whole
 unfolding words_in
-words_more use_of most place end word past field all fields whole is e n lt = grind (arith, lt-ltb, onto)
+words_more use_of most place end word past field all fields whole is e n lt = grind (arith, lt-ltb)
 
 pub words_past : {A : Type 0} (use_of : List ℕ → A) (most place end word : ℕ) (past : Flaw) (field : List ℕ) (all fields : List (List ℕ)) (whole : Result A Flaw) → on_read use_of (words_in most place end past all) ≡ whole → all ≡ field ∷ fields → Ok word ≡ number most field → end ≤ place → whole ≡ Err past
 unfolding words_in

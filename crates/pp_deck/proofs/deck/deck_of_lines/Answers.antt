@@ -3,7 +3,7 @@ use Rattle.pp_deck.specs.DeckText.{lines_of}
 use Rattle.pp_deck.specs.Reading.{before_lines}
 use Rattle.pp_deck.proofs.FieldLemmas.{next_line, no_line, length-lines_of}
 use Rattle.pp_deck.proofs.ReadingLemmas.{read_none, read_blank, read_fields, read_flaw, read_all, before_first_turn, central_length}
-use Rattle.pp_deck.proofs.StatedLemmas.{size_is, size_most, stated_here}
+use Rattle.pp_deck.proofs.StatedLemmas.{size_is, stated_here}
 use Rattle.pp_deck.proofs.deck.deck_of_lines.Goals as goal
 
 pub loop-fields-init : goal.loop-fields-init
@@ -17,7 +17,7 @@ pub overflow_add-number : goal.overflow_add-number
 overflow_add-number g c = omega (arith, c.loop-fields.invariant.within, length-lines_of c.args.text.now, c.requires)
 
 pub read_line-requires-clause-size : goal.read_line-requires-clause-size
-read_line-requires-clause-size g c = omega (arith, size_most c.stated_size-stated.result c.stated_size-stated.ensures.range, size_is c.stated_size-stated.result (lines_of c.args.text.now) c.stated_size-stated.ensures.line, central_length c.args.profile _ _ _ _ c.loop-fields.invariant.read)
+read_line-requires-clause-size g c = grind (arith, size_is, central_length)
 
 pub read_line-requires-clause-stated : goal.read_line-requires-clause-stated
 read_line-requires-clause-stated g c = λ none central.

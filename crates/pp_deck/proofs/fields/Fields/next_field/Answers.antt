@@ -1,6 +1,7 @@
 use Rattle.std.proofs.Common.{sym, ◌∙◌, arith}
 use Rattle.std.proofs.lemmas.List.{take_rest}
-use Rattle.pp_deck.proofs.FieldLemmas.{fields_of_blanks, comment_first, field_first, field_length-le}
+use Rattle.pp_deck.proofs.FieldLemmas.{fields_of_blanks, comment_first, field_first}
+use Rattle.std.proofs.lemmas.List.Sums.{prefix_len-le-length}
 use Rattle.pp_deck.proofs.fields.Fields.next_field.Goals as goal
 
 pub returns-in_err-start-clause-none : goal.returns-in_err-start-clause-none
@@ -10,7 +11,7 @@ pub returns-then-text-eq42-clause-none : goal.returns-then-text-eq42-clause-none
 returns-then-text-eq42-clause-none c = grind (arith, comment_first, take_rest)
 
 pub split_at-requires : goal.split_at-requires
-split_at-requires c = field_length-le _ _ c.field_length.ensures
+split_at-requires c = grind (arith, prefix_len-le-length)
 
 pub returns-clause-taken : goal.returns-clause-taken
 returns-clause-taken c =
