@@ -1,5 +1,5 @@
 -- Neighbours that differ; the words on the lines are the words that differ, in order; and what they make of the load.
-use Rattle.std.proofs.Common.{◌≡◌, ◌≢◌, ℕ, ◌+◌, ◌-◌, ◌%◌, ◌<◌, ◌≤◌, ◌⊎◌, inl, inr, zero, suc, Bool, true, false, not, cond, eqb, eqb-true, ◌&&◌, ◌||◌, List, [], ◌∷◌, ◌++◌, All, length, get_or, set, take, drop, refl, sym, ap, subst, ◌∙◌, append_assoc, arith, add-one}
+use Rattle.std.proofs.Common.{◌≡◌, ◌≢◌, ℕ, ◌+◌, ◌-◌, ◌%◌, ◌<◌, ◌≤◌, ◌⊎◌, inl, inr, zero, suc, true, false, not, cond, eqb, eqb-true, List, [], ◌∷◌, ◌++◌, All, length, get_or, set, take, drop, refl, sym, ap, subst, ◌∙◌, append_assoc, arith, add-one}
 use Rattle.std.specs.List.{flat_map, list_any, range_with_len}
 use Rattle.std.proofs.lemmas.Bool.{cases_Bool, cases_eq, cases_lt, cond-true, cond-false, eq-eqb, eqb-false, ne_eqb, not-false, not-true}
 use Rattle.std.proofs.lemmas.List.{append-nil, drop_all, drop_more, take_all, take_more, get_or_past, length-take}
@@ -52,17 +52,14 @@ neighbour_printed before after (suc most) place word some differ is = grind (ari
 
 -- ---- lines
 
-line_where : (before after : List ℕ) (place : ℕ) (b : Bool) → begins_line before after place ≡ b → flat_map deck_line (cond b (words place (neighbours before after 8 place) ∷ []) []) ≡ flat_map deck_line (line_from before after place)
-line_where before after place b e = ap (λ (is : Bool). flat_map deck_line (cond is (words place (neighbours before after 8 place) ∷ []) [])) (sym e)
-
 pub no_line_of_same : (before after : List ℕ) (place : ℕ) → differs before after place ≡ false → [] ≡ flat_map deck_line (line_from before after place)
-no_line_of_same before after place e = line_where before after place false (ap (λ (b : Bool). b && eqb (position_on_line before after place) 0) e)
+no_line_of_same before after place e = grind (arith, eqb)
 
 pub no_line_within : (before after : List ℕ) (place : ℕ) → differs before after place ≡ true → position_on_line before after place ≢ 0 → [] ≡ flat_map deck_line (line_from before after place)
-no_line_within before after place e some = grind (arith, line_where, ne_eqb)
+no_line_within before after place e some = grind (arith, ne_eqb)
 
 pub line_begins : (before after : List ℕ) (place : ℕ) → differs before after place ≡ true → position_on_line before after place ≡ 0 → deck_line (words place (neighbours before after 8 place)) ≡ flat_map deck_line (line_from before after place)
-line_begins before after place e none = grind (arith, append-nil, line_where, eq-eqb)
+line_begins before after place e none = grind (arith, append-nil, eq-eqb)
 
 -- ---- central words
 
@@ -111,10 +108,6 @@ few_in_front : (before after : List ℕ) (place : ℕ) → position_on_line befo
 few_in_front before after zero = omega (arith, none_at_first before after)
 few_in_front before after (suc place) = grind (arith, cases_Bool, in_front_of_next, in_front_of_same)
 
--- no line begins
-no_line : (before after : List ℕ) (place : ℕ) → begins_line before after place ≡ false → words_before before after (place + 1) ≡ words_before before after place
-no_line before after place e = grind (arith, words_before_more, words_before, cond-false, append-nil)
-
 -- a line begins
 one_line : (before after : List ℕ) (place : ℕ) → begins_line before after place ≡ true → words_before before after (place + 1) ≡ words_before before after place ++ placed place (neighbours before after 8 place)
 one_line before after place e = grind (arith, words_before_more, words_before, cond-true, append-nil)
@@ -142,36 +135,19 @@ abbrev AreAfter : List ℕ → List ℕ → ℕ → Type 0
 AreAfter before after place = words_before before after (place + 1) ≡ changes before after (suc place + words_after before after (suc place))
 
 step_same : (before after : List ℕ) (place : ℕ) → differs before after place ≡ false → AreSoFar before after place → AreAfter before after place
-step_same before after place same so_far =
-    let here : place + words_after before after place ≡ place = omega (arith, behind_same before after place same) in
-    let next : suc place + words_after before after (suc place) ≡ place + 1 = omega (arith, behind_first before after (suc place) (in_front_of_same before after place same)) in
-    rw (next, changes_same before after place same, no_line before after place (rw same refl), so_far, here) refl
-
--- from a word that differs on there are as many as stand behind it and one
-counted : (before after : List ℕ) (place : ℕ) → differs before after place ≡ true → length (neighbours before after (8 - position_on_line before after place) place) ≡ suc (words_after before after (suc place))
-counted before after place other =
-    let left : 8 - position_on_line before after place ≡ suc (7 - position_on_line before after place) = omega (arith, few_in_front before after place) in
-    rw (left, one_neighbour before after (7 - position_on_line before after place) place other, behind_next before after place other) refl
+step_same before after place same so_far = grind (arith, words_after, behind_same, behind_first, in_front_of_same, changes_same, words_before_more, cond-false, append-nil)
 
 step_first : (before after : List ℕ) (place : ℕ) → differs before after place ≡ true → position_on_line before after place ≡ 0 → AreSoFar before after place → AreAfter before after place
-step_first before after place other first so_far =
-    let here : place + words_after before after place ≡ place = omega (arith, behind_first before after place first) in
-    let next : suc place + words_after before after (suc place) ≡ place + length (neighbours before after 8 place) = omega (arith, rw first at (counted before after place other)) in
-    rw (next, one_line before after place (rw (other, first) refl), so_far, here) (neighbours_are before after 8 place)
+step_first before after place other first so_far = grind (arith, words_after, behind_first, one_line, neighbours_are, few_in_front, one_neighbour, behind_next)
 
 step_later : (before after : List ℕ) (place : ℕ) → differs before after place ≡ true → position_on_line before after place ≢ 0 → AreSoFar before after place → AreAfter before after place
-step_later before after place other later so_far =
-    let next : suc place + words_after before after (suc place) ≡ place + words_after before after place = omega (arith, counted before after place other, behind_more before after place later) in
-    rw (next, no_line before after place (rw (other, ne_eqb _ _ later) refl)) so_far
+step_later before after place other later so_far = grind (arith, words_after, behind_more, ne_eqb, words_before_more, cond-false, append-nil, few_in_front, one_neighbour, behind_next)
 
 -- the words on the lines so far are the changes, some of them ahead
 words_are : (before after : List ℕ) (place : ℕ) → AreSoFar before after place
 words_are before after zero = grind (arith, behind_first, none_at_first)
 words_are before after (suc place) = ap (words_before before after) (sym (add-one place)) ∙ elim (cases_Bool (differs before after place)) [
-  | inl other ↦ elim (cases_eq (position_on_line before after place) 0) [
-    | inl first ↦ step_first before after place other first (words_are before after place)
-    | inr later ↦ step_later before after place other later (words_are before after place)
-  ]
+  | inl other ↦ grind (arith, cases_eq, step_first, step_later, words_are before after place)
   | inr same ↦ step_same before after place same (words_are before after place)
 ]
 
@@ -196,9 +172,6 @@ overwritten-append : (memory : List ℕ) (xs ys : List (ℕ × ℕ)) → overwri
 overwritten-append memory [] ys = refl
 overwritten-append memory ((place, w) ∷ xs) ys = overwritten-append (set memory place w) xs ys
 
-is_same : (before after : List ℕ) (place : ℕ) → differs before after place ≡ false → get_or before place 0 ≡ get_or after place 0
-is_same before after place e = eqb-true (get_or before place 0) (get_or after place 0) (not-false _ e)
-
 -- the load before a place is overwritten
 half : List ℕ → List ℕ → ℕ → List ℕ
 half before after place = take place after ++ drop place before
@@ -218,7 +191,7 @@ unfolding half
 same_half before after place lt as_lt e = grind (arith, drop_more, half_more)
 
 half_step : (before after : List ℕ) (count : ℕ) → count < length after → count < length before → overwritten before (changes before after count) ≡ half before after count → overwritten before (changes before after (count + 1)) ≡ half before after (count + 1)
-half_step before after count lt as_lt so_far = grind (arith, cases_Bool, changes, half, changes_more, overwritten-append, set_half, changes_same, same_half, is_same)
+half_step before after count lt as_lt so_far = grind (arith, cases_Bool, changes, half, changes_more, overwritten-append, set_half, changes_same, same_half, eqb-true, not-false)
 
 overwritten_half : (before after : List ℕ) (count : ℕ) → count ≤ length after → length before ≡ length after → overwritten before (changes before after count) ≡ half before after count
 unfolding half
@@ -255,10 +228,7 @@ none_changed before after [] e = refl
 none_changed before after (k ∷ ks) e = by (cases_Bool (differs before after k)) e (none_changed before after ks)
   where
     by : (differs before after k ≡ true) ⊎ (differs before after k ≡ false) → list_any (differs before after) (k ∷ ks) ≡ false → (list_any (differs before after) ks ≡ false → flat_map (change before after) ks ≡ []) → flat_map (change before after) (k ∷ ks) ≡ []
-    by (inl other) e rest = let yes : list_any (differs before after) (k ∷ ks) ≡ true = ap (λ (b : Bool). b || list_any (differs before after) ks) other in absurd (cc)
-    by (inr same) e rest =
-        ap (λ (xs : List (ℕ × ℕ)). xs ++ flat_map (change before after) ks) (cond-false (differs before after k) _ _ same)
-        ∙ rest (sym (ap (λ (b : Bool). b || list_any (differs before after) ks) same) ∙ e)
+    by h e rest = grind (arith, cond-false)
 
 pub section_words : (n : ℕ) (before after : MachineState) → AreMemories n before after → flat_map words_set (changed_section before after n) ≡ changes (processor_of n before).memory (processor_of n after).memory place_count
 unfolding places

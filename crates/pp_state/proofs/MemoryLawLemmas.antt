@@ -156,12 +156,8 @@ one_passes zero n p f within own others = absurd (omega (arith, within))
 one_passes (suc k) n p f within own others =
     filter-append p (each_below k f) (f k)
     ∙ elim (cases_lt n k) [
-      | inl early ↦
-          ap (λ last. filter p (each_below k f) ++ last) (others k (omega arith) (λ same. omega (arith, same, early))) ∙ append-nil (filter p (each_below k f))
-          ∙ one_passes k n p f early own (λ m low. others m (omega (arith, low)))
-      | inr late ↦
-          let here : k ≡ n = omega (arith, late, within) in
-          ap (λ first. first ++ filter p (f k)) (none_below k p f (λ m low. others m (omega (arith, low)) (λ same. omega (arith, same, late, low)))) ∙ ap (λ m. filter p (f m)) here ∙ own
+      | inl early ↦ grind (arith, append-nil, one_passes k n p f early own (λ m low. others m (omega (arith, low))))
+      | inr late ↦ grind (arith, none_below)
     ]
 
 -- of the lines of a text, those that pass a test that the line of one number alone passes
@@ -259,9 +255,7 @@ line_found bounds pp n within =
 -- the word on a line that is shown where some word is not 0, and is 0 where there is none
 pub on_line : (met some : Bool) (column width w : ℕ) (l : List ℕ) → met ≡ true → number_in column width l ≡ w → (some ≡ false → w ≡ 0)
     → number_on column width (if met && some then l ∷ [] else []) ≡ w
-on_line true true column width w l met reads zeros = reads
-on_line true false column width w l met reads zeros = sym (zeros refl)
-on_line false some column width w l met reads zeros = absurd (cc)
+on_line met some column width w l h reads zeros = grind arith
 
 no_words : (pp : Processor) (place k : ℕ) → k < 8 → has_words pp place ≡ false → word_at pp (place + k) ≡ 0
 no_words pp place k within none = grind (arith, eqb-true, not-false, false_from_ne_true, both_ways, list_any_at, length-range_with_len, get_or-range_with_len)

@@ -1,5 +1,5 @@
 -- Lines of words, in the pieces in which they are printed.
-use Rattle.std.proofs.Common.{◌≡◌, ◌≢◌, ℕ, zero, suc, ◌+◌, ◌-◌, ◌/◌, ◌%◌, true, List, [], ◌∷◌, ◌++◌, refl, sym, ap, ◌∙◌, append_assoc, arith, codes}
+use Rattle.std.proofs.Common.{◌≡◌, ◌≢◌, ℕ, ◌+◌, ◌-◌, ◌/◌, ◌%◌, true, List, [], ◌∷◌, ◌++◌, refl, sym, ap, ◌∙◌, append_assoc, arith, codes}
 use Rattle.pp_processor.specs.Processor.{Processor, word_at}
 use Rattle.pp_word.specs.Numeral.{octal}
 use Rattle.pp_text.specs.PrintedText.{each_below, line_end}
@@ -11,8 +11,7 @@ use Rattle.pp_numbers.specs.declared.bounds.Bounds.{Bounds}
 
 -- one character more of a word
 pub displayed_more : (width word : ℕ) → width ≢ 0 → displayed (width - 1) (word / 0o100) ++ display_character (word % 0o100) ∷ [] ≡ displayed width word
-displayed_more zero word some = absurd (some refl)
-displayed_more (suc width) word some = grind arith
+displayed_more width word some = grind arith
 
 -- eight words in display code
 pub eight_words : (pp : Processor) (place : ℕ)

@@ -1,6 +1,6 @@
 -- The text of how things stand tells what it shows.
 use Rattle.std.proofs.Common.{All, ◌≡◌, ◌∙◌, ℕ, ◌+◌, ◌^◌, ◌<◌, ◌/◌, ◌%◌, Bool, true, false, List, [], ◌∷◌, ◌++◌, Option, None, Some, length, refl, sym, ap, arith, append_assoc, codes}
-use Rattle.std.specs.Prelude.{◌==◌, ◌&&◌, ◌||◌, IfSome, IsTrue, get_or, nat_lt, not, option_map, unwrap_or, slice_index_or, if◌then◌else◌}
+use Rattle.std.specs.Prelude.{◌==◌, ◌&&◌, ◌||◌, IfSome, IsTrue, get_or, nat_lt, not, unwrap_or, slice_index_or, if◌then◌else◌}
 use Rattle.std.specs.List.{flat_map, list_all}
 use Rattle.std.proofs.lemmas.Bool.{and_parts, lt-ltb, ne_eqb}
 use Rattle.std.proofs.lemmas.Grind.{flat_map-append}
@@ -9,19 +9,15 @@ use Rattle.pp_channel.specs.declared.flags.Flags.{Flags}
 use Rattle.pp_word.specs.Numeral.{is_digit, numeral, octal, short_octal}
 use Rattle.pp_word.specs.Opcode.{opcode_at, row_of}
 use Rattle.pp_word.specs.declared.opcode.Opcode.{Opcode}
-use Rattle.pp_word.specs.Address.{next_place}
 use Rattle.pp_word.proofs.NumeralLemmas.{short_pass, short_read}
 use Rattle.pp_machine.specs.MachineState.{MachineState, processor_of}
-use Rattle.pp_machine.specs.MachineStep.{step_outcome}
-use Rattle.pp_processor.specs.NeedAndEffect.{need}
-use Rattle.pp_processor.specs.Processor.{word_at}
-use Rattle.pp_processor.specs.declared.{block.Block.Block, block.BlockKind.BlockKind, need.Need.Need, outcome.Outcome.Outcome}
+use Rattle.pp_processor.specs.declared.{block.Block.Block, block.BlockKind.BlockKind}
 use Rattle.pp_processor.specs.declared.block.BlockKind.TheVariants.{CentralIn, CentralOut, Input, Output}
 use Rattle.pp_text.specs.InstructionText.{block_text, instruction_text, operands_of, operands_text, running_text}
 use Rattle.pp_word.specs.declared.operands.Operands.{Operands}
 use Rattle.pp_word.specs.declared.operands.Operands.TheVariants.{Number}
 use Rattle.pp_text.specs.PrintedText.{line_end, processor_line}
-use Rattle.pp_text.specs.Standing.{block_place_text, held_text, standing}
+use Rattle.pp_text.specs.Standing.{standing}
 use Rattle.pp_text.proofs.Format.{Format, Piece, always, characters, field, front_fails, is_digit_at, many, mark, maybe, octals, piece_tells, run_of, whole, ◌▷◌, ◌▸◌}
 use Rattle.pp_text.proofs.Formats.{IsChannelLine, IsHold, channel_lines, channel_row, channels_are, channels_fit, channels_same, channels_shown, holds, named_rows, named_rows_are, named_rows_fit, named_rows_tell, processors, states}
 use Rattle.pp_text.proofs.Telling.{decimal_digit}
@@ -31,7 +27,7 @@ use Rattle.pp_deck.specs.DeckLine.{Line, nothing, central_size, central_words, s
 use Rattle.pp_listing.specs.ListedLine.{deck_line}
 use Rattle.pp_state.specs.Changes.{changed_central, changed_sections}
 use Rattle.pp_state.specs.StateText.{changes_text, state_text as whole_state}
-use Rattle.pp_state.specs.ShownStanding.{AgreeOnState, FitsItsStanding, FitsItsState, FitsItsWords, ShownProcessor, hold_of, processor_shown, words_changed}
+use Rattle.pp_state.specs.ShownStanding.{AgreeOnState, FitsItsStanding, FitsItsState, FitsItsWords, ShownProcessor, processor_shown, words_changed}
 
 -- ---- the text of an instruction, up to a blank before a letter or to the end of the line
 
@@ -77,14 +73,8 @@ instruction_tells x y r s one other ends also e =
 abbrev instructions : Format IsInstruction
 instructions = record { text = λ t. t; clear = λ t r. ends_instruction r; tells = instruction_tells }
 
-ink : (n : ℕ) → nat_lt 32 (48 + n) ≡ true
-ink n = lt-ltb 32 (48 + n) (omega arith)
-
-first : (n : ℕ) → nat_lt (48 + n % 8) 58 ≡ true
-first n = lt-ltb (48 + n % 8) 58 (omega arith)
-
 are_operands : (kind : Operands) (place d m : ℕ) → IsOperands (operands_text kind place d m)
-are_operands kind place d m = grind (arith, first, ink)
+are_operands kind place d m = grind (arith, lt-ltb)
 
 three_letters : (op : Opcode) → length (row_of op).mnemonic ≡ 3
 three_letters op = grind arith
@@ -136,24 +126,15 @@ said_clear place held r = grind arith
 abbrev begins_processor : List ℕ → Bool
 begins_processor t = get_or t 0 0 == 80 && not (get_or t 2 0 == 32)
 
-digit_other : (n c : ℕ) → 57 < c → (48 + n % 8 == c) ≡ false
-digit_other n c past = ne_eqb (48 + n % 8) c (λ e. absurd (omega (arith, e, past)))
-
 standing_front : (x : ℕ × ShownProcessor) (r : List ℕ) → (begins_processor (standing_row.text x ++ r) && true) ≡ true
 standing_front (n, s) r = rw (ne_eqb (48 + n / 8 % 8) 32 (λ e. absurd (omega (arith, e)))) refl
 
 standing_rows : Format (All IsStandingLine)
 standing_rows = many standing_row begins_processor (λ _. true) (λ x r _. standing_front x r) (λ (n, s) r _. said_clear s.place s.held r)
 
-hold_is : (asked : Need) (outcome : Outcome) (m : MachineState) (count : ℕ) → held_text asked outcome m count ≡ held_format.text (hold_of asked outcome m count)
-hold_is asked outcome m count = grind arith
-
-place_is : (block : Option Block) → block_place_text block ≡ block_format.text (option_map (λ block. block.place) block)
-place_is block = grind arith
-
 standing_is : (n : ℕ) (m : MachineState) (count : ℕ) → processor_line n (processor_of n m) (standing n m count) ≡ standing_row.text (n, processor_shown n m count)
 unfolding processor_line
-standing_is n m count = rw (place_is (processor_of n m).block, hold_is (need (processor_of n m)) (step_outcome n m) m count) refl
+standing_is n m count = grind arith
 
 -- ---- the lines of words
 
@@ -191,10 +172,6 @@ kind_of line = 2
 abbrev kind : List ℕ → ℕ
 kind t = if is_digit_at 0 t then 1 else get_or t 0 0
 
-line_kind : (line : Line) (r : List ℕ) → FitsItsWords line → kind (deck_line line ++ r) ≡ kind_of line
-unfolding kind_of
-line_kind line r fits = grind (arith, first)
-
 line_tells : (x y : Line) (r s : List ℕ) → FitsItsWords x → FitsItsWords y → deck_line x ++ r ≡ deck_line y ++ s → (x ≡ y) × (r ≡ s)
 unfolding kind_of
 line_tells (section m) (section n) r s low small e = let told = section_row.tells m n r s low small refl refl e in (ap section told.0, told.1)
@@ -205,13 +182,13 @@ line_tells nothing y r s low small e = absurd low
 line_tells (central_size n) y r s low small e = absurd low
 line_tells (start p a) y r s low small e = absurd low
 line_tells dead_start y r s low small e = absurd low
-line_tells x y r s low small e = let same : kind_of x ≡ kind_of y = sym (line_kind x r low) ∙ ap kind e ∙ line_kind y s small in absurd (omega (arith, same))
+line_tells x y r s low small e = grind (arith, kind_of, lt-ltb)
 
 abbrev begins_words : List ℕ → Bool
 begins_words t = kind t == 1 || kind t == 80 || (kind t == 67 && get_or t 1 0 == 77)
 
 words_front : (line : Line) (r : List ℕ) → FitsItsWords line → (begins_words (deck_line line ++ r) && true) ≡ true
-words_front line r fits = grind (arith, first)
+words_front line r fits = grind (arith, lt-ltb)
 
 word_lines : Format (All FitsItsWords)
 word_lines = many (always deck_line line_tells) begins_words (λ _. true) words_front (λ line r _. refl)
@@ -225,7 +202,7 @@ abbrev whole_text : Piece (λ (x : Shown). All IsStandingLine x.0 × (All FitsIt
 whole_text = field standing_rows (λ x. x.0) (λ x fits. fits.0) ▷ field word_lines (λ x. x.1.0) (λ x fits. fits.1.0) ▷ field channel_lines (λ x. x.1.1) (λ x fits. fits.1.1)
 
 no_processor : (line : Line) (r : List ℕ) → begins_processor (deck_line line ++ r) ≡ false
-no_processor line r = grind (arith, digit_other)
+no_processor line r = grind (arith, ne_eqb)
 
 text_clear : (x : Shown) → whole_text.clear x [] ≡ true
 unfolding standing_rows word_lines
@@ -259,9 +236,7 @@ module _ (shown : List Bool) (before after : MachineState) (counts : List StepCo
   text_fits fits = (named_rows_fit IsStandingLine shown shown_of_each each, (fits.words, channels_fit after.histories fits.channels))
     where
       each : (n : ℕ) → n < 0o100 → IsTrue (is_named shown n) → IfSome (shown_of_each n) (λ x. IsStandingLine (n, x))
-      each n low is =
-          let pp = processor_of n after in
-          (low, record { fits = rw is at (fits.processors n); instruction = is_instruction pp.block pp.p (word_at pp pp.p) (word_at pp (next_place pp.p)) })
+      each n low is = grind (arith, is_instruction)
 
 pub text_tells_state : (shown others : List Bool) (before after load other : MachineState) (counts more : List StepCounts) → FitsItsState shown before after counts → FitsItsState others load other more
     → whole_state shown before after counts ≡ whole_state others load other more → AgreeOnState shown others before after load other counts more

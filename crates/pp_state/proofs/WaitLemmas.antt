@@ -1,5 +1,5 @@
 -- A step is held exactly where its processor waits for a channel.
-use Rattle.std.proofs.Common.{◌≡◌, ◌≢◌, ℕ, ◌≤◌, ◌⊎◌, inl, inr, Bool, true, false, cond, List, [], ◌∷◌, Option, Some, None, length, refl, sym, ap, subst, ◌∙◌, arith}
+use Rattle.std.proofs.Common.{◌≡◌, ◌≢◌, ℕ, ◌≤◌, ◌⊎◌, inl, inr, Bool, true, false, cond, List, [], Option, Some, None, length, refl, sym, ap, subst, ◌∙◌, arith}
 use Rattle.std.proofs.lemmas.Bool.{both_ways, cases_Bool}
 use Rattle.std.proofs.lemmas.List.{get_or_past}
 use Rattle.pp_channel.specs.Answer.{IsReady, event_of, only_looks}
@@ -10,9 +10,9 @@ use Rattle.pp_channel.proofs.AnswerLemmas.{looks_or_acts, none_without_ready, ta
 use Rattle.pp_channel.proofs.HistoryLemmas.{lawful_empty}
 use Rattle.pp_machine.specs.Headline.{HoldsOnEachChannel}
 use Rattle.pp_machine.specs.MachineState.{MachineState, history_of, processor_of}
-use Rattle.pp_machine.specs.MachineStep.{answer_to, step_outcome}
-use Rattle.pp_processor.specs.NeedAndEffect.{need, IsHeldAnswer}
-use Rattle.pp_processor.specs.declared.{block.Block.Block, need.Need.Need, outcome.Outcome.Outcome}
+use Rattle.pp_machine.specs.MachineStep.{step_outcome}
+use Rattle.pp_processor.specs.NeedAndEffect.{need}
+use Rattle.pp_processor.specs.declared.{block.Block.Block, outcome.Outcome.Outcome}
 use Rattle.pp_processor.specs.declared.need.Need.TheVariants as needs
 use Rattle.pp_processor.specs.declared.outcome.Outcome.TheVariants.{Held, Moved}
 use Rattle.pp_processor.proofs.StepLemmas.{held_by_answer}
@@ -73,24 +73,14 @@ waits_on n c op m law needed held = (c, op, by (looks_or_acts (only_looks op)) (
       no_end = goes_is_on (processor_of n m).block (active (history_of c m)) (held_is_true (goes_on (processor_of n m).block (active (history_of c m))) (step_outcome n m) (held_where_none n c op m needed acts none) held);
     }
 
--- what is held has asked a channel
-held_answer : (n : ℕ) (m : MachineState) → step_outcome n m ≡ Held → IsHeldAnswer (answer_to (need (processor_of n m)) m)
-unfolding step_outcome
-held_answer n m held = held_by_answer (processor_of n m) (answer_to (need (processor_of n m)) m) held
-
 pub waits_where_held : (n : ℕ) (m : MachineState) → length m.histories ≡ channel_count → HoldsOnEachChannel m → step_outcome n m ≡ Held → IsHeld n m
-waits_where_held n m all holds held = grind (arith, held_answer, waits_on, lawful)
+unfolding step_outcome
+waits_where_held n m all holds held = grind (arith, waits_on, lawful, held_by_answer)
 
 -- ---- the text says so
 
-said : (x : Need) (o : Outcome) (m : MachineState) (count : ℕ) → held_text x o m count ≢ [] → o ≡ Held
-said x o m count some = grind arith
-
-not_nothing : (x : ℕ) (xs ys : List ℕ) → ys ≡ x ∷ xs → ys ≡ [] → ⊥
-not_nothing x xs ys some none = cc
-
 pub says_where_waits : (n : ℕ) (m : MachineState) (count : ℕ) → step_outcome n m ≡ Held → IsHeld n m → held_text (need (processor_of n m)) (step_outcome n m) m count ≢ []
-says_where_waits n m count held (c, op, waits) = grind (arith, not_nothing)
+says_where_waits n m count held (c, op, waits) = grind arith
 
 pub held_where_said : (n : ℕ) (m : MachineState) (count : ℕ) → held_text (need (processor_of n m)) (step_outcome n m) m count ≢ [] → step_outcome n m ≡ Held
-held_where_said n m count some = said (need (processor_of n m)) (step_outcome n m) m count some
+held_where_said n m count some = grind arith
