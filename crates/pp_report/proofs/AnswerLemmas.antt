@@ -1,21 +1,19 @@
 -- An answer that moved its processor: it is local, or a channel gives it at the moment that its sight tells.
-use Rattle.std.proofs.Common.{◌≡◌, ◌≢◌, ℕ, ◌<◌, ◌≤◌, true, false, List, [], ◌∷◌, ◌++◌, Option, Some, None, refl, sym, ap, ◌∙◌, subst, inl, inr, arith}
-use Rattle.std.specs.Prelude.{◌⊎◌, if◌then◌else◌, map}
+use Rattle.std.proofs.Common.{◌≡◌, ◌≢◌, ℕ, ◌<◌, ◌≤◌, true, false, List, [], ◌∷◌, ◌++◌, Some, None, refl, sym, ap, ◌∙◌, subst, inl, inr, arith}
+use Rattle.std.specs.Prelude.{◌⊎◌, map}
 use Rattle.std.specs.Option.{option_to_list}
 use Rattle.std.proofs.lemmas.Bool.{cases_lt}
 use Rattle.pp_channel.specs.Answer.{event_of, flags_of, channel_state, operation_of, ready_at, reply_made, reply_by, reply_to, seen_answered}
 use Rattle.pp_channel.proofs.AnswerLemmas.{held_at, table_of_ready}
 use Rattle.pp_channel.specs.History.{IsLawful}
-use Rattle.pp_report.specs.Types.{Access, Answer, ChanOp, Did, Entry, Event, Flags, Need, Outcome, PpState, Reply, Saw, Seen}
+use Rattle.pp_report.specs.Types.{Access, Answer, ChanOp, Did, Entry, Event, Flags, Need, Outcome, Reply, Saw, Seen}
 use Rattle.pp_processor.specs.Block.{block_word}
 use Rattle.pp_processor.proofs.ReplayLemmas.{acts_where_held, tells_where_fits}
-use Rattle.pp_processor.specs.NeedAndEffect.{need, step_of, outcome, is_held, if_running}
-use Rattle.pp_processor.specs.Processor.{Processor, word_at}
+use Rattle.pp_processor.specs.NeedAndEffect.{need, outcome}
+use Rattle.pp_processor.specs.Processor.{Processor}
 use Rattle.pp_processor.specs.Replay.{fits, reply_fits}
 use Rattle.pp_processor.specs.Step.{need_of}
-use Rattle.pp_processor.specs.declared.{block.Block.Block, block.BlockKind.BlockKind}
-use Rattle.pp_processor.specs.declared.block.BlockKind.TheVariants.{CentralIn, CentralOut, Input, Output}
-use Rattle.pp_processor.specs.declared.pp_state.PpState.TheVariants.{Running, Stopped, Fault}
+use Rattle.pp_processor.specs.declared.{block.BlockKind.BlockKind}
 use Rattle.pp_processor.proofs.StepLemmas.{at_rest, nothing_at_rest}
 use Rattle.pp_runner.specs.Accesses.{accesses_by}
 use Rattle.pp_runner.specs.WorkerReport.{IsBySize}
@@ -113,66 +111,27 @@ made_by (Need.Write a w) x number access fit is = absurd cc
 
 -- a block that a channel ended by being inactive: its operation was not ready
 inactive : (kind : BlockKind) (place : ℕ) (pp : Processor) (c : ℕ) (op : ChanOp) (f : Flags) → need_of (block_word kind place pp) ≡ Need.Channel c op → f.active ≡ false → ready_at op f ≡ false
-inactive (CentralIn left) place pp c op f is none = absurd cc
-inactive (CentralOut left) place pp c op f is none = absurd cc
-inactive (Input channel) place pp c op f is none = let take : ChanOp.Take ≡ op = cc in subst (λ (o : ChanOp). ready_at o f ≡ false) take (rw none refl)
-inactive (Output channel) place pp c op f is none = let put : ChanOp.Put (word_at pp place) ≡ op = cc in subst (λ (o : ChanOp). ready_at o f ≡ false) put (rw none refl)
-
-not_ready_in : (state : PpState) (block : Option Block) (pp : Processor) (c : ℕ) (op : ChanOp) (f : Flags) → if_running state (need_of (step_of block pp)) Need.Nothing ≡ Need.Channel c op
-    → if_running state (if is_held block (Answer.Channel (Reply.Held f)) then Outcome.Held else Outcome.Moved) Outcome.AtRest ≡ Outcome.Moved → ready_at op f ≡ false
-not_ready_in Stopped block pp c op f needed moved = absurd cc
-not_ready_in (Fault number) block pp c op f needed moved = absurd cc
-not_ready_in Running None pp c op f needed moved = absurd cc
-not_ready_in Running (Some block) pp c op f needed moved = grind (arith, inactive)
+inactive kind place pp c op f is none = grind arith
 
 pub held_not_ready : (pp : Processor) (c : ℕ) (op : ChanOp) (f : Flags) → need pp ≡ Need.Channel c op → outcome pp (Answer.Channel (Reply.Held f)) ≡ Outcome.Moved → ready_at op f ≡ false
 unfolding need outcome
-held_not_ready pp c op f needed moved = not_ready_in pp.state pp.block pp c op f needed moved
+held_not_ready pp c op f needed moved = grind (arith, inactive)
 
 -- what a channel with this history answers where the sight is a look at it as it is
 pub record IsLookAnswer (h : List Event) (op : ChanOp) (reply : Reply) : Type 0 where
   pub is : reply_to op h ≡ reply
   pub none : event_of op h ≡ None
 
-same_look : (f g : Flags) → Some (Saw g) ≡ Some (Saw f) → g ≡ f
-same_look f g is = cc
-
-look_reply : (h : List Event) (op : ChanOp) (reply : Reply) (f : Flags) → reply_fits op reply ≡ true → seen_answered op reply ≡ Some (Saw f) → f ≡ flags_of h → ((g : Flags) → reply ≡ Reply.Held g → ready_at op g ≡ false) → IsLookAnswer h op reply
-look_reply h ChanOp.Probe (Reply.Flags g) f fit told now held = record { is = ap (λ x. Reply.Flags x) (sym (same_look f g told ∙ now)); none = refl }
-look_reply h op (Reply.Flags g) f fit told now held = absurd cc
-look_reply h op (Reply.Held g) f fit told now held = grind (arith, same_look, held_at, acts_where_held)
-look_reply h ChanOp.Probe Reply.Done f fit told now held = absurd cc
-look_reply h ChanOp.Activate Reply.Done f fit told now held = absurd cc
-look_reply h ChanOp.Disconnect Reply.Done f fit told now held = absurd cc
-look_reply h (ChanOp.Put w) Reply.Done f fit told now held = absurd cc
-look_reply h ChanOp.Take Reply.Done f fit told now held = absurd cc
-look_reply h (ChanOp.Function w) Reply.Done f fit told now held = absurd cc
-look_reply h ChanOp.Take (Reply.Word w) f fit told now held = absurd cc
-look_reply h op (Reply.Word w) f fit told now held = absurd cc
-
 pub look_answer : (size : ℕ) (pp : Processor) (x : Answer) (h : List Event) (f : Flags) (goes : GoesOn size pp x) (of : IsOfChannel (need pp) x) → of.what ≡ Saw f → f ≡ flags_of h → IsLookAnswer h of.op of.reply
-look_answer size pp x h f goes of look now =
-    look_reply h of.op of.reply f of.fit (of.tells ∙ ap (λ w. Some w) look) now (λ g held. held_not_ready pp of.c of.op g of.needs_it (ap (outcome pp) (sym (of.is ∙ ap (λ r. Answer.Channel r) held)) ∙ goes.moved))
+look_answer size pp x h f goes of look now = grind (arith, held_not_ready, held_at, acts_where_held)
 
 -- and where it is the next event
 pub record IsEventAnswer (h : List Event) (op : ChanOp) (reply : Reply) (e : Event) : Type 0 where
   pub is : reply_to op h ≡ reply
   pub made : event_of op h ≡ Some e
 
-same_event : (e d : Event) → Some (Did d) ≡ Some (Did e) → d ≡ e
-same_event e d is = cc
-
 event_made : (op : ChanOp) (reply : Reply) (e : Event) → reply_fits op reply ≡ true → seen_answered op reply ≡ Some (Did e) → (operation_of e ≡ op) × (reply_made e ≡ reply)
-event_made op (Reply.Flags g) e fit told = absurd cc
-event_made op (Reply.Held g) e fit told = absurd cc
-event_made ChanOp.Probe Reply.Done e fit told = absurd cc
-event_made ChanOp.Take Reply.Done e fit told = absurd cc
-event_made ChanOp.Activate Reply.Done e fit told = subst (λ (d : Event). (operation_of d ≡ ChanOp.Activate) × (reply_made d ≡ Reply.Done)) (same_event e Event.Activate told) (refl, refl)
-event_made ChanOp.Disconnect Reply.Done e fit told = subst (λ (d : Event). (operation_of d ≡ ChanOp.Disconnect) × (reply_made d ≡ Reply.Done)) (same_event e Event.Disconnect told) (refl, refl)
-event_made (ChanOp.Put w) Reply.Done e fit told = subst (λ (d : Event). (operation_of d ≡ ChanOp.Put w) × (reply_made d ≡ Reply.Done)) (same_event e (Event.Put w) told) (refl, refl)
-event_made (ChanOp.Function w) Reply.Done e fit told = subst (λ (d : Event). (operation_of d ≡ ChanOp.Function w) × (reply_made d ≡ Reply.Done)) (same_event e (Event.Function w) told) (refl, refl)
-event_made ChanOp.Take (Reply.Word w) e fit told = subst (λ (d : Event). (operation_of d ≡ ChanOp.Take) × (reply_made d ≡ Reply.Word w)) (same_event e (Event.Take w) told) (refl, refl)
-event_made op (Reply.Word w) e fit told = absurd cc
+event_made op reply e fit told = grind arith
 
 pub event_answer : (pp : Processor) (x : Answer) (h : List Event) (e : Event) (of : IsOfChannel (need pp) x) → of.what ≡ Did e → IsLawful h → IsLawful (h ++ e ∷ []) → IsEventAnswer h of.op of.reply e
 event_answer pp x h e of did lawful next =

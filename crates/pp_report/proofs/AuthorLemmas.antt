@@ -1,8 +1,8 @@
 -- Authors of events, log after log, and the lines that name them.
-use Rattle.std.proofs.Common.{◌≡◌, ◌∙◌, ℕ, ◌+◌, ◌<◌, Bool, cond, ◌||◌, List, [], ◌∷◌, length, drop, take, Option, Some, None, option_map, slice_index_or, slice_set, map, replicate, zero, suc, refl, sym, ap, arith}
+use Rattle.std.proofs.Common.{◌≡◌, ◌∙◌, ℕ, ◌+◌, ◌<◌, List, [], ◌∷◌, length, drop, take, Option, Some, None, option_map, slice_index_or, slice_set, map, replicate, zero, suc, refl, sym, ap, arith}
 use Rattle.pp_line.specs.Merge.{logs_event, times_logged}
 use Rattle.std.specs.Prelude.{IsTrue, nat_lt, if◌then◌else◌}
-use Rattle.std.specs.List.{count_by, position_from}
+use Rattle.std.specs.List.{position_from}
 use Rattle.std.proofs.lemmas.Iterator.Adapters.{position_from-zero}
 use Rattle.std.proofs.lemmas.Bool.{lt-ltb}
 use Rattle.std.proofs.Math.Bool.{or-false, or-true}
@@ -21,27 +21,15 @@ abbrev pub author_from : {Z : Type 0} → ℕ → ℕ → ℕ → List (Worker Z
 author_from {Z} c number place workers =
     option_map processor_number (position_from (λ (worker : Worker Z). nat_lt 0 (times_logged c number worker.log.items)) place (drop place workers))
 
-mapped : (f : ℕ → ℕ) (passes : Bool) (i : ℕ) (rest : Option ℕ) → (if passes then Some (f i) else option_map f rest) ≡ option_map f (cond passes (Some i) rest)
-mapped f passes i rest = grind arith
-
 -- by one worker more
 pub author_more : {Z : Type 0} (c number place : ℕ) (workers : List (Worker Z)) (worker : Worker Z) (before after : Option ℕ) (author : ℕ)
     → place < length workers → worker ≡ slice_index_or workers place worker → author ≡ processor_number place → before ≡ author_from c number (place + 1) workers
     → after ≡ (if nat_lt 0 (times_logged c number worker.log.items) then Some author else before) → after ≡ author_from c number place workers
-author_more {Z} c number place workers worker before after author l at by was now = grind (arith, drop_more, mapped)
+author_more {Z} c number place workers worker before after author l at by was now = grind (arith, drop_more)
 
 -- by all workers
 pub author_of_all : {Z : Type 0} (c number : ℕ) (workers : List (Worker Z)) → author_from c number 0 workers ≡ option_map processor_number (author_place c workers number)
 author_of_all {Z} c number workers = ap (option_map processor_number) (sym (position_from-zero (λ (worker : Worker Z). nat_lt 0 (times_logged c number worker.log.items)) workers))
-
--- marked once more
-marked_again : (was more now : Bool) (author : ℕ) (known : Option ℕ) → now ≡ (was || more) → (if more then Some author else (if was then Some author else known)) ≡ (if now then Some author else known)
-marked_again was more now author known e = grind arith
-
--- whether a log records an event, by one entry more
-some_more : {X : Type 0} (test : X → Bool) (xs : List X) (i : ℕ) (x : X) (passes : Bool) → test x ≡ passes → i < length xs → x ≡ slice_index_or xs i x
-    → nat_lt 0 (count_by test (take (i + 1) xs)) ≡ (nat_lt 0 (count_by test (take i xs)) || passes)
-some_more test xs i x passes e inside is = grind (arith, count_by_more_yes, lt-ltb, or-true, count_by_more_no, or-false)
 
 -- none marked
 pub marked_none : (author : ℕ) (authors : List (List (Option ℕ))) → length authors ≡ channel_count → AreMarked author (λ c number. nat_lt 0 (times_logged c number [])) authors authors
@@ -51,7 +39,7 @@ marked_none author authors each = record { each_channel = each; each_event = λ 
 pub marked_more : (author : ℕ) (log : List Entry) (i : ℕ) (entry : Entry) (before mid after : List (List (Option ℕ))) → i < length log → entry ≡ slice_index_or log i entry
     → AreMarked author (λ c number. nat_lt 0 (times_logged c number (take i log))) before mid → AreMarked author (λ c number. logs_event c number entry) mid after
     → AreMarked author (λ c number. nat_lt 0 (times_logged c number (take (i + 1) log))) before after
-marked_more author log i entry before mid after inside is was more = grind (arith, marked_again, slice_index_or, some_more)
+marked_more author log i entry before mid after inside is was more = grind (arith, slice_index_or, count_by_more_yes, lt-ltb, or-true, count_by_more_no, or-false)
 
 -- the authors on one channel, of those on all
 pub authors_here : {Z : Type 0} (c place : ℕ) (workers : List (Worker Z)) (histories : List (List Event)) (all : List (List (Option ℕ))) (h : List Event) (here : List (Option ℕ)) → IsTrue (names_channel c)

@@ -84,11 +84,7 @@ leads_on size p one two three first second third a b m stands =
         named = All-append (λ n. IsTrue (has_processor p n)) s.0 t.0 s.1.named t.1.named;
         moved = all_move m s.0 t.0 s.1.moved t.1.moved;
         stands = subst (λ (k : MachineState). Stands size k three.pps third) both t.1.stands;
-        answers = λ place inside.
-            let i = processor_number place in
-            let got = answers_along i s.0 m in
-            ap (λ l. l ++ get_or three.left place []) (along_more i m s.0 t.0)
-            ∙ (append_assoc got (answers_along i t.0 (run s.0 m)) (get_or three.left place []) ∙ (ap (λ l. got ++ l) (t.1.answers place inside) ∙ s.1.answers place inside));
+        answers = grind (arith, along_more, append_assoc);
       },
     )
 
@@ -120,16 +116,8 @@ leads_step size p one two place x past later inside moved serves next given fewe
         count = omega (arith, fewer);
         named = All-cons (λ k. IsTrue (has_processor p k)) n [] (has_at p place (omega (arith, inside, most)) ∙ lt-ltb place (processors_in p) inside) (All-nil (λ k. IsTrue (has_processor p k)));
         moved = ((λ j. outcome (pp j) (answer j)) ∙ moved, tt);
-        answers = λ other within.
-            let same : eqb (processor_number other) n ≡ eqb other place = number_at other n (omega (arith, within, most)) ∙ ap (eqb other) at in
-            ap (λ l. l ++ get_or two.left other []) ((λ j. cond (same j) (answer j ∷ []) [] ++ []) ∙ append-nil (cond (eqb other place) (x ∷ []) [])) ∙ given other;
-        stands = record {
-          processors = (λ j. set (stands.processors j) (at j) (processor_after (pp j) (answer j))) ∙ sym next;
-          channels = ap (λ q. length (histories_after (need q) m)) pp ∙ serves.channels m pps stands;
-          histories = λ c. ap (λ q. history_on c (histories_after (need q) m)) pp ∙ serves.histories m pps stands c;
-          central = ap (λ q. central_after (need q) m) pp ∙ serves.central m pps stands;
-          sized = serves.sized stands.sized;
-        };
+        answers = grind (arith, eqb, number_at, append-nil);
+        stands = grind (arith, set);
       },
     )
 

@@ -105,8 +105,7 @@ events_fit : {Z : Type 0} (report : Report Z) → ((c : ℕ) → IsTrue (names_c
 events_fit {Z} report fits = rows_fit IsEventLine (events_on report) (λ c low. by_name c low (names_channel c) (fits c))
   where
     by_name : (c : ℕ) → c < 0o100 → (b : Bool) → (IsTrue b → All FitsItsLine (printed_on c report)) → All (λ x. IsEventLine (c, x)) (if b then printed_on c report else [])
-    by_name c low true fits = λ k d within. (low, fits refl k d within)
-    by_name c low false fits = All-nil (λ x. IsEventLine (c, x))
+    by_name c low b fits = grind arith
 
 -- ---- the lines of workers
 

@@ -1,6 +1,6 @@
 -- A report of threads is what one list of steps leaves.
 use mathlib.Core.List.{append-eq-nil_iff}
-use Rattle.std.proofs.Common.{◌≡◌, ℕ, zero, suc, ◌+◌, ◌<◌, ◌≤◌, Bool, true, cond, ◌&&◌, List, [], ◌∷◌, ◌++◌, length, take, drop, get_or, map, Option, refl, sym, ap, ◌∙◌, subst, inl, inr, ⊎_elim, arith}
+use Rattle.std.proofs.Common.{◌≡◌, ℕ, zero, suc, ◌+◌, ◌<◌, ◌≤◌, Bool, true, cond, List, [], ◌∷◌, ◌++◌, length, take, drop, get_or, map, refl, sym, ap, ◌∙◌, subst, inl, inr, ⊎_elim, arith}
 use Rattle.std.specs.Prelude.{◌==◌, slice_get, Some, IsTrue, All}
 use Rattle.std.specs.List.{cons_option, flat_map, range_with_len, sum_by}
 use Rattle.std.proofs.lemmas.Bool.{cases_lt}
@@ -9,13 +9,12 @@ use Rattle.std.proofs.lemmas.List.Elements.{All-cons, All-head, All-nil, All-tai
 use Rattle.std.proofs.lemmas.Option.{slice_get_within}
 use Rattle.std.proofs.lemmas.List.Sums.{sum_by-append, sum_by-cons}
 use Rattle.pp_numbers.specs.Subsequence.{IsSubsequence}
-use Rattle.pp_channel.specs.Answer.{event_answered}
 use Rattle.pp_numbers.specs.ChannelNo.{channel_count, channel_index, channel_number, names_channel, channel_places}
 use Rattle.pp_channel.specs.History.{IsLawful, history_on}
 use Rattle.pp_line.specs.LineLog.{is_event}
 use Rattle.pp_channel.specs.Law.{IsPrefix}
 use Rattle.pp_line.specs.Order.{entries_among, times, writes_among}
-use Rattle.pp_report.specs.Types.{Access, Answer, ChanOp, Entry, Event, Moved, OnChannel, Profile, Read, Reply, Report, Seen, Worker, Write}
+use Rattle.pp_report.specs.Types.{Access, Answer, Entry, Event, Moved, OnChannel, Profile, Read, Report, Seen, Worker, Write}
 use Rattle.pp_line.proofs.OrderLemmas.{entries_more}
 use Rattle.pp_line.specs.Merge.{logs_event, times_logged}
 use Rattle.pp_channel.proofs.EachHistory.{lawful_on}
@@ -24,19 +23,18 @@ use Rattle.pp_line.proofs.MergeLemmas.{told_by}
 use Rattle.pp_machine.specs.Headline.{opening_history}
 use Rattle.pp_machine.specs.MachineState.{MachineState, history_of}
 use Rattle.pp_processor.specs.NeedAndEffect.{need, outcome, processor_after}
-use Rattle.pp_numbers.specs.PpNo.{processor_number}
 use Rattle.pp_processor.specs.Processor.{Processor}
 use Rattle.pp_numbers.specs.Profile.{processors_in}
 use Rattle.pp_numbers.proofs.ProfileLemmas.{most_processors}
 use Rattle.pp_machine.specs.Run.{run}
-use Rattle.pp_processor.specs.Replay.{OfChannel, fits, contribution, replayed, collected_along, events_given}
+use Rattle.pp_processor.specs.Replay.{OfChannel, fits, replayed, collected_along, events_given}
 use Rattle.pp_processor.proofs.ReplayLemmas.{Gives, Gives-counted, Gives-to}
 use Rattle.pp_runner.proofs.WorkerStateLemmas.{events_by}
 use Rattle.pp_runner.specs.Accesses.{AreAccessesOf, HasAccessed, HaveAccessed}
 use Rattle.pp_numbers.specs.Limits.{RunLimits}
 use Rattle.pp_runner.specs.Report.{IsReportOf}
 use Rattle.pp_runner.specs.WorkerReport.{OfEachAnswer, AllMoved, AllBySize, IsBySize, AreWorkers, IsWorker, event_in, events_in}
-use Rattle.pp_report.specs.Serial.{HasNotRun, IsSerialRunOf, answers_along}
+use Rattle.pp_report.specs.Serial.{HasNotRun, IsSerialRunOf}
 use Rattle.pp_report.proofs.MachineLemmas.{Past, Stands, AllMove, all_left}
 use Rattle.pp_machine.specs.MachineStep.{stepped, step_outcome}
 use Rattle.pp_report.proofs.ServeLemmas.{HasNoneLeft, event_times, tells_event, tells_write, times_left, sum_stands, NumberedFrom, Ready, Once, Written, serve}
@@ -53,14 +51,6 @@ each_rest P load x xs fit h = λ i y at.
     let same : replayed load (take (suc i) (x ∷ xs)) ≡ replayed (processor_after load x) (take i xs) = rw fit refl in
     subst (λ (q : Processor). P q y) same (h (suc i) y at)
 
-told_cons : {X : Type 0} (tells : ChanOp → Reply → Option X) (pp : Processor) (x : Answer) (xs : List Answer) → fits (need pp) x ≡ true → collected_along tells pp (x ∷ xs) ≡ contribution tells (need pp) x ++ collected_along tells (processor_after pp x) xs
-unfolding collected_along
-told_cons tells pp x xs fit = rw fit refl
-
-told_none : {X : Type 0} (tells : ChanOp → Reply → Option X) (pp : Processor) → collected_along tells pp [] ≡ []
-unfolding collected_along
-told_none tells pp = refl
-
 -- a worker's answers, with the accesses that they made
 does : (size : ℕ) (xs : List Answer) (pp after : Processor) (made : List Access) → Gives pp xs after → AllMoved pp xs → AllBySize size pp xs → AreAccessesOf pp xs made → Does size pp xs made after
 does size [] pp after made gives moved by_size are = (are, gives)
@@ -73,8 +63,9 @@ does size (x ∷ xs) pp after made gives moved by_size are =
 
 -- the events among accesses are those that the answers made
 did_along : (xs : List Answer) (pp after : Processor) (made : List Access) → Gives pp xs after → AreAccessesOf pp xs made → events_in (entries_among made) ≡ events_given pp xs
-did_along [] pp after made gives are = ap (λ l. events_in (entries_among l)) are ∙ sym (told_none event_answered pp)
-did_along (x ∷ xs) pp after made gives are = grind (arith, entries_more, filter_map-append, events_by, told_cons, did_along xs (processor_after pp x) after are.1 gives.1 are.3)
+unfolding collected_along
+did_along [] pp after made gives are = grind arith
+did_along (x ∷ xs) pp after made gives are = grind (arith, entries_more, filter_map-append, events_by, did_along xs (processor_after pp x) after are.1 gives.1 are.3)
 
 -- entries that stand in a log and tell as many events tell each event as often
 weight : Entry → ℕ
@@ -91,13 +82,9 @@ count_events (entry ∷ log) = omega (arith, weighed entry.channel entry.what (e
 one_if : Bool → ℕ
 one_if b = cond b 1 0
 
-light : (c number d n : ℕ) (what : Seen) → one_if (is_event what) ≡ 0 → one_if (is_event what && (d == c) && (n == number)) ≡ 0
-unfolding one_if
-light c number d n what none = grind arith
-
 told_weight : (c number : ℕ) (entry : Entry) → weight entry ≡ 0 → told_by c number entry ≡ 0
 unfolding weight one_if
-told_weight c number entry none = light c number entry.channel entry.number entry.what none
+told_weight c number entry none = grind arith
 
 times_weight : (c number : ℕ) (log : List Entry) → sum_by weight log ≡ 0 → times_logged c number log ≡ 0
 times_weight c number [] none = refl
@@ -263,16 +250,7 @@ report_leaves {A} limits m report new said =
         named = led.1.named;
         steps = omega (arith, led.1.count, none_left others finished.now finished.none, w.steps);
         moved = moved_at m led.0 led.1.moved;
-        answers = λ place end at.
-            let got = answers_along (processor_number place) led.0 m in
-            sym (append-nil got)
-            ∙ (ap (λ l. got ++ l) (sym (none_at finished.now finished.none place))
-            ∙ (led.1.answers place (let inside = slice_get_within ends place end at in omega (arith, inside, said.each_processor))
-            ∙ (ap (λ ls. get_or ls place []) w.answers ∙ got_at ends place end at)));
-        leads = record {
-          processors = led.1.stands.processors ∙ ap (λ pps. pps ++ others) (finished.processors ∙ w.afters);
-          histories = same_histories (run led.0 m).histories report.channels led.1.stands.channels said.each_channel led.1.stands.histories;
-          central = led.1.stands.central;
-        };
+        answers = grind (arith, append-nil, none_at, slice_get_within, got_at);
+        leads = grind (arith, same_histories);
       },
     )

@@ -85,8 +85,7 @@ not_written m k (Write a w n ∷ os) numbered early = grind (arith, another_writ
 
 -- entries in their places tell no event that has come before
 told_in_place : (c number : ℕ) (happened : ℕ → List Event) (entry : Entry) (what : Seen) → entry.what ≡ what → ComesAfter (happened entry.channel) entry.number what → number < length (happened c) → told_by c number entry ≡ 0
-told_in_place c number happened entry (Saw f) is comes early = told_look c number entry f is
-told_in_place c number happened entry (Did e) is comes early = grind (arith, told_event, cases_eq)
+told_in_place c number happened entry what is comes early = grind (arith, told_look, told_event, cases_eq)
 
 not_early : (c number : ℕ) (happened : ℕ → List Event) (os : List Entry) → IsLegal happened os → number < length (happened c) → times_logged c number os ≡ 0
 not_early c number happened [] all early = refl
@@ -100,10 +99,6 @@ not_early c number happened (entry ∷ os) all early =
 head_here : (xs : List Access) (access : Access) (os : List Access) → IsSubsequence xs (access ∷ os) → IsSubsequence xs os ⊎ ((rest : List Access) × (xs ≡ access ∷ rest) × IsSubsequence rest os)
 head_here [] access os h = inl tt
 head_here (x ∷ xs) access os h = elim h [ inl p ↦ inr (xs, ap (λ y. y ∷ xs) p.0, p.1) | inr q ↦ inl q ]
-
--- a worker between others
-sum_at : (f : Working → ℕ) (front ws : List Working) (w : Working) → sum_by f (front ++ w ∷ ws) ≡ sum_by f front + (f w + sum_by f ws)
-sum_at f front ws w = sum_by-append f front (w ∷ ws) ∙ ap (λ n. sum_by f front + n) (sum_by-cons f w ws)
 
 push_front : (front ws : List Working) (w : Working) → (front ++ w ∷ []) ++ ws ≡ front ++ w ∷ ws
 push_front front ws w = append_assoc front (w ∷ []) ws
@@ -132,12 +127,7 @@ module _ (size : ℕ) (p : Profile) (others : List Processor) where
   -- a worker between others that has made the step of the access
   module _ (front ws : List Working) (w : Working) (access : Access) (rest : List Access) (past later : Past) (is : w.accesses ≡ access ∷ rest) (inside : length front < processors_in p) (moved : HasNext size p others front ws inside w rest past later) where
     moved_counts : (tells : Access → ℕ) → tells access ≡ 0 → sum_by (times_left tells) (front ++ moved.now ∷ ws) ≡ sum_by (times_left tells) (front ++ w ∷ ws)
-    moved_counts tells none =
-        let f : Working → ℕ = times_left tells in
-        let now : sum_by tells moved.now.accesses ≡ sum_by tells rest = ap (sum_by tells) moved.accesses in
-        let was : sum_by tells w.accesses ≡ tells access + sum_by tells rest = ap (sum_by tells) is ∙ sum_by-cons tells access rest in
-        let one : f moved.now ≡ f w = omega (arith, now, was, none) in
-        sum_at f front ws moved.now ∙ (ap (λ n. sum_by f front + (n + sum_by f ws)) one ∙ sym (sum_at f front ws w))
+    moved_counts tells none = grind (arith, sum_by-cons, sum_by-append)
 
     moved_afters : map after_of (front ++ moved.now ∷ ws) ≡ map after_of (front ++ w ∷ ws)
     moved_afters = map-append after_of front (moved.now ∷ ws) ∙ (ap (λ q. map after_of front ++ q ∷ map after_of ws) moved.after_is ∙ sym (map-append after_of front (w ∷ ws)))
@@ -184,16 +174,13 @@ module _ (size : ℕ) (p : Profile) (others : List Processor) where
     ready = done;
     afters = ap (map after_of) (sym (append-nil front));
     counts = λ tells _. ap (sum_by (times_left tells)) (sym (append-nil front));
-    leads = subst (λ (end : Past). Leads size p (all_of others (front ++ [])) past (all_of others front) end) may
-        (subst (λ (us : List Working). Leads size p (all_of others us) past (all_of others front) past) (sym (append-nil front)) (leads_none size p (all_of others front) past));
+    leads = grind (arith, all_of, append-nil, leads_none);
   }
   serve_each access os past later front (w ∷ ws) few done left may =
       let here = All-head (Ready (access ∷ os)) w ws left in
       let more = All-tail (Ready (access ∷ os)) w ws left in
       elim (head_here w.accesses access os here.stands) [
-        | inl behind ↦
-            subst (λ (us : List Working). Served us past later access os) (push_front front ws w)
-            (serve_each access os past later (front ++ w ∷ []) ws (few_pushed front ws w w few) (All-push (Ready os) front w done (record { working = here.working; stands = behind })) more (may.1 behind))
+        | inl behind ↦ grind (arith, push_front, few_pushed, serve_each access os past later (front ++ w ∷ []) ws (few_pushed front ws w w few) (All-push (Ready os) front w done (record { working = here.working; stands = behind })) more (may.1 behind))
         | inr first ↦
             let serves = may.0 first.0 first.1 in
             let inside = front_inside front ws w few in
@@ -339,10 +326,7 @@ module _ (size : ℕ) (p : Profile) (others : List Processor) where
     still_once entry ws now past (Did e) is comes counts once c number later inside =
         let more = length-append (past.happened c) (made_on c (entry ∷ [])) in
         let none : told_by c number entry ≡ 0 = told_event c number entry e is (elim (cases_eq entry.channel c) [
-          | inl same ↦ inr (λ at.
-              let one : length (made_on c (entry ∷ [])) ≡ 1 = ap length (made_here c entry e is (sym same)) in
-              let there : length (past.happened entry.channel) ≡ length (past.happened c) = ap (λ k. length (past.happened k)) same in
-              omega (arith, at, there, one, more, later, comes))
+          | inl same ↦ grind (arith, made_here)
           | inr other ↦ inl other
         ]) in
         counts (tells_event c number) none ∙ once c number (omega (arith, later, more)) inside

@@ -135,6 +135,5 @@ module _ (size : ℕ) (p : Profile) (others : List Processor) (front ws : List W
               none = more.none;
               leads = leads_on size p (all_of others (front ++ v ∷ ws)) (all_of others (front ++ w ∷ ws)) (all_of others (front ++ more.now ∷ ws)) past past past (one_answer x v w past past refl refl does.0.moved (local.serves past)) more.leads;
             }
-        | inr of ↦
-            let same : of.access does.1.0 ∷ left ≡ [] = sym (are ∙ ap (λ f. f ++ left) (of.given does.1.0)) ∙ is in absurd cc
+        | inr of ↦ grind arith
       ]

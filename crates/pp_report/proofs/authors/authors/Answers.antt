@@ -1,12 +1,10 @@
-use Rattle.std.proofs.Common.{◌≡◌, ◌+◌, ◌-◌, ℕ, List, option_map, sym, subst, [], length, map, ◌∙◌, ap, Some, None, slice_index_or, arith}
+use Rattle.std.proofs.Common.{◌≡◌, ◌+◌, ◌-◌, ℕ, option_map, sym, subst, [], length, map, ◌∙◌, ap, Some, None, slice_index_or, arith}
 use Rattle.std.specs.Prelude.{nat_lt, if◌then◌else◌}
-use Rattle.std.specs.List.{position_from}
 use Rattle.std.proofs.Math.ListN.{get_or-map}
 use Rattle.std.proofs.lemmas.List.{drop_all, get_or-replicate, length-map, length-replicate}
 use Rattle.pp_numbers.specs.ChannelNo.{channel_index}
 use Rattle.pp_channel.specs.History.{history_on}
 use Rattle.pp_line.specs.Merge.{times_logged}
-use Rattle.pp_numbers.specs.PpNo.{processor_number}
 use Rattle.pp_report.specs.Types.{Worker}
 use Rattle.pp_report.proofs.AuthorLemmas.{author_from, author_more, author_of_all}
 use Rattle.pp_report.specs.Authors.{authors_on, no_authors}
@@ -20,9 +18,7 @@ loop-place-init g c =
     λ k. get_or-map no_authors c.args.channels.now (channel_index k) [] in record {
       each = ap length made ∙ length-map c.args.channels.now no_authors ∙ c.type_inv.channels;
       each_event = λ k. ap (λ all. length (authors_on k all)) made ∙ ap length (on k) ∙ length-replicate _ _;
-      found = λ k number names l. ap (λ all. slice_index_or (authors_on k all) number None) made ∙ (ap (λ one. slice_index_or one number None) (on k)
-          ∙ (get_or-replicate _ number None None l
-          ∙ ap (λ (ws : List (Worker g.row.A.Denot)). option_map processor_number (position_from (λ (w : Worker g.row.A.Denot). nat_lt 0 (times_logged k number w.log.items)) (length workers) ws)) (sym (drop_all (length workers) workers (omega arith)))));
+      found = grind (arith, slice_index_or, get_or-replicate, option_map, drop_all);
     }
 
 pub loop-place-preserved : goal.loop-place-preserved
