@@ -17,7 +17,7 @@ use Rattle.pp_deck.specs.DeckMeaning.{LoadedDeck, deck_meaning, with_dead_start}
 use Rattle.pp_numbers.proofs.TableLemmas.{length-tabulate, get_or-tabulate}
 use Rattle.pp_deck.specs.InUse.{is_in_use, in_use}
 use Rattle.pp_listing.specs.Dump.{in_processor, busy_processor, busy_channel, all_busy, first_busy, left_of, deck_to_go_on, dump, after, order_comment, GoesOnFrom}
-use Rattle.pp_listing.specs.Listing.{listing, central_word_line, dead_start_line, named_section, section_lines}
+use Rattle.pp_listing.specs.Listing.{listing, central_word_line, dead_start_line, named_section}
 use Rattle.pp_listing.proofs.GoingOnLemmas.{none_given}
 use Rattle.pp_listing.proofs.ListingLemmas.{IsSet, comment_loads, dead_of, listing_loads, names_of, none_opened, numbered, processors_of}
 use Rattle.pp_text.specs.OrderText.{order_text}
@@ -143,11 +143,8 @@ dump_law_of profile text deck steps order meant between short =
 
 -- ---- the lines, printed from the machine as it stands
 
-lines_left : (n : ℕ) (state : PpState) (pp : Processor) → pp.state ≡ state → section_lines n pp ≡ section_lines n (left_of state pp)
-lines_left n state pp e = grind arith
-
 section_left : (deck : LoadedDeck) (n : ℕ) → named_section (deck_to_go_on deck).named deck.machine n ≡ named_section (deck_to_go_on deck).named (deck_to_go_on deck).machine n
-section_left deck n = grind (arith, lines_left, left_there)
+section_left deck n = grind (arith, left_there)
 
 flat_same : (f g : ℕ → List ListedLine) (ns : List ℕ) → ((n : ℕ) → f n ≡ g n) → flat_map f ns ≡ flat_map g ns
 flat_same f g [] same = refl

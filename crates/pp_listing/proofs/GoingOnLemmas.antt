@@ -1,19 +1,16 @@
 -- The first of what a function gives for the numbers of a table.
-use Rattle.std.proofs.Common.{◌≡◌, ℕ, ◌+◌, ◌-◌, ◌<◌, ◌≤◌, subst, Bool, cond, List, [], ◌∷◌, ◌++◌, Option, Some, None, map, refl, sym, ap, ◌∙◌, arith}
+use Rattle.std.proofs.Common.{◌≡◌, ℕ, ◌+◌, ◌-◌, ◌<◌, ◌≤◌, subst, List, [], ◌∷◌, ◌++◌, Option, Some, None, map, refl, sym, ap, ◌∙◌, arith}
 use Rattle.std.specs.Prelude.{All, filter_map, slice_get}
 use Rattle.std.specs.List.{cons_option, range_with_len}
-use Rattle.std.proofs.lemmas.List.Elements.{All-cons, All-nil}
+use Rattle.std.proofs.lemmas.List.Elements.{All-nil}
 use Rattle.pp_numbers.specs.ChannelNo.{all_channels}
-use Rattle.pp_channel.specs.Answer.{flags_of}
-use Rattle.pp_channel.specs.declared.{event.Event.Event, flags.Flags.Flags}
-use Rattle.pp_machine.specs.MachineState.{MachineState, history_of, processor_of}
+use Rattle.pp_machine.specs.MachineState.{MachineState, processor_of}
 use Rattle.pp_processor.specs.Processor.{Processor}
 use Rattle.pp_numbers.specs.PpNo.{all_processors}
 use Rattle.pp_numbers.specs.Tables.{tabulate}
 use Rattle.pp_numbers.proofs.TableLemmas.{length-tabulate, get_or-tabulate}
 use Rattle.pp_listing.specs.Dump.{all_busy, busy_processor, busy_channel, in_processor}
 use Rattle.pp_listing.specs.declared.going_on.Busy.{Busy}
-use Rattle.pp_listing.specs.declared.going_on.Busy.TheVariants.{Active}
 
 module _ {A : Type 0} (f : ℕ → Option A) (number : ℕ → ℕ) where
   -- what it gives for the numbers of the places from k on
@@ -50,11 +47,7 @@ no_first (x ∷ xs) ys e = absurd (cc)
 
 none_of : {A : Type 0} (f : ℕ → Option A) (xs : List ℕ) → filter_map f xs ≡ [] → All (λ x. f x ≡ None) xs
 none_of f [] e = All-nil (λ x. f x ≡ None)
-none_of {A} f (x ∷ xs) e = by (none_of f xs) (f x) refl e
-  where
-    by : (filter_map f xs ≡ [] → All (λ x. f x ≡ None) xs) → (o : Option A) → f x ≡ o → cons_option o (filter_map f xs) ≡ [] → All (λ x. f x ≡ None) (x ∷ xs)
-    by more None is none = All-cons (λ x. f x ≡ None) x xs is (more none)
-    by more (Some y) is none = absurd (cc)
+none_of {A} f (x ∷ xs) e = grind (arith, none_of f xs)
 
 -- where nothing is given first, nothing is given for any number
 pub none_given : {A : Type 0} (f : ℕ → Option A) (number : ℕ → ℕ) (k count : ℕ) (others : List A) → k < count → slice_get (filter_map f (tabulate count number) ++ others) 0 ≡ None → f (number k) ≡ None
@@ -73,9 +66,6 @@ first_behind (z ∷ xs) ys e = absurd (cc)
 -- what a processor or a channel gives, from its parts
 pub in_processor_there : (m : MachineState) (k n : ℕ) (pp : Processor) (o : Option Busy) → n ≡ k → pp ≡ processor_of n m → o ≡ in_processor n pp.block pp.state → busy_processor m k ≡ o
 in_processor_there m k n pp o is its gives = grind arith
-
-pub on_channel_there : (m : MachineState) (k c : ℕ) (h : List Event) (flags : Flags) (b : Bool) → c ≡ k → h ≡ history_of c m → flags ≡ flags_of h → flags.active ≡ b → busy_channel m k ≡ cond b (Some (Active c)) None
-on_channel_there m k c h flags b at its are is = grind arith
 
 pub first_of_processors : (m : MachineState) (going_on : Busy) → Some going_on ≡ slice_get (filter_map (busy_processor m) all_processors) 0 → Some going_on ≡ slice_get (all_busy m) 0
 unfolding all_busy

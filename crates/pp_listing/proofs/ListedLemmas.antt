@@ -1,6 +1,6 @@
 -- The lines of a listing, taken all together, load the deck that they list.
 use mathlib.Core.Bool.{and-false, and-true, or-false}
-use Rattle.std.proofs.Common.{◌≡◌, ℕ, ◌<◌, ◌⊎◌, Bool, true, false, cond, eqb, List, [], ◌∷◌, ◌++◌, length, get_or, Option, None, refl, sym, ap, ◌∙◌, map, subst, arith, append-nil}
+use Rattle.std.proofs.Common.{◌≡◌, ℕ, ◌<◌, Bool, true, false, cond, eqb, List, [], ◌∷◌, ◌++◌, length, get_or, Option, None, refl, sym, ap, ◌∙◌, map, subst, arith, append-nil}
 use Rattle.std.specs.Prelude.{filter_map, unwrap_or, ◌&&◌, ◌||◌, IsTrue}
 use Rattle.std.specs.List.{AllByRecursion, flat_map, list_any, range_with_len}
 use Rattle.std.proofs.lemmas.Bool.{eqb-true, cases_order}
@@ -13,7 +13,7 @@ use Rattle.pp_numbers.specs.declared.profile.Profile.{Profile}
 use Rattle.pp_deck.specs.DeckLine.{Line, central_size, central_words, section, start, words, dead_start}
 use Rattle.pp_numbers.specs.Tables.{tabulate}
 use Rattle.pp_numbers.proofs.TableLemmas.{tabulate_is}
-use Rattle.pp_deck.specs.DeckLoad.{word_among, word_for, central_word_for, start_in, lines_for, is_named, is_dead_start, asks_dead_start, memory_of, central_loaded, processor_with, processor_loaded}
+use Rattle.pp_deck.specs.DeckLoad.{word_for, central_word_for, start_in, lines_for, is_named, is_dead_start, asks_dead_start, memory_of, central_loaded, processor_with, processor_loaded}
 use Rattle.pp_numbers.proofs.GrowingLists.{last_of}
 use Rattle.pp_deck.proofs.SectionLemmas.{names}
 use Rattle.pp_deck.proofs.SectionLinesLemmas.{KeepsCurrent, all_append, all_flat, all_unset, flat_only, filter_flat, any_flat, any_none, section_if, held_by_sections, named_by_sections, unset_by_sections}
@@ -74,11 +74,8 @@ lines_of_parts central dead named pp = head_of central dead ++ flat_map (section
 word_if : (a w : ℕ) (b : Bool) → eqb w 0 ≡ b → unwrap_or (last_of (filter_map (central_word_for a) (cond b [] (central_words a (w ∷ []) ∷ [])))) 0 ≡ w
 word_if a w b e = grind (arith, eqb-true, last_of, among_at)
 
-other_word : (n m w : ℕ) → (n ≡ m → ⊥) → (n ≡ m) ⊎ ((n < m) ⊎ (m < n)) → word_among m (w ∷ []) n ≡ None
-other_word n m w ne h4 = grind (arith, among_before, among_at)
-
 no_word_if : (n m w : ℕ) (b : Bool) → (n ≡ m → ⊥) → filter_map (central_word_for n) (cond b [] (central_words m (w ∷ []) ∷ [])) ≡ []
-no_word_if n m w b ne = grind (arith, other_word, cases_order)
+no_word_if n m w b ne = grind (arith, cases_order, among_before, among_at)
 
 head_words : (central : List ℕ) (dead : Bool) (a : ℕ) → filter_map (central_word_for a) (head_of central dead) ≡ filter_map (central_word_for a) (central_lines central)
 head_words central dead a = grind (arith, filter_map-append, append-nil)
@@ -109,15 +106,8 @@ head_keeps central dead =
 untrue : (p : Line → Bool) (lines : List Line) → AllByRecursion (λ line. p line ≡ false) lines → list_any p lines ≡ false
 untrue p lines h = list_any_none p lines (All-from_recursion (λ line. p line ≡ false) lines h)
 
--- whether a line of the head has a trait that only a line DEAD may have
-line_without : (p : Line → Bool) (a w : ℕ) (b : Bool) → p (central_words a (w ∷ [])) ≡ false → list_any p (cond b [] (central_words a (w ∷ []) ∷ [])) ≡ false
-line_without p a w b e = grind arith
-
-dead_if : (p : Line → Bool) (dead : Bool) → list_any p (dead_line dead) ≡ (dead && p dead_start)
-dead_if p dead = grind (arith, or-false)
-
 any_head : (p : Line → Bool) (central : List ℕ) (dead : Bool) → p (central_size (length central)) ≡ false → ((a w : ℕ) → p (central_words a (w ∷ [])) ≡ false) → list_any p (head_of central dead) ≡ (dead && p dead_start)
-any_head p central dead no_size no_word = grind (arith, list_any-append, central_lines, dead_line, any_flat, word_line, any_none, line_without, dead_if)
+any_head p central dead no_size no_word = grind (arith, list_any-append, central_lines, dead_line, any_flat, word_line, any_none)
 
 -- ---- names
 
@@ -171,11 +161,8 @@ body_start : (pp : Processor) → filter_map start_in (body_of pp) ≡ filter_ma
 body_start pp = search (body_parts, filter_map-append, all_unset, instructions_all)
 
 module _ (profile : Profile) where
-  starts_of : (memory : List ℕ) (o : Option (ℕ × ℕ)) → (let pp = processor_with profile memory o in last_of (filter_map start_in (map says (start_line pp.state pp.p pp.a))) ≡ o)
-  starts_of memory o = grind arith
-
   pub start_held : (central : List ℕ) (dead : Bool) (named : ℕ → Bool) (pp : ℕ → Processor) (n : ℕ) → n < number_count → named n ≡ true → (memory : List ℕ) (o : Option (ℕ × ℕ)) → pp n ≡ processor_with profile memory o → last_of (filter_map start_in (lines_for n (lines_of_parts central dead named pp))) ≡ o
-  start_held central dead named pp n lt here memory o is = grind (arith, last_of, own_held, body_of, body_start, starts_of)
+  start_held central dead named pp n lt here memory o is = grind (arith, last_of, own_held, body_of, body_start)
 
   -- ---- the whole
 

@@ -11,7 +11,7 @@ use Rattle.std.proofs.lemmas.List.Splits.{slice_split_at}
 use Rattle.std.proofs.lemmas.List.Quantifiers.{position-Some}
 use Rattle.pp_numbers.specs.declared.profile.Profile.{Profile}
 use Rattle.pp_deck.specs.DeckLine.{Line, line_after, central_size, central_words, section, start, words, dead_start, keyword_of, words_in, central_line, central_words_line, section_line, start_line, words_line, ◌>>=◌, nothing}
-use Rattle.pp_deck.specs.DeckMeaning.{LoadedDeck, deck_meaning, meaning_of_lines, is_foreign, size_of, loaded, with_dead_start, stated_size}
+use Rattle.pp_deck.specs.DeckMeaning.{LoadedDeck, deck_meaning, meaning_of_lines, is_foreign, size_of, loaded, with_dead_start}
 use Rattle.pp_deck.specs.Reading.{Progress, before_lines, after_line, after_lines, deck_so_far, progress_of}
 use Rattle.pp_deck.proofs.SectionLemmas.{after_line_parts, current_after}
 use Rattle.pp_deck.specs.DeckText.{lines_of, fields_in, is_line_feed}
@@ -26,9 +26,7 @@ use Rattle.pp_numbers.specs.Profile.{has_processor}
 use Rattle.pp_numbers.proofs.ProfileLemmas.{processor_named}
 use Rattle.pp_word.specs.Numeral.{octal, short_octal}
 use Rattle.pp_numbers.proofs.PpNoLemmas.{processor_fits}
-use Rattle.pp_text.specs.InstructionText.{instruction_text, index_text, operands_text}
-use Rattle.pp_word.specs.Opcode.{row_of}
-use Rattle.pp_word.specs.declared.opcode.Opcode.{Opcode}
+use Rattle.pp_text.specs.InstructionText.{instruction_text, operands_text}
 use Rattle.pp_word.specs.declared.operands.Operands.{Operands}
 use Rattle.pp_word.specs.declared.operands.Operands.TheVariants.{IndexedPlace}
 
@@ -44,22 +42,16 @@ no_line_feed text plain = λ k d lt.
     let least = plain_least (get_or text k d) (AllPass-from_list_all is_plain text plain k d lt) in
     ne_eqb (get_or text k d) 10 (λ e. absurd (omega (arith, least, e)))
 
-mnemonic_plain : (op : Opcode) → IsPlain ((row_of op).mnemonic)
-mnemonic_plain op = grind arith
-
 pub plain_if : (b : Bool) (xs ys : List ℕ) → IsPlain xs → IsPlain ys → IsPlain (cond b xs ys)
 plain_if b xs ys h k = grind arith
 
-index_plain : (d : ℕ) → IsPlain (index_text d)
-index_plain d = plain_if (eqb d 0) [] (codes "," ++ octal 2 d) refl (plain_append (codes ",") (octal 2 d) refl (octal_plain 2 d))
-
 operands_plain : (operands : Operands) (place d m : ℕ) → IsPlain (operands_text operands place d m)
-operands_plain IndexedPlace place d m = search (plain_append, octal_plain, index_plain)
+operands_plain IndexedPlace place d m = search (plain_append, octal_plain, plain_if, eqb)
 operands_plain operands place d m = search (plain_append, octal_plain)
 
 pub instruction_plain : (place word m : ℕ) → IsPlain (instruction_text place word m)
 unfolding instruction_text
-instruction_plain place word m = grind (arith, plain_append, mnemonic_plain, operands_plain)
+instruction_plain place word m = grind (arith, plain_append, operands_plain)
 
 -- ---- the fields of a line
 
@@ -97,10 +89,7 @@ line_joined : (line : Line) → line_text line ≡ join_with_byte 32 (fields_sai
 line_joined (central_words a ws) = ap (λ more. codes "CM " ++ more) (words_joined 20 (short_octal 6 a) ws)
 line_joined (words x ws) = words_joined 4 (octal 4 x) ws
 line_joined nothing = refl
-line_joined (central_size n) = refl
-line_joined (section n) = refl
-line_joined (start p a) = refl
-line_joined dead_start = refl
+line_joined b = refl
 
 pub bare_plain : (line : Line) → IsPlain (line_text line)
 bare_plain line = ap (list_all is_plain) (line_joined line) ∙ plain_joined (fields_said line) (are_fields line)
@@ -128,18 +117,14 @@ words_read most place end (w ∷ ws) some below le past =
 
 -- ---- lines
 
-central_line_read : (n : ℕ) → 1 ≤ n → n ≤ 0o400000 → central_line (short_octal 6 n ∷ []) ≡ Ok (central_size n)
-unfolding central_line
-central_line_read n least most = grind (arith, short_field, le-leb)
-
 pub central_size_read : (profile : Profile) (size n : ℕ) (s : Bool) → 1 ≤ n → n ≤ 0o400000 → line_after profile size false s (fields_said (central_size n)) ≡ Ok (central_size n)
-unfolding line_after keyword_of
-central_size_read profile size n s least most = central_line_read n least most
+unfolding line_after keyword_of central_line
+central_size_read profile size n s least most = grind (arith, short_field, le-leb)
 
 -- the size that a first such line says
 pub size_read : (n : ℕ) (lines : List (List (List ℕ))) → 1 ≤ n → n ≤ 0o400000 → size_of (fields_said (central_size n) ∷ lines) ≡ n
-unfolding size_of keyword_of
-size_read n lines least most = ap stated_size (central_line_read n least most)
+unfolding size_of keyword_of central_line
+size_read n lines least most = grind (arith, short_field, le-leb)
 
 size_behind : (lines : List (List (List ℕ))) → size_of ([] ∷ lines) ≡ size_of lines
 unfolding size_of
@@ -153,21 +138,12 @@ pub section_read : (profile : Profile) (size n : ℕ) (b s : Bool) → IsTrue (h
 unfolding line_after keyword_of section_line
 section_read profile size n b s has = grind (arith, short_field, processor_fits, processor_named)
 
-pub dead_start_read : (profile : Profile) (size : ℕ) (b s : Bool) → line_after profile size b s (fields_said dead_start) ≡ Ok dead_start
-unfolding line_after keyword_of
-dead_start_read profile size b s = refl
-
 pub start_read : (profile : Profile) (size p a : ℕ) (b : Bool) → p < 8 ^ 4 → a < 8 ^ 6 → line_after profile size b true (fields_said (start p a)) ≡ Ok (start p a)
 unfolding line_after keyword_of start_line
 start_read profile size p a b small low =
     let p_is = octal_field 4 p (omega arith) small in
     let a_is = octal_field 6 a (omega arith) low in
     rw (p_is, a_is) refl
-
--- a line that begins with a digit says words
-digit_first : (profile : Profile) (size : ℕ) (b : Bool) (c : ℕ) (field : List ℕ) (fields : List (List ℕ)) → 48 ≤ c → c ≤ 57 → line_after profile size b true ((c ∷ field) ∷ fields) ≡ words_line (c ∷ field) fields
-unfolding line_after keyword_of
-digit_first profile size b c field fields least most = grind (arith, ne_eqb, le-leb)
 
 words_line_is : (x : ℕ) (ws : List ℕ) → x < 8 ^ 4 → All (λ w. w < 8 ^ 4) ws → x + length ws ≤ place_count → words_line (octal 4 x) (map (octal 4) ws) ≡ Ok (words x ws)
 unfolding words_line
@@ -177,26 +153,16 @@ words_line_is x ws below small le =
     rw (x_is, words_are) refl
 
 pub words_line_read : (profile : Profile) (size x : ℕ) (ws : List ℕ) (b : Bool) → x < 8 ^ 4 → All (λ w. w < 8 ^ 4) ws → x + length ws ≤ place_count → line_after profile size b true (fields_said (words x ws)) ≡ Ok (words x ws)
-words_line_read profile size x ws b below small le = digit_first profile size b _ _ (map (octal 4) ws) (omega arith) (omega arith) ∙ words_line_is x ws below small le
+unfolding line_after keyword_of
+words_line_read profile size x ws b below small le = grind (arith, words_line_is, ne_eqb, le-leb)
 
 -- ---- the lines of the text
 
-line_first : (line : ListedLine) (rest : List ℕ) → lines_of (text_line line ++ rest) ≡ fields_said (says line) ∷ lines_of rest
-unfolding lines_of
-line_first line rest = grind (arith, append_assoc, slice_split_at, no_line_feed, fields_of_plain, line_plain, line_fields)
-
-comment_first : (text rest : List ℕ) → list_all is_plain (42 ∷ text) ≡ true → lines_of (42 ∷ text ++ 10 ∷ rest) ≡ [] ∷ lines_of rest
-unfolding lines_of
-comment_first text rest plain = grind (arith, slice_split_at, no_line_feed, fields_of_plain, fields_comment)
-
-no_text : lines_of [] ≡ [] ∷ []
-unfolding lines_of
-no_text = ap (λ (fields : List (List ℕ)). fields ∷ []) no_fields
-
 -- each line, and behind the last line feed a line without fields
 pub lines_printed : (lines : List ListedLine) → lines_of (flat_map text_line lines) ≡ map fields_said (map says lines) ++ [] ∷ []
-lines_printed [] = no_text
-lines_printed (line ∷ lines) = line_first line (flat_map text_line lines) ∙ ap (λ (more : List (List (List ℕ))). fields_said (says line) ∷ more) (lines_printed lines)
+unfolding lines_of
+lines_printed [] = grind (arith, no_fields)
+lines_printed (line ∷ lines) = grind (arith, lines_printed lines, append_assoc, slice_split_at, no_line_feed, fields_of_plain, line_plain, line_fields)
 
 -- ---- no byte is foreign
 
@@ -208,13 +174,10 @@ unfolding is_ascii
 plain_ascii [] e = refl
 plain_ascii (c ∷ text) e = grind (arith, plain_most, and_parts, is_plain, and_from, is_ascii, le-leb, plain_ascii text (and_parts (is_plain c) (list_all is_plain text) e).1)
 
-ascii_append : (xs ys : List ℕ) → list_all is_ascii xs ≡ true → list_all is_ascii ys ≡ true → list_all is_ascii (xs ++ ys) ≡ true
-ascii_append xs ys h k = list_all-append is_ascii xs ys ∙ and_from (list_all is_ascii xs) (list_all is_ascii ys) h k
-
 text_ascii : (lines : List ListedLine) → list_all is_ascii (flat_map text_line lines) ≡ true
 unfolding is_ascii
 text_ascii [] = refl
-text_ascii (line ∷ lines) = grind (arith, ascii_append, plain_ascii, line_plain, text_ascii lines)
+text_ascii (line ∷ lines) = grind (arith, plain_ascii, line_plain, text_ascii lines, list_all-append, is_ascii, and_from)
 
 none_foreign : (text : List ℕ) → list_all is_ascii text ≡ true → (o : Option ℕ) → position is_foreign text ≡ o → position is_foreign text ≡ None
 unfolding is_ascii
@@ -232,13 +195,9 @@ meaning_of_text profile text lines ascii are le = grind (arith, cond-false, le-l
 pub meaning_printed : (profile : Profile) (lines : List ListedLine) → length (flat_map text_line lines) ≤ 1048576 → deck_meaning profile (flat_map text_line lines) ≡ meaning_of_lines profile (map fields_said (map says lines) ++ [] ∷ [])
 meaning_printed profile lines le = meaning_of_text profile (flat_map text_line lines) _ (text_ascii lines) (lines_printed lines) le
 
--- behind a comment
-comment_ascii : (text : List ℕ) (lines : List ListedLine) → list_all is_plain (42 ∷ text) ≡ true → list_all is_ascii (42 ∷ text ++ 10 ∷ flat_map text_line lines) ≡ true
-unfolding is_ascii
-comment_ascii text lines plain = ascii_append (42 ∷ text) (10 ∷ flat_map text_line lines) (plain_ascii (42 ∷ text) plain) (ascii_append (10 ∷ []) (flat_map text_line lines) refl (text_ascii lines))
-
 pub meaning_behind : (profile : Profile) (text : List ℕ) (lines : List ListedLine) → list_all is_plain (42 ∷ text) ≡ true → length (42 ∷ text ++ 10 ∷ flat_map text_line lines) ≤ 1048576 → deck_meaning profile (42 ∷ text ++ 10 ∷ flat_map text_line lines) ≡ meaning_of_lines profile ([] ∷ (map fields_said (map says lines) ++ [] ∷ []))
-meaning_behind profile text lines plain le = meaning_of_text profile (42 ∷ text ++ 10 ∷ flat_map text_line lines) _ (comment_ascii text lines plain) (comment_first text (flat_map text_line lines) plain ∙ ap (λ (more : List (List (List ℕ))). [] ∷ more) (lines_printed lines)) le
+unfolding lines_of is_ascii
+meaning_behind profile text lines plain le = grind (arith, meaning_of_text, lines_printed, slice_split_at, no_line_feed, fields_of_plain, fields_comment, plain_ascii, text_ascii, list_all-append, is_ascii, and_from)
 
 -- ---- reading the lines
 

@@ -1,6 +1,6 @@
 -- The listing of a deck, read as a deck.
 use Rattle.std.proofs.Common.{◌≡◌, ℕ, zero, suc, ◌+◌, ◌^◌, ◌<◌, ◌≤◌, Bool, true, false, cond, eqb, List, [], ◌∷◌, ◌++◌, length, get_or, map, Option, Some, None, Ok, refl, sym, ap, subst, ◌∙◌, arith}
-use Rattle.std.specs.Prelude.{IsTrue, ◌&&◌, not, is_some, filter_map}
+use Rattle.std.specs.Prelude.{IsTrue, ◌&&◌, is_some, filter_map}
 use Rattle.std.specs.List.{AllByRecursion, flat_map, list_all, list_any, range_with_len}
 use Rattle.std.proofs.lemmas.Bool.{and_left, and_parts, both_ways, false_from_ne_true}
 use Rattle.std.proofs.lemmas.List.{map-append}
@@ -19,10 +19,10 @@ use Rattle.pp_numbers.proofs.GrowingLists.{last_of}
 use Rattle.std.proofs.lemmas.Grind.{get_or_default_zero}
 use Rattle.pp_numbers.specs.Profile.{has_processor}
 use Rattle.pp_numbers.specs.declared.profile.Profile.{Profile}
-use Rattle.pp_deck.specs.DeckLine.{Line, central_size, central_words, section, dead_start}
+use Rattle.pp_deck.specs.DeckLine.{Line, central_size, central_words, section, dead_start, line_after, keyword_of}
 use Rattle.pp_deck.specs.DeckLoad.{processor_loaded, processor_with, central_loaded, asks_dead_start, lines_for, memory_of, start_in}
 use Rattle.pp_deck.specs.DeckLoad as load
-use Rattle.pp_deck.specs.DeckMeaning.{LoadedDeck, set_by, with_dead_start, loaded, deck_meaning, meaning_of_lines}
+use Rattle.pp_deck.specs.DeckMeaning.{LoadedDeck, set_by, with_dead_start, loaded, deck_meaning}
 use Rattle.pp_deck.proofs.SectionLemmas.{current_after}
 use Rattle.pp_deck.proofs.DeadStartLemmas as dead
 use Rattle.pp_deck.proofs.LawLemmas as law
@@ -35,7 +35,7 @@ use Rattle.pp_listing.specs.ListedLine.{ListedLine, bare, says, text_line}
 use Rattle.pp_listing.specs.Listing.{ReadsBackAs, central_word_line, dead_start_line, listed, listing, named_section, section_lines}
 use Rattle.pp_listing.proofs.InstructionLemmas.{IsReadInSection, instructions_read, start_all}
 use Rattle.pp_listing.proofs.ListedLemmas.{all_of_body, each_of_body, body_of, word_line, central_lines, dead_line, lines_of_parts, asked_held, central_held, central_is, memory_held, memory_is, memory_with, named_held, processor_is, start_held, number_count, processor_counts, sections_by_number}
-use Rattle.pp_listing.proofs.ListedLineLemmas.{fields_said, central_words_read, section_read, dead_start_read, start_read, IsReady, meaning_behind, meaning_printed, read_behind, read_lines}
+use Rattle.pp_listing.proofs.ListedLineLemmas.{fields_said, central_words_read, section_read, start_read, IsReady, meaning_behind, meaning_printed, read_behind, read_lines}
 
 -- ---- the lines are read as they are
 
@@ -70,7 +70,8 @@ module _ (profile : Profile) where
       (λ b. central_words_read profile size a (w ∷ []) b (is_some c) (omega (arith, most, lt)) (All-cons (λ v. v < 8 ^ 20) w [] small (All-nil (λ v. v < 8 ^ 20))) (omega (arith, lt)), tt)
 
   ready_dead : (size : ℕ) (dead : Bool) (c : Option ℕ) → IsReady profile size c (dead_line dead)
-  ready_dead size dead c = grind (arith, dead_start_read)
+  unfolding line_after keyword_of
+  ready_dead size dead c = grind arith
 
   parts_ready : (central : List ℕ) (dead : Bool) (named : ℕ → Bool) (pp : ℕ → Processor) → IsCentral central → ((n : ℕ) → named n ≡ true → IsTrue (has_processor profile n)) → ((n : ℕ) → named n ≡ true → IsProcessor (pp n))
       → IsReady profile (length central) None ((central_lines central ++ dead_line dead) ++ flat_map (section_if named (λ n. body_of (pp n))) (range_with_len 0 number_count))
@@ -134,9 +135,6 @@ listing_is deck = refl
 pub numbered : (deck : LoadedDeck) (n : ℕ) → names_of deck n ≡ true → IsTrue (names_processor n)
 unfolding names_of
 numbered deck n e = (and_parts (names_processor n) (get_or deck.named (processor_index n) false) e).0
-
-awake_if : (asked number named : Bool) → named ≡ true → (asked && (number && not named)) ≡ false
-awake_if asked number named e = grind arith
 
 pub none_opened : (deck : LoadedDeck) → ((c : ℕ) → IsTrue (names_channel c) → is_opened c deck.machine ≡ false) → dead_of deck ≡ false
 unfolding dead_of all_channels
@@ -209,23 +207,15 @@ module _ (profile : Profile) (deck set : LoadedDeck) (h : IsSet profile deck set
   unfolding parts
   loads_again = grind (arith, parts, asked_held, processors_again, central_again, names_again)
 
-  reads_again : meaning_of_lines profile (map fields_said parts ++ [] ∷ []) ≡ Ok (loaded profile (length deck.machine.central) parts)
-  unfolding parts
-  reads_again = grind (arith, read_lines, central_lines, dead_line, section_if, body_of, number_count, parts_ready)
-
-  reads_behind : meaning_of_lines profile ([] ∷ (map fields_said parts ++ [] ∷ [])) ≡ Ok (loaded profile (length deck.machine.central) parts)
-  unfolding parts
-  reads_behind = grind (arith, read_behind, central_lines, dead_line, section_if, body_of, number_count, parts_ready)
-
   -- the listing of the deck is a deck
   pub listing_loads : length (listing deck) ≤ 1048576 → deck_meaning profile (listing deck) ≡ Ok (with_dead_start (dead_of deck) set)
   unfolding parts
-  listing_loads short = grind (arith, listing_is, meaning_printed, fields_said, said, reads_again, loads_again)
+  listing_loads short = grind (arith, listing_is, meaning_printed, fields_said, said, loads_again, read_lines, central_lines, dead_line, section_if, body_of, number_count, parts_ready)
 
   -- and behind a comment
   pub comment_loads : (text : List ℕ) → list_all is_plain (42 ∷ text) ≡ true → length (42 ∷ text ++ 10 ∷ listing deck) ≤ 1048576 → deck_meaning profile (42 ∷ text ++ 10 ∷ listing deck) ≡ Ok (with_dead_start (dead_of deck) set)
   unfolding parts
-  comment_loads text plain short = grind (arith, listing_is, meaning_behind, fields_said, said, reads_behind, loads_again)
+  comment_loads text plain short = grind (arith, listing_is, meaning_behind, fields_said, said, loads_again, read_behind, central_lines, dead_line, section_if, body_of, number_count, parts_ready)
 
 -- ---- each deck that a text means
 
@@ -240,7 +230,7 @@ module _ (profile : Profile) where
   -- a processor that is named does not wait
   set_here : (size : ℕ) (lines : List Line) (n : ℕ) → IsTrue (names_processor n) → names_of (loaded profile size lines) n ≡ true → processors_of (loaded profile size lines) n ≡ processor_of n (set_by profile size lines).machine
   unfolding processors_of
-  set_here size lines n named is = grind (arith, dead.processor_is, awake_if, name_here)
+  set_here size lines n named is = grind (arith, dead.processor_is, name_here)
 
   -- what holds of all that lines load whose numbers are in range
   abbrev pub HoldsOfLoaded : (LoadedDeck → Type 0) → Type 0

@@ -52,8 +52,7 @@ prefix first p steps turns within = elim (cases_lt (length first) steps) [
       ap (λ n. take n (first ++ barrel p turns)) here ∙ take_past first (barrel p turns) k
       ∙ ap (λ ns. first ++ ns) (take_barrel p turns k (omega (arith, within, more)) ∙ sym (take_barrel p steps k (omega arith)))
       ∙ sym (take_past first (barrel p steps) k) ∙ ap (λ n. take n (first ++ barrel p steps)) (sym here)
-  | inr few ↦
-      take-append-le steps first (barrel p turns) (omega (arith, few)) ∙ sym (take-append-le steps first (barrel p steps) (omega (arith, few)))
+  | inr few ↦ grind (arith, take-append-le)
 ]
 
 -- a run goes on in the order of what is left
@@ -91,21 +90,6 @@ pub all_left : (first : List ℕ) (p : Profile) (steps made turns : ℕ) → mad
     → drop made first ++ drop turns (barrel p (turns_of_rounds p turns)) ≡ order_left first p steps
 unfolding order_left
 all_left first p steps made turns is left = elim (cases_lt (length first) steps) [
-  | inl more ↦
-      let here : made ≡ length first = omega (arith, is, more) in
-      let begun : turns ≡ steps - length first = omega (arith, left, here) in
-      let all : steps ≡ length first + turns = omega (arith, begun, more) in
-      ap (λ ns. ns ++ drop turns (barrel p (turns_of_rounds p turns))) (drop_all made first (omega (arith, here)))
-      ∙ sym (drop_past first (barrel p (turns_of_rounds p turns)) turns)
-      ∙ ap (λ k. drop k (first ++ barrel p (turns_of_rounds p turns))) (sym all)
-      ∙ ap (λ k. drop steps (first ++ barrel p (turns_of_rounds p k))) begun
-  | inr few ↦
-      let here : made ≡ steps = omega (arith, is, few) in
-      let none : turns ≡ 0 = omega (arith, left, here) in
-      let begun : steps - length first ≡ 0 = omega (arith, few) in
-      ap (λ k. drop made first ++ drop k (barrel p (turns_of_rounds p k))) none
-      ∙ ap (λ k. drop made first ++ barrel p k) (no_round p) ∙ append-nil (drop made first)
-      ∙ ap (λ k. drop k first) here ∙ ap (λ ns. drop steps ns) (sym (append-nil first))
-      ∙ ap (λ k. drop steps (first ++ barrel p k)) (sym (no_round p))
-      ∙ ap (λ k. drop steps (first ++ barrel p (turns_of_rounds p k))) (sym begun)
+  | inl more ↦ grind (arith, drop_all, drop_past)
+  | inr few ↦ grind (arith, no_round, append-nil)
 ]

@@ -1,6 +1,6 @@
 -- What stays of a loaded deck through all steps of its machine.
-use Rattle.std.proofs.Common.{◌≡◌, ◌≢◌, ℕ, ◌^◌, ◌<◌, ◌≤◌, ◌||◌, Bool, true, false, cond, List, [], ◌∷◌, ◌++◌, length, get_or-set_other, Option, None, Some, Ok, refl, sym, ap, subst, ◌∙◌, arith, inl, inr, append-nil}
-use Rattle.std.specs.Prelude.{All, IsTrue, filter_map, unwrap_or, slice_set, if◌then◌else◌}
+use Rattle.std.proofs.Common.{◌≡◌, ℕ, ◌^◌, ◌<◌, ◌≤◌, Bool, true, false, cond, List, [], ◌∷◌, ◌++◌, length, get_or-set_other, Option, None, Some, Ok, refl, sym, ap, subst, ◌∙◌, arith, inl, inr, append-nil}
+use Rattle.std.specs.Prelude.{All, IsTrue, filter_map, unwrap_or, slice_set}
 use Rattle.std.specs.Option.{option_to_list}
 use Rattle.std.proofs.lemmas.Bool.{cases_lt, or_parts}
 use Rattle.std.proofs.lemmas.Bool.Decides.{eqb_tells}
@@ -9,28 +9,26 @@ use Rattle.std.proofs.lemmas.List.Elements.{All-nil, All-push, All-replicate, Al
 use Rattle.pp_numbers.proofs.GrowingLists.{last_of}
 use Rattle.pp_numbers.specs.Tables.{tabulate}
 use Rattle.pp_numbers.proofs.TableLemmas.{length-tabulate}
-use Rattle.pp_channel.specs.Answer.{event_of, event_with, flags_of, flags_shown, history_after, ready_at, reply_by}
+use Rattle.pp_channel.specs.Answer.{event_of, event_with, history_after}
 use Rattle.pp_channel.proofs.AnswerLemmas.{shows_flags}
 use Rattle.pp_numbers.specs.ChannelNo.{channel_count, channel_index, channel_number}
-use Rattle.pp_channel.specs.History.{HasTwelveBitWord, HasTwelveBitWords, waiting}
-use Rattle.pp_channel.specs.declared.{chan_op.ChanOp.ChanOp, channel_state.ChannelState.ChannelState, event.Event.Event, flags.Flags.Flags, reply.Reply.Reply}
-use Rattle.pp_channel.specs.declared.chan_op.ChanOp.TheVariants as operations
+use Rattle.pp_channel.specs.History.{HasTwelveBitWord, HasTwelveBitWords}
+use Rattle.pp_channel.specs.declared.{chan_op.ChanOp.ChanOp, event.Event.Event}
 use Rattle.pp_channel.specs.declared.event.Event.TheVariants as events
 use Rattle.pp_channel.proofs.EachHistory.{bits_on}
 use Rattle.pp_channel.proofs.HistoryLemmas.{waiting_small}
 use Rattle.pp_machine.specs.Central.{IsCentral}
 use Rattle.pp_machine.specs.DeadStart.{waits, processor_started, history_started, processors_started, histories_started}
-use Rattle.pp_machine.specs.MachineState.{MachineState, processor_of, history_of, is_opened}
+use Rattle.pp_machine.specs.MachineState.{MachineState, processor_of, history_of}
 use Rattle.pp_machine.specs.MachineStep.{answer_to, histories_after, central_after, stepped}
-use Rattle.pp_processor.specs.NeedAndEffect.{need, next_step, processor_after, if_running}
+use Rattle.pp_processor.specs.NeedAndEffect.{need, processor_after}
 use Rattle.pp_processor.specs.PpMemory.{empty_memory}
 use Rattle.pp_numbers.specs.PpNo.{names_processor, processor_count, processor_index, processor_number, processor_places}
 use Rattle.pp_processor.specs.Processor.{Processor, IsAtRest, new_processor, no_processor, waiting_on}
 use Rattle.pp_numbers.proofs.PpNoLemmas.{channel_of_processor}
 use Rattle.pp_numbers.specs.Profile.{has_processor}
-use Rattle.pp_processor.specs.Step.{Step, need_of}
-use Rattle.pp_processor.specs.declared.{need.Need.Need, pp_state.PpState.PpState}
-use Rattle.pp_processor.specs.declared.need.Need.TheVariants.{Nothing, Channel, Write}
+use Rattle.pp_processor.specs.declared.{need.Need.Need}
+use Rattle.pp_processor.specs.declared.need.Need.TheVariants.{Channel, Write}
 use Rattle.pp_numbers.specs.declared.profile.Profile.{Profile}
 use Rattle.pp_numbers.specs.declared.profile.Profile.TheVariants.{Ten}
 use Rattle.pp_machine.proofs.MachineStepLemmas.{stepped_at_rest}
@@ -48,7 +46,7 @@ use Rattle.std.specs.List.{AllByRecursion}
 use Rattle.pp_listing.specs.Dump.{after}
 use Rattle.pp_listing.proofs.ListedLemmas.{processor_is}
 use Rattle.pp_listing.proofs.ListingLemmas.{each_deck, name_here, names_of, unnamed_new}
-use Rattle.pp_listing.proofs.StepLemmas.{IsOf, IsSmallAnswer, IsSmallOperation, IsSmallReply, StepKeeps, each_set, kept_after, next_keeps}
+use Rattle.pp_listing.proofs.StepLemmas.{IsOf, IsSmallAnswer, IsSmallOperation, each_set, kept_after, next_keeps}
 
 -- a deck for a machine of this profile that may have run
 pub record IsDeckFor (profile : Profile) (deck : LoadedDeck) : Type 0 where
@@ -74,15 +72,9 @@ IsSmallNeed (Channel c op) = IsSmallOperation op
 IsSmallNeed (Write a w) = w < 2 ^ 60
 IsSmallNeed x = Unit {0}
 
-step_need : (profile : Profile) (step : Step) → StepKeeps profile step → IsSmallNeed (need_of step)
-step_need profile step k = grind arith
-
-if_running_small : (profile : Profile) (state : PpState) (pp : Processor) → IsOf profile pp → IsSmallNeed (if_running state (need_of (next_step pp)) Nothing)
-if_running_small profile state pp h = grind (arith, step_need, next_keeps)
-
 need_small : (profile : Profile) (pp : Processor) → IsOf profile pp → IsSmallNeed (need pp)
 unfolding need
-need_small profile pp h = if_running_small profile pp.state pp h
+need_small profile pp h = grind (arith, next_keeps)
 
 -- the word of an event, if there is one
 abbrev OnEvent : Option Event → Type 0
@@ -90,24 +82,10 @@ OnEvent None = Unit {0}
 OnEvent (Some e) = HasTwelveBitWord e
 
 made_small : (op : ChanOp) (word : Option ℕ) → IsSmallOperation op → unwrap_or word 0 < 2 ^ 12 → OnEvent (event_with op word)
-made_small (operations.Put w) word small low = small
-made_small (operations.Function w) word small low = small
-made_small operations.Take None small low = tt
-made_small operations.Take (Some w) small low = low
-made_small op word small low = tt
-
-if_made : (b : Bool) (o : Option Event) → OnEvent o → OnEvent (if b then o else None)
-if_made true o h = h
-if_made false o h = tt
+made_small op word small low = grind arith
 
 event_small : (op : ChanOp) (h : List Event) → IsSmallOperation op → HasTwelveBitWords h → OnEvent (event_of op h)
-event_small op h small words = if_made (ready_at op (flags_of h)) (event_with op (waiting h)) (made_small op (waiting h) small (waiting_small h words))
-
-shown_small : (reply : Reply) (f : Flags) → flags_shown reply ≡ Some f → IsSmallReply reply
-shown_small reply f shows = grind arith
-
-reply_small : (op : ChanOp) (state : ChannelState) (o : Option Event) → OnEvent o → IsSmallReply (reply_by op state o)
-reply_small op state o small = grind (arith, shown_small, shows_flags)
+event_small op h small words = grind (arith, made_small, waiting_small)
 
 grown : (h : List Event) (o : Option Event) → HasTwelveBitWords h → OnEvent o → HasTwelveBitWords (h ++ option_to_list o)
 grown h None words small = subst HasTwelveBitWords (sym (append-nil h)) words
@@ -125,7 +103,7 @@ module _ (m : MachineState) where
   central_keeps x small central = grind (arith, length-set, each_set)
 
   answer_small : (x : Need) → IsSmallNeed x → All HasTwelveBitWords m.histories → IsSmallAnswer (answer_to x m)
-  answer_small x small all = grind (arith, reply_small, event_small, bits_on)
+  answer_small x small all = grind (arith, event_small, bits_on, shows_flags)
 
 -- ---- one step
 
@@ -144,12 +122,9 @@ module _ (k : ℕ) (m : MachineState) where
     | inr past ↦ All-same (IsOf profile) _ m.processors (set_past m.processors (processor_index k) _ past) all
   ]
 
-  other_stays : (n : ℕ) → processor_index n ≢ processor_index k → processor_of n (stepped k m) ≡ processor_of n m
-  unfolding stepped
-  other_stays n apart = get_or-set_other m.processors (processor_index k) (processor_index n) (processor_after (processor_of k m) (answer_to (need (processor_of k m)) m)) no_processor apart
-
   rest_stays : (n : ℕ) → IsAtRest (processor_of n m) → processor_of n (stepped k m) ≡ processor_of n m
-  rest_stays n rests = grind (arith, eqb_tells, stepped_at_rest, other_stays)
+  unfolding stepped
+  rest_stays n rests = grind (arith, eqb_tells, stepped_at_rest, get_or-set_other)
 
 new_rests : (profile : Profile) (pp : Processor) → pp ≡ new_processor profile → IsAtRest pp
 new_rests profile pp e = λ runs. let never = sym (ap (λ (q : Processor). q.state) e) ∙ runs in absurd (cc)
@@ -225,16 +200,12 @@ module _ (profile : Profile) where
         histories = started_histories asked set (All-replicate HasTwelveBitWords channel_count [] (All-nil HasTwelveBitWord));
         central = subst IsCentral (sym (dead.stays (λ d. d.machine.central) asked set refl)) (central_in_range profile size lines least most small);
         within = λ n named used. by n named used (names_of (loaded profile size lines) n) refl;
-        unused = λ n named free.
-            let none = or_parts (names_of (loaded profile size lines) n) (is_opened n (loaded profile size lines).machine) free in
-            unused_here size lines n named (sym (name_here profile size lines n named) ∙ none.0) (sym (dead.opened_is profile size lines asked n refl (channel_of_processor n named)) ∙ none.1);
+        unused = grind (arith, or_parts, names_of, unused_here, name_here, dead.opened_is, channel_of_processor);
       }
     where
       by : (n : ℕ) → IsTrue (names_processor n) → is_in_use (loaded profile size lines) n ≡ true → (b : Bool) → names_of (loaded profile size lines) n ≡ b → IsTrue (has_processor profile n)
       by n named used true is = named_has profile lines small n (law.some_name n lines (sym (name_here profile size lines n named) ∙ is))
-      by n named used false is =
-          let opened = sym (ap (λ (b : Bool). b || is_opened n (loaded profile size lines).machine) is) ∙ used in
-          (dead.waiting profile lines n (sym (dead.opened_is profile size lines (asks_dead_start lines) n refl (channel_of_processor n named)) ∙ opened)).processor
+      by n named used false is = grind (arith, dead.waiting, dead.opened_is, channel_of_processor)
 
   -- whatever steps a deck has made
   pub deck_after : (text : List ℕ) (deck : LoadedDeck) (steps : List ℕ) → deck_meaning profile text ≡ Ok deck → IsDeckFor profile (after steps deck)

@@ -1,6 +1,6 @@
 -- A step leaves a processor the widths of its words and registers, and the profile of its machine.
-use Rattle.std.proofs.Common.{ℕ, zero, suc, ◌+◌, ◌-◌, ◌*◌, ◌%◌, ◌/◌, ◌^◌, ◌==◌, ◌<◌, ◌&&◌, not, Bool, true, false, List, [], ◌∷◌, Option, None, Some, if◌then◌else◌, slice_set, get_or, arith, ◌≡◌, ◌≤◌, length, map, zip, lit<, length-append, length-take}
-use Rattle.std.specs.Prelude.{slice_index_or, nat_lt, if◌then◌else◌, ◌&&◌}
+use Rattle.std.proofs.Common.{ℕ, zero, suc, ◌+◌, ◌-◌, ◌%◌, ◌/◌, ◌^◌, ◌==◌, ◌<◌, not, Bool, true, false, List, [], ◌∷◌, Option, None, Some, if◌then◌else◌, slice_set, get_or, arith, ◌≡◌, length, length-append, length-take}
+use Rattle.std.specs.Prelude.{slice_index_or, nat_lt, if◌then◌else◌}
 use Rattle.std.proofs.lemmas.List.{length-set, length-drop, length-map, length-replicate}
 use Rattle.std.proofs.lemmas.List.Elements.{All-from_recursion}
 use Rattle.pp_word.specs.Address.{place_after, place_count, next_place, relative_to, indexed}
@@ -12,10 +12,10 @@ use Rattle.pp_word.specs.declared.opcode.Opcode.TheVariants.{PSN, LJM, RJM, UJN,
 use Rattle.pp_channel.specs.declared.{chan_op.ChanOp.ChanOp, flags.Flags.Flags, reply.Reply.Reply}
 use Rattle.pp_channel.specs.declared.chan_op.ChanOp.TheVariants as operations
 use Rattle.pp_channel.specs.declared.reply.Reply.TheVariants as replies
-use Rattle.pp_processor.specs.Block.{stored_from, receives, central_from, held, cut_short, block_word, starts, ends, counts_down, counts_up, stores_at}
+use Rattle.pp_processor.specs.Block.{stored_from, receives, central_from, block_word, starts, ends, counts_down, counts_up, stores_at}
 use Rattle.pp_processor.specs.Effect.{goes_on, goes_to, jumps_where, branches_where, leads_to_itself, is_negative, low_of, loads, loads_word, replaces}
 use Rattle.pp_processor.specs.InstructionTable.{row, memory_operations, operand_places}
-use Rattle.pp_processor.specs.NeedAndEffect.{answered, step_of, next_step, processor_after, if_running}
+use Rattle.pp_processor.specs.NeedAndEffect.{next_step, processor_after}
 use Rattle.pp_processor.specs.Operand.{second_word, index, constant}
 use Rattle.pp_processor.specs.PpMemory.{IsMemory}
 use Rattle.pp_processor.specs.Processor.{Processor, IsProcessor, word_at}
@@ -28,44 +28,31 @@ use Rattle.pp_processor.specs.declared.pp_state.PpState.TheVariants.{Stopped, Fa
 use Rattle.std.proofs.Math.Nat.{pow-le-pow_right, pow-suc, pow-zero}
 use Rattle.std.proofs.lemmas.Slice.Zip.{length-zip}
 use Rattle.std.proofs.lemmas.Bool.{ltb-true}
-use Rattle.pp_word.specs.Bits.{number_of, bits_of, shift, complement, combination, logical_product, logical_difference, selective_clear}
+use Rattle.pp_word.specs.Bits.{number_of, shift, complement, logical_product, logical_difference, selective_clear}
 use Rattle.pp_word.proofs.BitsLemmas.{length-lowest_bits}
-
-one_more : (r power : ℕ) → r < power → 1 + 2 * r < power * 2
-one_more r power lt = omega (arith, lt)
-
-none_more : (r power : ℕ) → r < power → 0 + 2 * r < power * 2
-none_more r power lt = omega (arith, lt)
 
 number_small : (bs : List Bool) → number_of bs < 2 ^ length bs
 number_small [] = rw pow-zero (omega arith)
-number_small (true ∷ bs) = rw (pow-suc 2 (length bs)) (one_more (number_of bs) (2 ^ length bs) (number_small bs))
-number_small (false ∷ bs) = rw (pow-suc 2 (length bs)) (none_more (number_of bs) (2 ^ length bs) (number_small bs))
-
--- places of at most 18 bits
-number_fits : (bs : List Bool) → length bs ≤ 18 → number_of bs < 2 ^ 18
-number_fits bs short = omega (arith, number_small bs, pow-le-pow_right {n = 2} (lit< tt) {i = length bs} {j = 18} short)
-
-combined_small : (f : Bool → Bool → Bool) (a b : ℕ) → combination f a b < 2 ^ 18
-combined_small f a b = grind (arith, zip, number_fits, length-map, length-zip, length-lowest_bits)
+number_small (true ∷ bs) = grind (arith, pow-suc, number_small bs)
+number_small (false ∷ bs) = grind (arith, pow-suc, number_small bs)
 
 pub conjunction_small : (a b : ℕ) → logical_product a b < 2 ^ 18
-conjunction_small a b = combined_small (λ x y. x && y) a b
+conjunction_small a b = grind (arith, length-map, length-zip, length-lowest_bits, number_small, pow-le-pow_right)
 
 pub exclusive_or_small : (a b : ℕ) → logical_difference a b < 2 ^ 18
-exclusive_or_small a b = combined_small (λ x y. if x then not y else y) a b
+exclusive_or_small a b = grind (arith, length-map, length-zip, length-lowest_bits, number_small, pow-le-pow_right)
 
 pub without_small : (a b : ℕ) → selective_clear a b < 2 ^ 18
-without_small a b = combined_small (λ x y. x && not y) a b
+without_small a b = grind (arith, length-map, length-zip, length-lowest_bits, number_small, pow-le-pow_right)
 
 pub complemented_small : (a : ℕ) → complement a < 2 ^ 18
-complemented_small a = number_fits (map not (bits_of a)) (omega (arith, length-map (bits_of a) not, length-lowest_bits 18 a))
+complemented_small a = grind (arith, length-map, length-lowest_bits, number_small, pow-le-pow_right)
 
 pub one_of : (b : Bool) (x y most : ℕ) → x < most → y < most → (if b then x else y) < most
 one_of b x y most h k = grind arith
 
 pub shifted_small : (a d : ℕ) → shift a d < 2 ^ 18
-shifted_small a d = grind (arith, one_of, number_fits, length-lowest_bits, length-append, length-drop, length-take, length-replicate)
+shifted_small a d = grind (arith, one_of, length-lowest_bits, length-append, length-drop, length-take, length-replicate, number_small, pow-le-pow_right)
 
 pub sum_small : (a b : ℕ) → sum a b < 2 ^ 18
 sum_small a b = one_of _ all_ones ((a + b) % all_ones) (2 ^ 18) (omega arith) (omega arith)
@@ -159,9 +146,6 @@ module _ (profile : Profile) where
     branched : (test : Bool) → IsOf profile (branches_where test pp 2)
     branched test = either test _ _ (at_p (second_word pp) (word_small (place_after pp.p 1))) (on 2)
 
-    index_small : (d : ℕ) → index pp d < 2 ^ 12
-    index_small d = one_of (d == 0) (second_word pp) _ (2 ^ 12) (word_small (place_after pp.p 1)) (indexed_small (second_word pp) (word_at pp d) (word_small (place_after pp.p 1)) (word_small d))
-
     -- a word of 12 bits comes to a place
     put_at : (place word a p : ℕ) → word < 2 ^ 12 → a < 2 ^ 18 → p < 2 ^ 12 → IsOf profile (record pp { memory = slice_set pp.memory place word; a = a; p = p })
     put_at place word a p bits low small = with_all (slice_set pp.memory place word) a p pp.state pp.block (stored pp.memory place word h.widths.memory bits) low small
@@ -208,14 +192,11 @@ module _ (profile : Profile) where
   started : (pp : Processor) → IsOf profile pp → (count : ℕ) (kind : BlockKind) → IsOf profile (starts pp count kind)
   started pp h count kind = ended_or_on (count == 0) (stores_at pp 0 (next_place pp.p)) _ (kept_at pp h 0 (next_place pp.p) (next_small pp.p))
 
-  with_a : (pp : Processor) (a : ℕ) → IsOf profile pp → a < 2 ^ 18 → IsOf profile (record pp { a = a })
-  with_a pp a h small = with_all pp h pp.memory a pp.p pp.state pp.block h.widths.memory small h.widths.p
-
   counted_down : (pp : Processor) → IsOf profile pp → (kind : BlockKind) (place : ℕ) → IsOf profile (counts_down pp kind place)
-  counted_down pp h kind place = ended_or_on (difference pp.a 1 == 0) (record pp { a = difference pp.a 1 }) _ (with_a pp _ h (difference_small pp.a 1))
+  counted_down pp h kind place = grind (arith, ended_or_on, difference_small, with_all)
 
   counted_up : (pp : Processor) → IsOf profile pp → (left : ℕ) (kind : BlockKind) (place : ℕ) → IsOf profile (counts_up pp left kind place)
-  counted_up pp h left kind place = ended_or_on (left == 0) (record pp { a = sum pp.a 1 }) _ (with_a pp _ h (sum_small pp.a 1))
+  counted_up pp h left kind place = grind (arith, ended_or_on, sum_small, with_all)
 
   -- ---- steps
 
@@ -230,7 +211,7 @@ module _ (profile : Profile) where
 
   row_keeps : (op : Opcode) (pp : Processor) (d : ℕ) → IsOf profile pp → d < 0o100 → StepKeeps (row op pp d)
   row_keeps PSN pp d h lt = on pp h 1
-  row_keeps LJM pp d h lt = at_p pp h (index pp d) (index_small pp h d)
+  row_keeps LJM pp d h lt = grind (arith, at_p, one_of, word_small, indexed_small)
   row_keeps RJM pp d h lt = put_at pp h (index pp d) _ pp.a _ (omega arith) h.widths.a (next_small (index pp d))
   row_keeps UJN pp d h lt = either pp h (leads_to_itself d) _ _ (at_rest pp h Stopped pp.block) (at_p pp h (relative_to pp.p d) (relative_small pp.p d))
   row_keeps ZJN pp d h lt = jumped pp h (pp.a == 0) d
@@ -278,41 +259,11 @@ module _ (profile : Profile) where
   block_keeps (Output channel) place pp h = (word_small pp h place, counted_down pp h (Output channel) place)
 
   either_step : (test : Bool) (step other : Step) → StepKeeps step → StepKeeps other → StepKeeps (if test then step else other)
-  either_step true step other k l = k
-  either_step false step other k l = l
-
-  step_keeps : (block : Option Block) (pp : Processor) → IsOf profile pp → StepKeeps (step_of block pp)
-  step_keeps None pp h = grind (arith, either_step, row_keeps)
-  step_keeps (Some block) pp h = block_keeps block.kind block.place pp h
+  either_step test step other k l = grind arith
 
   pub next_keeps : (pp : Processor) → IsOf profile pp → StepKeeps (next_step pp)
-  next_keeps pp h = step_keeps pp.block pp h
-
-  cut_keeps : (kind : BlockKind) (place : ℕ) (pp : Processor) → IsOf profile pp → IsOf profile (cut_short kind place pp)
-  cut_keeps (Input channel) place pp h = ended (stores_at pp place 0) (kept_at pp h place 0 (omega arith))
-  cut_keeps (Output channel) place pp h = ended pp h
-  cut_keeps kind place pp h = h
-
-  held_keeps : (block : Option Block) (pp : Processor) (flags : Flags) → IsOf profile pp → IsOf profile (held block pp flags)
-  held_keeps None pp flags h = h
-  held_keeps (Some block) pp flags h = either pp h flags.active pp (cut_short block.kind block.place pp) h (cut_keeps block.kind block.place pp h)
-
-  answered_keeps : (step : Step) (pp : Processor) (answer : Answer) → IsOf profile pp → StepKeeps step → IsSmallAnswer answer → IsOf profile (answered step pp answer)
-  answered_keeps (local after) pp answers.Local h k small = k
-  answered_keeps (probes channel after) pp (answers.Channel (replies.Flags flags)) h k small = k flags
-  answered_keeps (takes channel after) pp (answers.Channel (replies.Word word)) h k small = k word small
-  answered_keeps (does channel op after) pp (answers.Channel replies.Done) h k small = k.1
-  answered_keeps (reads address after) pp (answers.Read (Some word)) h k small = k word
-  answered_keeps (reads address after) pp (answers.Read None) h k small = at_rest pp h (Fault 4) None
-  answered_keeps (writes address word after) pp (answers.Wrote true) h k small = k.1
-  answered_keeps (writes address word after) pp (answers.Wrote false) h k small = at_rest pp h (Fault 4) None
-  answered_keeps (takes channel after) pp (answers.Channel (replies.Held flags)) h k small = held_keeps pp.block pp flags h
-  answered_keeps (does channel op after) pp (answers.Channel (replies.Held flags)) h k small = held_keeps pp.block pp flags h
-  answered_keeps step pp answer h k small = h
-
-  if_running_keeps : (state : PpState) (pp : Processor) (answer : Answer) → IsOf profile pp → IsSmallAnswer answer → IsOf profile (if_running state (answered (next_step pp) pp answer) pp)
-  if_running_keeps state pp answer h small = grind (arith, answered_keeps, next_keeps)
+  next_keeps pp h = grind (arith, either_step, row_keeps, block_keeps)
 
   pub kept_after : (pp : Processor) (answer : Answer) → IsOf profile pp → IsSmallAnswer answer → IsOf profile (processor_after pp answer)
   unfolding processor_after
-  kept_after pp answer h small = if_running_keeps pp.state pp answer h small
+  kept_after pp answer h small = grind (arith, next_keeps, at_rest, either, ended, kept_at)

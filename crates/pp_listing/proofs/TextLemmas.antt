@@ -1,8 +1,8 @@
 -- Steps of what prints a listing.
-use Rattle.std.proofs.Common.{◌≡◌, ◌≢◌, ℕ, ◌+◌, ◌%◌, ◌<◌, ◌≤◌, Bool, true, false, List, [], ◌∷◌, ◌++◌, length, drop, get_or, eqb, ◌^◌, codes, refl, sym, ap, ◌∙◌, append_assoc, arith}
+use Rattle.std.proofs.Common.{◌≡◌, ◌≢◌, ℕ, ◌+◌, ◌%◌, ◌<◌, ◌≤◌, true, false, List, [], ◌∷◌, ◌++◌, length, drop, get_or, eqb, ◌^◌, codes, refl, sym, ap, ◌∙◌, append_assoc, arith}
 use Rattle.std.specs.Prelude.{◌&&◌, nat_lt}
 use Rattle.std.specs.List.{flat_map, range_with_len}
-use Rattle.std.proofs.lemmas.Bool.{and_parts, eq-eqb, lt-ltb, ltb-true, ne_eqb, cond-true, cond-false, cases_lt}
+use Rattle.std.proofs.lemmas.Bool.{eq-eqb, lt-ltb, ne_eqb, cond-true, cond-false, cases_lt}
 use Rattle.std.proofs.lemmas.List.{append-nil, drop_all, drop_more, length-drop}
 use Rattle.std.proofs.lemmas.List.Concat.{flat_map-append}
 use Rattle.pp_word.specs.Address.{place_count, next_place}
@@ -92,21 +92,7 @@ two_step all memory place at after word m long lt is_at is_after is_word is_m so
 -- by whether the word has a second one, at a place that there is
 pub one_line : (all : List ListedLine) (memory : List ℕ) (place at after word m : ℕ) → length memory ≡ place_count → place < place_count → at ≡ place % 2 ^ 12 → after ≡ next_place at → word ≡ get_or memory at 0 → m ≡ get_or memory after 0 → word ≢ 0
     → (is_long word && nat_lt (place + 1) place_count) ≡ false → all ≡ lines_from place memory → all ≡ one_word at word m ∷ lines_from (place + 1) memory
-one_line all memory place at after word m long lt is_at is_after is_word is_m some lone =
-    one_step all memory place at after word m long lt is_at is_after is_word is_m some (λ below. short (is_long word) (nat_lt (place + 1) place_count) (lt-ltb (place + 1) place_count below) lone)
-  where
-    short : (a b : Bool) → b ≡ true → (a && b) ≡ false → a ≡ false
-    short true true is none = absurd (cc)
-    short true false is none = absurd (cc)
-    short false b is none = refl
-
-pub two_lines : (all : List ListedLine) (memory : List ℕ) (place at after word m : ℕ) → length memory ≡ place_count → place < place_count → at ≡ place % 2 ^ 12 → after ≡ next_place at → word ≡ get_or memory at 0 → m ≡ get_or memory after 0 → word ≢ 0
-    → (is_long word && nat_lt (place + 1) place_count) ≡ true → all ≡ lines_from place memory → all ≡ two_words at word m ∷ lines_from (place + 1 + 1) memory
-two_lines all memory place at after word m long lt is_at is_after is_word is_m some two =
-    two_step all memory place at after word m long (ltb-true (place + 1) place_count (both.1)) is_at is_after is_word is_m some both.0
-  where
-    both : (is_long word ≡ true) × (nat_lt (place + 1) place_count ≡ true)
-    both = and_parts _ _ two
+one_line all memory place at after word m long lt is_at is_after is_word is_m some lone = grind (arith, one_step, lt-ltb)
 
 -- ---- the line of a central word
 

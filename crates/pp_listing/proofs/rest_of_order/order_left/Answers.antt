@@ -1,4 +1,4 @@
-use Rattle.std.proofs.Common.{◌≡◌, ◌≤◌, ◌-◌, ◌++◌, ℕ, drop, ap, sym, ◌∙◌, arith}
+use Rattle.std.proofs.Common.{◌≡◌, ◌≤◌, ◌-◌, ◌++◌, ℕ, drop, ap, ◌∙◌, arith}
 use Rattle.std.proofs.lemmas.List.{take_rest}
 use Rattle.pp_machine.specs.Run.{barrel}
 use Rattle.pp_listing.specs.RestOfOrder.{turns_of_rounds}
@@ -6,23 +6,10 @@ use Rattle.pp_listing.proofs.RestOfOrderLemmas.{all_left, none_so_far, one_more,
 use Rattle.pp_listing.proofs.rest_of_order.order_left.Goals as goal
 
 pub loop-turn-init : goal.loop-turn-init
-loop-turn-init g c =
-    let first = c.args.first.now in
-    let begins : c.from-turn.result ≡ c.args.steps - c.min-made.result = c.from-turn.ensures in
-    record {
-      on = omega (arith, begins);
-      left = c.in_ok-left.ensures.items ∙ take_rest first c.min-made.result
-          ∙ none_so_far first c.args.profile c.min-made.result (c.args.steps - c.min-made.result)
-          ∙ ap (λ (t : ℕ). drop c.min-made.result first ++ drop (c.args.steps - c.min-made.result) (barrel c.args.profile t)) (sym begins);
-    }
+loop-turn-init g c = grind (arith, take_rest, none_so_far)
 
 pub loop-turn-preserved : goal.loop-turn-preserved
-loop-turn-preserved g c =
-    let on = c.loop-turn.invariant.on in
-    record {
-      on = omega (arith, on);
-      left = one_more c.args.profile c.loop-turn.left.items c.push.new.self.items (drop c.min-made.result c.args.first.now) (c.args.steps - c.min-made.result) c.loop-turn.turn c.in_turn.result on c.loop-turn.invariant.left c.in_turn.ensures.is c.in_ok-push.ensures.items;
-    }
+loop-turn-preserved g c = grind (arith, one_more)
 
 pub returns : goal.returns
 returns g c =
