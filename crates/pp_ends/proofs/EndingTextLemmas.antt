@@ -1,5 +1,5 @@
 -- The first line of the text of an ending tells it.
-use Rattle.std.proofs.Common.{◌≡◌, ◌∙◌, ℕ, ◌^◌, ◌<◌, Bool, List, ◌++◌, Option, codes, drop, refl, sym, ap, arith, append_assoc}
+use Rattle.std.proofs.Common.{◌≡◌, ℕ, ◌^◌, ◌<◌, Bool, List, ◌++◌, Option, codes, drop, refl, ap, arith, append_assoc}
 use Rattle.pp_machine.specs.MachineState.{MachineState}
 use Rattle.pp_text.specs.PrintedText.{line_end}
 use Rattle.pp_text.proofs.Format.{Format, decimals, field, short_decimals, whole, ◌▷◌, ◌▸◌}
@@ -22,8 +22,4 @@ ending_tells one other turns more r s fits also e = grind arith
 pub text_tells_ending : (shown others : List Bool) (one other : Ending) (turns more : ℕ) (m k : MachineState) (loops also : List (Option Loop)) → FitsItsEnding one turns → FitsItsEnding other more
     → ends_text shown one turns m loops ≡ ends_text others other more k also → (one ≡ other) × (ends_turn one turns ≡ ends_turn other more)
 unfolding ends_text
-text_tells_ending shown others one other turns more m k loops also fits too e =
-    ending_tells one other turns more _ _ fits too (sym (whole_is (ending_text one turns) _ _) ∙ e ∙ whole_is (ending_text other more) _ _)
-  where
-    whole_is : (a b c : List ℕ) → ((a ++ line_end) ++ b) ++ c ≡ a ++ (line_end ++ (b ++ c))
-    whole_is a b c = simp append_assoc
+text_tells_ending shown others one other turns more m k loops also fits too e = grind (arith, ending_tells, append_assoc)

@@ -1,12 +1,11 @@
 -- How the repetitions within a run follow from its last round.
-use Rattle.std.proofs.Common.{◌≡◌, ℕ, zero, suc, ◌+◌, ◌-◌, ◌*◌, ◌/◌, ◌%◌, ◌<◌, ◌≤◌, refl, sym, ap, ◌∙◌, subst, inl, inr, arith}
+use Rattle.std.proofs.Common.{◌≡◌, ℕ, zero, suc, ◌+◌, ◌-◌, ◌*◌, ◌/◌, ◌%◌, ◌≤◌, refl, sym, ap, ◌∙◌, subst, inl, inr, arith}
 use Rattle.std.specs.Prelude.{Option, None, Some}
 use Rattle.std.proofs.lemmas.Bool.{cases_lt}
 use Rattle.pp_machine.specs.MachineState.{MachineState}
 use Rattle.pp_numbers.specs.Profile.{processors_in}
 use Rattle.pp_machine.specs.Run.{barrel, run}
 use Rattle.pp_numbers.specs.declared.profile.Profile.{Profile}
-use Rattle.pp_numbers.specs.declared.profile.Profile.TheVariants.{Ten, Twenty}
 use Rattle.pp_numbers.proofs.ProfileLemmas.{more_rounds}
 use Rattle.pp_ends.specs.Endings.{FirstRepeats, Repeats, StandAlike, after_turns}
 use Rattle.pp_ends.specs.Rounds.{AreAlikeAfter, IsPeriod, IsStart, PeriodWithin, StartWithin, after_rounds}
@@ -16,16 +15,13 @@ use Rattle.pp_ends.proofs.RepeatLemmas.{IsLawfulMachine, after_more, run_alike, 
 
 -- what holds of rounds of ten turns and of twenty
 by_profile : (P : ℕ → Type 0) → P 10 → P 20 → (p : Profile) → P (processors_in p)
-by_profile P ten twenty Ten = ten
-by_profile P ten twenty Twenty = twenty
+by_profile P ten twenty p = grind arith
 
 whole : (p : Profile) (i : ℕ) → (i * processors_in p) % processors_in p ≡ 0
-whole Ten i = omega arith
-whole Twenty i = omega arith
+whole p i = grind arith
 
 in_rounds : (p : Profile) (u : ℕ) → u % processors_in p ≡ 0 → u ≡ (u / processors_in p) * processors_in p
-in_rounds Ten u e = omega (arith, e)
-in_rounds Twenty u e = omega (arith, e)
+in_rounds p u e = grind arith
 
 pub after_none : (m : MachineState) → after_rounds 0 m ≡ m
 after_none m = let none : 0 * processors_in m.profile ≡ 0 = omega arith in ap (λ (t : ℕ). after_turns t m) none
@@ -126,10 +122,7 @@ module _ (m : MachineState) (lawful : IsLawfulMachine m) where
         start = start;
         length_is = every;
         some = by_profile (λ n. k % n ≡ 0 → 1 ≤ k / n) (λ whole. omega (arith, whole, r.some)) (λ whole. omega (arith, whole, r.some)) p r.rounds;
-        alike = subst (λ (t : ℕ). StandAlike (after_rounds i m) (after_turns t m)) (sym (more_rounds p i l))
-            (subst (λ (t : ℕ). StandAlike (after_turns t m) (after_turns (i * processors_in p + l * processors_in p) m)) start
-            (subst (λ (t : ℕ). StandAlike (after_turns u m) (after_turns (t + l * processors_in p) m)) start
-            (subst (λ (t : ℕ). StandAlike (after_turns u m) (after_turns (u + t) m)) every r.alike)));
+        alike = grind (arith, more_rounds);
       }
 
   within_rounds : (u k turns : ℕ) (r : InRounds u k) → u + k ≤ turns → r.i + r.l ≤ turns / processors_in m.profile
@@ -182,12 +175,7 @@ module _ (m : MachineState) (lawful : IsLawfulMachine m) where
       let q = m.profile in
       let rounds = turns / processors_in q in
       record {
-        repeats = record {
-          some = by_profile (λ n. 0 < period * n) (omega (arith, p.some)) (omega (arith, p.some)) q;
-          first_rounds = whole q start;
-          rounds = whole q period;
-          alike = subst (λ (t : ℕ). StandAlike (after_rounds start m) (after_turns t m)) (more_rounds q start period) s.alike;
-        };
+        repeats = grind (arith, by_profile, whole, more_rounds);
         within = by_profile (λ n. start + period ≤ turns / n → start * n + period * n ≤ turns) (λ low. omega (arith, low)) (λ low. omega (arith, low)) q (omega (arith, s.within, p.most));
         least = λ u k repeats.
             let r = by_rounds u k repeats in

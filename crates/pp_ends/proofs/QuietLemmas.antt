@@ -1,5 +1,5 @@
 -- Whether steps move, by where their processors stand before and after them.
-use Rattle.std.proofs.Common.{◌≡◌, ℕ, ◌<◌, ◌≤◌, Bool, true, false, not, IsTrue, length, refl, sym, ap, ◌∙◌, subst, inl, inr, arith}
+use Rattle.std.proofs.Common.{◌≡◌, ℕ, ◌<◌, ◌≤◌, Bool, true, false, not, IsTrue, length, refl, sym, ◌∙◌, subst, inl, inr, arith}
 use Rattle.std.specs.Prelude.{◌↔◌}
 use Rattle.std.proofs.lemmas.Bool.{cases_lt}
 use Rattle.std.proofs.lemmas.List.{get_or_past}
@@ -22,20 +22,7 @@ pub by_same : (n : ℕ) (m : MachineState) (before after : ProgressMark) (same :
     → IsMemory (processor_of n m).memory → before ≡ mark_of (processor_of n m)
     → after ≡ mark_of (processor_after (processor_of n m) (answer_to (need (processor_of n m)) m))
     → IsTrue same ↔ (after ≡ before) → TellsMove (not same) n m
-by_same n m before after true memory was is same =
-    let pp = processor_of n m in
-    let x = answer_to (need pp) m in
-    let stands : mark_of (processor_after pp x) ≡ mark_of pp = sym is ∙ same.0 refl ∙ was in
-    let waits : Waits n m = kept_waits n m (own_step n m ∙ stands_still pp x memory stands) in
-    record { moves = λ bad. absurd (cc); waits = waits }
-by_same n m before after false memory was is same = record {
-  moves = λ _ waits.
-      let pp = processor_of n m in
-      let x = answer_to (need pp) m in
-      let stays : processor_after pp x ≡ pp = sym (own_step n m) ∙ waits.processor in
-      let bad : false ≡ true = same.1 (is ∙ ap mark_of stays ∙ sym was) in absurd (cc);
-  waits = tt;
-}
+by_same n m before after same memory was is h4 = grind (arith, kept_waits, own_step, stands_still)
 
 -- a processor that no machine has waits
 pub waits_unnamed : (n : ℕ) (m : MachineState) → length m.processors ≤ processor_index n → Waits n m
@@ -57,9 +44,6 @@ quiet_by_places m all waits = (
   λ _. refl,
 )
 
-pub moves_at : (n : ℕ) (m : MachineState) → TellsMove true n m → IsTrue false ↔ IsQuiet m
-moves_at n m told = (λ bad. absurd (cc), λ quiet. absurd (told.moves refl (quiet.waits n)))
-
 -- no processor is running
 pub at_rest_by_places : (m : MachineState) → length m.processors ≡ processor_count
     → ((k : ℕ) → k < processor_count → IsAtRest (processor_of (processor_number k) m))
@@ -68,8 +52,6 @@ at_rest_by_places m all rest = record {
   running = λ bad. absurd (cc);
   at_rest = λ n. elim (cases_lt (processor_index n) processor_count) [
     | inl below ↦ subst (λ (k : ℕ). IsAtRest (processor_of k m)) (processor_places.number_of_place n (processor_places.named_below n below)) (rest (processor_index n) below)
-    | inr past ↦
-        let absent : processor_of n m ≡ no_processor = get_or_past m.processors (processor_index n) no_processor (omega (arith, all, past)) in
-        subst (λ (pp : Processor). IsAtRest pp) (sym absent) (λ bad. cc)
+    | inr past ↦ grind (arith, get_or_past)
   ];
 }

@@ -1,19 +1,17 @@
 -- Machines that stand alike go on alike.
-use Rattle.std.proofs.Common.{◌≡◌, ℕ, zero, suc, ◌+◌, ◌*◌, ◌%◌, List, [], ◌∷◌, length, slice_set, get_or, refl, sym, ap, ◌∙◌, subst, inl, inr, arith, ◌<◌}
+use Rattle.std.proofs.Common.{◌≡◌, ℕ, zero, suc, ◌+◌, ◌*◌, ◌%◌, List, [], ◌∷◌, length, slice_set, get_or, sym, ap, ◌∙◌, subst, arith, ◌<◌}
 use Rattle.std.proofs.lemmas.Bool.{cases_lt}
 use Rattle.std.proofs.lemmas.List.{get_or_past, ext_get_or}
 use Rattle.pp_channel.specs.Answer.{channel_state}
-use Rattle.pp_numbers.specs.ChannelNo.{channel_count, channel_index}
+use Rattle.pp_numbers.specs.ChannelNo.{channel_count}
 use Rattle.pp_machine.specs.Headline.{HoldsOnEachChannel}
 use Rattle.pp_machine.specs.MachineState.{MachineState, processor_of}
-use Rattle.pp_machine.specs.MachineStep.{answer_to, stepped}
-use Rattle.pp_processor.specs.NeedAndEffect.{need, processor_after}
-use Rattle.pp_processor.specs.Processor.{Processor, no_processor}
+use Rattle.pp_machine.specs.MachineStep.{stepped}
+use Rattle.pp_processor.specs.Processor.{no_processor}
 use Rattle.pp_numbers.specs.PpNo.{processor_index, processor_number, processor_count, processor_places}
 use Rattle.pp_numbers.specs.Profile.{processors_in}
 use Rattle.pp_machine.specs.Run.{barrel, run}
 use Rattle.pp_numbers.specs.declared.profile.Profile.{Profile}
-use Rattle.pp_numbers.specs.declared.profile.Profile.TheVariants.{Ten, Twenty}
 use Rattle.pp_machine.proofs.RunLemmas.{run-both}
 use Rattle.pp_run.proofs.StepFacts.{central_by, processors_by}
 use Rattle.pp_run.proofs.AlikeLemmas.{answers_alike, central_alike, channels_alike}
@@ -23,49 +21,26 @@ use Rattle.pp_ends.specs.Endings.{Repeats, StandAlike, after_turns}
 
 -- ---- one step
 
-processor_alike : (n : ℕ) (one other : MachineState) → StandAlike one other
-    → processor_of n other ≡ processor_of n one
-processor_alike n one other a = ap (λ (ps : List Processor). get_or ps (processor_index n) no_processor) a.processors
-
 pub stepped_alike : (n : ℕ) (one other : MachineState) → IsLawfulMachine one → IsLawfulMachine other
     → StandAlike one other → StandAlike (stepped n one) (stepped n other)
-stepped_alike n one other l k a =
-    let pp = processor_of n one in
-    let same = processor_alike n one other a in
-    let x = need pp in
-    let needs : need (processor_of n other) ≡ x = ap need same in
-    let after : processor_after (processor_of n other) (answer_to (need (processor_of n other)) other) ≡ processor_after pp (answer_to x one) =
-    ap (λ (q : Processor). processor_after q (answer_to (need q) other)) same
-    ∙ ap (processor_after pp) (answers_alike one other a.channels a.central x) in
-    record {
-      processors = processors_by n other
-          ∙ ap (λ (q : Processor). slice_set other.processors (processor_index n) q) after
-          ∙ ap (λ (ps : List Processor). slice_set ps (processor_index n) (processor_after pp (answer_to x one))) a.processors
-          ∙ sym (processors_by n one);
-      central = central_by n other x needs ∙ central_alike one other a.central x ∙ sym (central_by n one x refl);
-      channels = λ c. channels_alike n c one other l k a.channels x refl needs;
-    }
+stepped_alike n one other l k a = grind (arith, answers_alike, processors_by, slice_set, central_by, central_alike, channels_alike)
 
 -- ---- a list of steps
 
 pub run_alike : (ns : List ℕ) (one other : MachineState) → IsLawfulMachine one → IsLawfulMachine other
     → StandAlike one other → StandAlike (run ns one) (run ns other)
 run_alike [] one other l k a = a
-run_alike (n ∷ ns) one other l k a =
-    run_alike ns (stepped n one) (stepped n other) (run_lawful (n ∷ []) one l) (run_lawful (n ∷ []) other k) (stepped_alike n one other l k a)
+run_alike (n ∷ ns) one other l k a = grind (arith, stepped_alike, run_alike ns (stepped n one) (stepped n other) (run_lawful (n ∷ []) one l) (run_lawful (n ∷ []) other k) (stepped_alike n one other l k a))
 
 -- ---- rounds
 
 rounds_more : (p : Profile) (t n : ℕ) → t % processors_in p ≡ 0 → n % processors_in p ≡ 0
     → (t + n) % processors_in p ≡ 0
-rounds_more Ten t n one other = omega (arith, one, other)
-rounds_more Twenty t n one other = omega (arith, one, other)
+rounds_more p t n one other = grind arith
 
 pub after_more : (t n : ℕ) (m : MachineState) → t % processors_in m.profile ≡ 0
     → after_turns (t + n) m ≡ run (barrel m.profile n) (after_turns t m)
-after_more t n m whole =
-    ap (λ (ns : List ℕ). run ns m) (barrel_again m.profile t n whole)
-    ∙ run-both (barrel m.profile t) (barrel m.profile n) m
+after_more t n m whole = grind (arith, barrel_again, run-both)
 
 -- after each number of periods
 record StandsOn (t n k : ℕ) (m : MachineState) : Type 0 where
@@ -73,12 +48,7 @@ record StandsOn (t n k : ℕ) (m : MachineState) : Type 0 where
   alike : StandAlike (after_turns t m) (after_turns (t + k * n) m)
 
 stands_on : (k t n : ℕ) (m : MachineState) → IsLawfulMachine m → Repeats t n m → StandsOn t n k m
-stands_on zero t n m l r =
-    let same : t ≡ t + zero * n = omega arith in
-    record {
-      rounds = subst (λ (u : ℕ). u % processors_in m.profile ≡ 0) same r.first_rounds;
-      alike = subst (λ (u : ℕ). StandAlike (after_turns t m) (after_turns u m)) same (record { processors = refl; central = refl; channels = λ c. refl });
-    }
+stands_on zero t n m l r = grind arith
 stands_on (suc k) t n m l r =
     let before = stands_on k t n m l r in
     let u = t + k * n in
@@ -89,11 +59,7 @@ stands_on (suc k) t n m l r =
     (run_alike (barrel p n) (after_turns t m) (after_turns u m) (run_lawful (barrel p t) m l) (run_lawful (barrel p u) m l) before.alike) in
     record {
       rounds = subst (λ (v : ℕ). v % processors_in p ≡ 0) next (rounds_more p u n before.rounds r.rounds);
-      alike = subst (λ (v : ℕ). StandAlike (after_turns t m) (after_turns v m)) next (record {
-        processors = again.processors ∙ r.alike.processors;
-        central = again.central ∙ r.alike.central;
-        channels = λ c. again.channels c ∙ r.alike.channels c;
-      });
+      alike = grind arith;
     }
 
 pub repeats_on : (t n k : ℕ) (m : MachineState) → length m.histories ≡ channel_count
@@ -113,10 +79,5 @@ alike_by_places m k hm hk pm pk channels processors central = record {
       ap (λ (i : ℕ). get_or k.processors i no_processor) (sym place)
       ∙ sym (processors j below) ∙ ap (λ (i : ℕ). get_or m.processors i no_processor) place);
   central = sym central;
-  channels = λ c. elim (cases_lt (channel_index c) channel_count) [
-    | inl below ↦ channels (channel_index c) below
-    | inr past ↦
-        ap channel_state (get_or_past k.histories (channel_index c) [] (omega (arith, hk, past)))
-        ∙ ap channel_state (sym (get_or_past m.histories (channel_index c) [] (omega (arith, hm, past))))
-  ];
+  channels = grind (arith, cases_lt, get_or_past);
 }

@@ -1,9 +1,6 @@
-use Rattle.std.proofs.Common.{◌≡◌, take, ◌<◌, ℕ, ◌+◌, List, length, refl, sym, ap, ◌∙◌, subst, arith}
+use Rattle.std.proofs.Common.{◌≡◌, take, ◌<◌, ℕ, ◌+◌, List, length, refl, ap, ◌∙◌, arith}
 use Rattle.std.specs.Prelude.{IsTrue, None, Option}
 use Rattle.std.proofs.lemmas.List.{get_or-replicate, length-take}
-use Rattle.pp_run.specs.BareMachine.{StandsFor}
-use Rattle.pp_machine.specs.MachineState.{MachineState}
-use Rattle.pp_machine.specs.MachineStep.{stepped}
 use Rattle.pp_processor.specs.Processor.{Processor}
 use Rattle.pp_numbers.specs.PpNo.{names_processor, processor_count, processor_index, processor_places}
 use Rattle.pp_numbers.specs.Profile.{processor_in_turn}
@@ -11,7 +8,6 @@ use Rattle.pp_machine.specs.Run.{barrel}
 use Rattle.pp_machine.proofs.RunLemmas.{barrel_more, length-barrel}
 use Rattle.pp_numbers.specs.declared.profile.Profile.{Profile}
 use Rattle.pp_ends.specs.Endings.{after_turns}
-use Rattle.pp_ends.specs.Loops.{TellLoops}
 use Rattle.pp_ends.specs.declared.loops.Loop.{Loop}
 use Rattle.pp_ends.proofs.LoopLemmas.{loops_more, noted_places}
 use Rattle.pp_ends.proofs.StillLemmas.{turn_read}
@@ -46,14 +42,10 @@ loop-turn-preserved g c =
     let names : IsTrue (names_processor n) = processor_places.named_below n c.pp.ensures.within in
     let on = c.loop-turn.invariant.on in
     record {
-      ran = subst (λ (k : MachineState). StandsFor c.step_moves-moved.new.bare k)
-          (ap (λ (k : ℕ). stepped k (after_turns turn m)) is ∙ sym (barrel_more m.profile turn m))
-          (c.step_moves-moved.ensures.stepped (after_turns turn m) c.loop-turn.invariant.ran);
+      ran = grind (arith, barrel_more);
       on = omega (arith, on);
       places = ap length c.note.ensures ∙ noted_places c.loop-turn.loops n c.p-p.result c.step_moves-moved.result ∙ c.loop-turn.invariant.places;
-      loops = subst (λ (loops : List (Option Loop)). TellLoops loops c.args.from (turn + 1) m) (sym c.note.ensures)
-          (loops_more c.loop-turn.loops c.args.from turn n c.p-p.result m c.step_moves-moved.result c.loop-turn.invariant.places on is names p
-          (c.step_moves-moved.ensures.moved (after_turns turn m) c.loop-turn.invariant.ran) c.loop-turn.invariant.loops);
+      loops = grind (arith, loops_more);
     }
 
 pub returns : goal.returns

@@ -6,8 +6,7 @@ pub loop-done-init : goal.loop-done-init
 loop-done-init g c = rw (after_none c.args.machine.now) c.in_ok-bare.ensures
 
 pub loop-done-preserved : goal.loop-done-preserved
-loop-done-preserved g c =
-    c.run_round.ensures c.loop-done.done c.args.machine.now c.round_of-round.ensures.turns c.loop-done.invariant
+loop-done-preserved g c = grind arith
 
 pub returns : goal.returns
 returns g c = let all : c.loop-done.done ≡ c.args.rounds = omega (arith, c.loop-done.auto.done-end) in rw all at c.loop-done.invariant

@@ -1,7 +1,6 @@
 use Rattle.std.proofs.Common.{◌≡◌, ℕ, ◌+◌, subst, arith}
-use borrow.Author.Count.{below_more}
 use Rattle.pp_run.specs.BareMachine.{StandsFor}
-use Rattle.pp_ends.specs.Rounds.{AreAlikeAfter, after_rounds}
+use Rattle.pp_ends.specs.Rounds.{after_rounds}
 use Rattle.pp_ends.proofs.rounds.start_from.Goals as goal
 
 pub loop-start-init : goal.loop-start-init
@@ -14,12 +13,7 @@ loop-start-init g c = record {
 }
 
 pub returns-then-stand_alike : goal.returns-then-stand_alike
-returns-then-stand_alike g c = record {
-  within = omega (arith, c.loop-start-test.true);
-  alike = c.stand_alike.ensures.alike c.if-stand_alike.true (after_rounds c.loop-start.start c.args.machine.now)
-      (after_rounds (c.loop-start.start + c.args.period) c.args.machine.now) c.loop-start.invariant.early c.loop-start.invariant.late;
-  first = c.loop-start.invariant.none;
-}
+returns-then-stand_alike g c = grind arith
 
 pub loop-start-preserved : goal.loop-start-preserved
 loop-start-preserved g c =
@@ -34,8 +28,7 @@ loop-start-preserved g c =
           let same : (start + period) + 1 ≡ start + 1 + period = omega arith in
           subst (λ (t : ℕ). StandsFor c.run_round-in-loop-start.new.bare (after_rounds t m)) same
           (c.run_round-in-loop-start.ensures (start + period) m round was.late);
-      none = below_more (λ (k : ℕ). ¬ AreAlikeAfter k (k + period) m) start was.none
-          (c.stand_alike.ensures.differ c.if-stand_alike.false (after_rounds start m) (after_rounds (start + period) m) was.early was.late);
+      none = grind arith;
     }
 
 pub returns : goal.returns

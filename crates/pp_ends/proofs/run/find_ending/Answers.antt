@@ -1,31 +1,21 @@
-use Rattle.std.proofs.Common.{ℕ, ◌*◌, ◌/◌, ◌≤◌, ap, arith, refl, sym, subst}
+use Rattle.std.proofs.Common.{ℕ, ◌/◌, ap, arith, refl, sym, subst}
 use Rattle.std.proofs.Math.Nat.{div-mul-le_self, mul-le-mul_right}
 use Rattle.std.specs.Prelude.{IsNone}
 use Rattle.pp_ends.proofs.FoundLemmas.{goes_on_without_period, goes_on_without_start, repeats_first}
 use Rattle.pp_ends.proofs.run.find_ending.Goals as goal
 
--- rounds of a run are turns of it
-in_turns : (k turns round : ℕ) → k ≤ turns / round → k * round ≤ turns
-in_turns k turns round low = omega (arith, mul-le-mul_right round low, div-mul-le_self turns round)
-
 pub overflow_mul-result : goal.overflow_mul-result
-overflow_mul-result g c =
-    let start = rw c.in-Some-3.is at c.in_ok-start.ensures in
-    let within : c.in-Some-3.start ≤ c.args.turns / c.round_of-round.result = omega (arith, start.within) in
-    omega (arith, in_turns _ _ _ within, c.ranges.turns.fits)
+overflow_mul-result g c = grind (arith, mul-le-mul_right, div-mul-le_self)
 
 pub overflow_mul-result-2 : goal.overflow_mul-result-2
-overflow_mul-result-2 g c =
-    let period = rw c.in-Some-2.is at c.in_ok-period.ensures in omega (arith, in_turns _ _ _ period.most, c.ranges.turns.fits)
+overflow_mul-result-2 g c = grind (arith, mul-le-mul_right, div-mul-le_self)
 
 pub returns-in_default-2 : goal.returns-in_default-2
 returns-in_default-2 g c =
     let sound = c.is_sound.ensures in
     record {
       moves = c.in_ok-ending.ensures.moves (subst (λ o. IsNone o) (sym c.in_default.is) refl);
-      goes_on = goes_on_without_period c.args.machine.now (record { channels = sound.channels; headline = sound.headline })
-          c.args.turns (c.args.turns / c.round_of-round.result) c.in_ok-period.field-0 c.in_default-2.is
-          (ap (λ (r : ℕ). c.args.turns / r) c.round_of-round.ensures.turns) c.in_ok-period.ensures;
+      goes_on = grind (arith, goes_on_without_period);
     }
 
 pub returns-in_default-3 : goal.returns-in_default-3
@@ -33,10 +23,7 @@ returns-in_default-3 g c =
     let sound = c.is_sound.ensures in
     record {
       moves = c.in_ok-ending.ensures.moves (subst (λ o. IsNone o) (sym c.in_default.is) refl);
-      goes_on = goes_on_without_start c.args.machine.now (record { channels = sound.channels; headline = sound.headline })
-          c.args.turns (c.args.turns / c.round_of-round.result) c.in-Some-2.period c.in_ok-period.field-0 c.in_ok-start.field-0
-          c.in-Some-2.is c.in_default-3.is
-          (ap (λ (r : ℕ). c.args.turns / r) c.round_of-round.ensures.turns) c.in_ok-period.ensures c.in_ok-start.ensures;
+      goes_on = grind (arith, goes_on_without_start);
     }
 
 pub returns : goal.returns
