@@ -3,7 +3,6 @@ use Rattle.std.proofs.Common.{◌≡◌, ◌+◌, cond, List, [], ◌∷◌, len
 use Rattle.std.specs.Prelude.{count_by}
 use Rattle.std.proofs.lemmas.List.Sums.{sum_by-cons}
 use Rattle.pp_processor.specs.declared.outcome.Outcome.{Outcome}
-use Rattle.pp_processor.specs.declared.outcome.Outcome.TheVariants.{Moved}
 use Rattle.pp_run.specs.StepCounts.{is_at_rest, is_held, is_moved}
 
 -- each outcome is counted once
@@ -16,5 +15,4 @@ three_counts (o ∷ os) =
     omega (arith, moved, held, rest, one o, three_counts os)
   where
     one : (x : Outcome) → cond (is_moved x) 1 0 + cond (is_held x) 1 0 + cond (is_at_rest x) 1 0 ≡ 1
-    one Moved = refl
-    one other = refl
+    one x = grind arith

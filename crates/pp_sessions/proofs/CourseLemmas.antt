@@ -65,8 +65,7 @@ sessions_on whole open_one = flat_map whole_session whole ++ flat_map body (opti
 
 pub begins_with_session : (whole : List (Session × List ℕ)) (open_one : Option Session) → BeginsSession (sessions_on whole open_one)
 begins_with_session [] None = tt
-begins_with_session [] (Some s) = tt
-begins_with_session (p ∷ whole) open_one = tt
+begins_with_session a b = tt
 
 -- a whole session, and what follows it
 pub whole_then : (s : Session) (codes : List ℕ) (whole : List (Session × List ℕ)) (open_one : Option Session) → sessions_on ((s, codes) ∷ whole) open_one ≡ body s ++ (Disconnect ∷ (idle_stretch codes ++ sessions_on whole open_one))

@@ -25,26 +25,12 @@ pub uncut-push : {X : Type 0} (test : X → X → Bool) (x : X) (xs : List X) (y
 uncut-push test x [] y whole apart = (apart, tt)
 uncut-push test x (next ∷ xs) y whole apart = (whole.0, uncut-push test next xs y whole.1 apart)
 
--- all parts together
-onto_first-together : {X : Type 0} (x : X) (parts : List (List X)) → flat_map (λ part. part) (onto_first x parts) ≡ x ∷ flat_map (λ part. part) parts
-onto_first-together x parts = grind arith
-
-by_test : {X : Type 0} (b : Bool) (x : X) (parts : List (List X)) (xs : List X) → flat_map (λ part. part) parts ≡ xs → flat_map (λ part. part) (cond b ((x ∷ []) ∷ parts) (onto_first x parts)) ≡ x ∷ xs
-by_test b x parts xs is = grind (arith, onto_first-together)
-
 pub cut_together : {X : Type 0} (test : X → X → Bool) (xs : List X) → flat_map (λ part. part) (cut_between test xs) ≡ xs
 cut_together test [] = refl
 cut_together test (x ∷ []) = refl
-cut_together test (x ∷ next ∷ xs) = by_test (test x next) x (cut_between test (next ∷ xs)) (next ∷ xs) (cut_together test (next ∷ xs))
-
--- a list whose elements are mapped is cut alike
-onto_first-map : {X Y : Type 0} (f : X → Y) (x : X) (parts : List (List X)) → map (map f) (onto_first x parts) ≡ onto_first (f x) (map (map f) parts)
-onto_first-map f x parts = grind arith
-
-mapped : {X Y : Type 0} (f : X → Y) (b : Bool) (x : X) (parts : List (List X)) (others : List (List Y)) → map (map f) parts ≡ others → map (map f) (cond b ((x ∷ []) ∷ parts) (onto_first x parts)) ≡ cond b ((f x ∷ []) ∷ others) (onto_first (f x) others)
-mapped f b x parts others is = grind (arith, onto_first-map)
+cut_together test (x ∷ next ∷ xs) = grind (arith, cut_together test (next ∷ xs))
 
 pub cut-map : {X Y : Type 0} (f : X → Y) (test : Y → Y → Bool) (xs : List X) → map (map f) (cut_between (λ x y. test (f x) (f y)) xs) ≡ cut_between test (map f xs)
 cut-map f test [] = refl
 cut-map f test (x ∷ []) = refl
-cut-map f test (x ∷ next ∷ xs) = mapped f (test (f x) (f next)) x (cut_between (λ x y. test (f x) (f y)) (next ∷ xs)) (cut_between test (map f (next ∷ xs))) (cut-map f test (next ∷ xs))
+cut-map f test (x ∷ next ∷ xs) = grind (arith, cut-map f test (next ∷ xs))

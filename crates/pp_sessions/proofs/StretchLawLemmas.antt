@@ -19,7 +19,7 @@ use Rattle.pp_sessions.specs.Stretches.{is_session, begins_session, cut_between,
 use Rattle.pp_sessions.specs.TimedEvents.{events_in}
 use Rattle.pp_sessions.specs.declared.tally.TimedEvent.{TimedEvent}
 use Rattle.pp_sessions.proofs.CourseLemmas.{BeginsSession, begins_with_session, course_parts, lone_word, passed_words, sessions_on, whole_then}
-use Rattle.pp_sessions.proofs.CutLemmas.{IsCutBefore, cut-append, cut-map, last_in, uncut-push}
+use Rattle.pp_sessions.proofs.CutLemmas.{cut-append, cut-map, last_in, uncut-push}
 
 -- ---- events that neither begin nor end a session
 
@@ -44,11 +44,8 @@ plain_codes : (codes : List ℕ) → ArePlain (idle_stretch codes)
 plain_codes [] = tt
 plain_codes (code ∷ codes) = ((refl, refl), plain_codes codes)
 
-cut_before_session : (last : Event) (rest : List Event) → BeginsSession rest → IsCutBefore is_over last rest
-cut_before_session last rest begins = grind (arith, or_right)
-
 cut_idle : (codes : List ℕ) (rest : List Event) → BeginsSession rest → cut_between is_over (idle_stretch codes ++ rest) ≡ idle_part codes ++ cut_between is_over rest
-cut_idle codes rest begins = grind (arith, cut-append, uncut_plain, plain_codes, cut_before_session, last_in)
+cut_idle codes rest begins = grind (arith, cut-append, uncut_plain, plain_codes, last_in, or_right)
 
 -- ---- a session
 
@@ -61,31 +58,16 @@ plain_words [] None = tt
 plain_words [] (Some w) = ((refl, refl), tt)
 plain_words (w ∷ passed) lone = ((refl, refl), ((refl, refl), plain_words passed lone))
 
-uncut_words : (s : Session) → IsUncut is_over Activate (words s)
-uncut_words s = uncut_plain Activate (words s) refl (plain_words s.passed s.lone)
-
-no_end : (s : Session) → ends_session (last_in Activate (words s)) ≡ false
-no_end s = last_plain Activate (words s) refl (plain_words s.passed s.lone)
-
-uncut_session : (s : Session) → IsUncut is_over Activate (words s ++ Disconnect ∷ [])
-uncut_session s = uncut-push is_over Activate (words s) Disconnect (uncut_words s) (or_from (ends_session (last_in Activate (words s))) false (no_end s) refl)
-
-cut_after_end : (last : Event) (rest : List Event) → last ≡ Disconnect → IsCutBefore is_over last rest
-cut_after_end last rest is = grind arith
-
 cut_whole : (s : Session) (rest : List Event) → cut_between is_over ((body s ++ Disconnect ∷ []) ++ rest) ≡ session_events s true ∷ cut_between is_over rest
-cut_whole s rest = cut-append is_over Activate (words s ++ Disconnect ∷ []) rest (uncut_session s) (cut_after_end (last_in Activate (words s ++ Disconnect ∷ [])) rest (fold_push (λ before event. event) Activate (words s) Disconnect))
+cut_whole s rest = grind (arith, cut-append, last_in, fold_push, uncut-push, or_from, uncut_plain, plain_words, last_plain)
 
 -- ---- a course
 
 abbrev open_parts : Option Session → List (List Event)
 open_parts o = map (λ session. session_events session false) (option_to_list o)
 
-cut_open : (o : Option Session) → cut_between is_over (sessions_on [] o) ≡ open_parts o
-cut_open o = grind (arith, cut-append, uncut_words, append-nil)
-
 cut_sessions : (whole : List (Session × List ℕ)) (o : Option Session) → cut_between is_over (sessions_on whole o) ≡ flat_map whole_parts whole ++ open_parts o
-cut_sessions [] o = cut_open o
+cut_sessions [] o = grind (arith, cut-append, append-nil, uncut_plain, plain_words)
 cut_sessions ((s, codes) ∷ whole) o =
     ap (cut_between is_over) (whole_then s codes whole o ∙ sym (append_assoc (body s) (Disconnect ∷ []) (idle_stretch codes ++ sessions_on whole o)))
     ∙ cut_whole s (idle_stretch codes ++ sessions_on whole o)
@@ -149,12 +131,9 @@ last_alone : (first : TimedEvent) (others : List TimedEvent) → (last_in first 
 last_alone first [] = refl
 last_alone first (next ∷ others) = last_alone next others
 
-end_is : (s : Session) (ended : Bool) → ends_session (last_in Activate (words s ++ cond ended (Disconnect ∷ []) [])) ≡ ended
-end_is s ended = grind (arith, fold_push, last_in, append-nil, no_end)
-
 pub session_told : (s : Session) (ended : Bool) (first : TimedEvent) (others : List TimedEvent) → events_in (first ∷ others) ≡ session_events s ended → TellsSession s ended (tally_of first others)
 unfolding tally_of
-session_told s ended first others are = grind (arith, words, last_alone, last_in, end_is, puts_words, length-append, takes_words, untaken_is)
+session_told s ended first others are = grind (arith, words, last_alone, last_in, puts_words, length-append, takes_words, untaken_is, fold_push, append-nil, last_plain, plain_words)
 
 pub idle_told : (codes : List ℕ) (first : TimedEvent) (others : List TimedEvent) → events_in (first ∷ others) ≡ idle_stretch codes → TellsIdle codes (tally_of first others)
 unfolding tally_of
@@ -194,8 +173,7 @@ numbered_from w c number (stretch ∷ before) after =
     ∙ ap (λ (k : ℕ). (stretch_text w c number stretch ++ others) ++ lines_from w c k after) (one_more (is_session stretch) (sum_by-cons (λ (s : List TimedEvent). cond (is_session s) 1 0) stretch before))
   where
     one_more : (b : Bool) {total : ℕ} → total ≡ cond b 1 0 + count_by is_session before → cond b (number + 1) number + count_by is_session before ≡ number + total
-    one_more true all = omega (arith, all)
-    one_more false all = omega (arith, all)
+    one_more b all = grind arith
 
 pub numbered : (w : Bool) (c : ℕ) (before after : List (List TimedEvent)) → lines_from w c 1 (before ++ after) ≡ lines_from w c 1 before ++ lines_from w c (1 + count_by is_session before) after
 numbered w c before after = numbered_from w c 1 before after

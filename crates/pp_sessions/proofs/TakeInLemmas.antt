@@ -10,7 +10,7 @@ use Rattle.pp_machine.specs.MachineState.{MachineState, is_opened}
 use Rattle.pp_machine.specs.declared.trace.Trace.{Trace}
 use Rattle.pp_sessions.specs.OpenStretch.{IsOpen, IsUncut, Open, TakesIn, open_at}
 use Rattle.pp_sessions.specs.SessionsText.{lines_from, line_and_words}
-use Rattle.pp_sessions.specs.Stretches.{are_parted, begins_session, ends_session, stretches, tally_of, word_of, words_in}
+use Rattle.pp_sessions.specs.Stretches.{are_parted, begins_session, stretches, tally_of, word_of, words_in}
 use Rattle.pp_sessions.specs.TimedEvents.{opening_events, timed_event, timed_events, timed_on}
 use Rattle.pp_sessions.specs.declared.tally.Moment.TheVariants.{DeadStart}
 use Rattle.pp_sessions.specs.declared.{tally.TimedEvent.TimedEvent, open_stretch.OpenStretch.OpenStretch, tally.Tally.Tally}
@@ -39,12 +39,9 @@ tells_session : (first : TimedEvent) (others : List TimedEvent) → (tally_of fi
 unfolding tally_of
 tells_session first others = refl
 
-tells_end : (first : TimedEvent) (others : List TimedEvent) → (tally_of first others).has_ended ≡ ends_session (last_in first others).event
-unfolding tally_of
-tells_end first others = refl
-
 parted_by : (told : Tally) (first : TimedEvent) (others : List TimedEvent) (e : TimedEvent) (b : Bool) → told ≡ tally_of first others → (told.has_ended || begins_session e.event) ≡ b → are_parted (last_in first others) e ≡ b
-parted_by told first others e b is over = ap (λ (x : Bool). x || begins_session e.event) (sym (tells_end first others) ∙ sym (ap (λ (t : Tally). t.has_ended) is)) ∙ over
+unfolding tally_of
+parted_by told first others e b is over = grind arith
 
 -- ---- lines
 

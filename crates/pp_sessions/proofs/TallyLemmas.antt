@@ -1,6 +1,6 @@
 -- What the line of a stretch tells, with an event more.
 use Rattle.std.proofs.Common.{◌≡◌, false, List, [], ◌∷◌, ◌++◌, length, None, Some, refl, sym, ap, ◌∙◌, arith}
-use Rattle.std.specs.List.{after_last, last_or}
+use Rattle.std.specs.List.{last_or}
 use Rattle.std.proofs.lemmas.List.{append-nil, length-append, length_push, map-append}
 use Rattle.std.proofs.lemmas.List.Elements.{filter_map-append}
 use Rattle.std.proofs.lemmas.List.Sums.{fold_push}
@@ -9,20 +9,13 @@ use Rattle.pp_channel.specs.declared.event.Event.{Event}
 use Rattle.pp_numbers.proofs.LastElements.{after_last-found, after_last-push, last_or-push}
 use Rattle.pp_sessions.specs.OpenStretch.{untaken_after, with_event}
 use Rattle.pp_sessions.specs.SessionsLaw.{TellsMoments}
-use Rattle.pp_sessions.specs.Stretches.{begins_session, ends_session, is_take, tally_of, untaken}
+use Rattle.pp_sessions.specs.Stretches.{begins_session, ends_session, tally_of, untaken}
 use Rattle.pp_sessions.specs.TimedEvents.{events_in}
 use Rattle.pp_sessions.specs.declared.{tally.TimedEvent.TimedEvent, tally.Tally.Tally}
 use Rattle.pp_sessions.proofs.CutLemmas.{last_in}
 
--- the word put and not taken
-after_no_take : (events : List Event) (e : Event) → is_take e ≡ false → untaken (events ++ e ∷ []) ≡ last_or None (puts (after_last is_take events) ++ puts (e ∷ []))
-after_no_take events e other = grind (arith, after_last-push, filter_map-append)
-
-stays : (events : List Event) (e : Event) → is_take e ≡ false → puts (e ∷ []) ≡ [] → untaken (events ++ e ∷ []) ≡ untaken events
-stays events e other none = grind (arith, after_no_take, append-nil)
-
 pub untaken_more : (events : List Event) (e : Event) → untaken (events ++ e ∷ []) ≡ untaken_after e (untaken events)
-untaken_more events e = grind (arith, after_no_take, last_or-push, after_last-found, stays)
+untaken_more events e = grind (arith, last_or-push, after_last-found, after_last-push, filter_map-append, append-nil)
 
 -- a stretch with an event more
 tally_more : (first : TimedEvent) (others : List TimedEvent) (e : TimedEvent) → tally_of first (others ++ e ∷ []) ≡ with_event (tally_of first others) e

@@ -1,7 +1,6 @@
 use Rattle.std.proofs.Common.{◌≡◌, ◌<◌, ◌+◌, ◌∷◌, ◌++◌, [], List, length, take, sym, ap, subst, ◌∙◌, append_assoc, arith, rules}
-use Rattle.std.proofs.lemmas.List.{append-nil, length-take, take_more}
+use Rattle.std.proofs.lemmas.List.{append-nil, length-take, take_more, nil_from_length}
 use Rattle.std.proofs.lemmas.Bool.{eqb-true}
-use Rattle.std.proofs.lemmas.List.{nil_from_length}
 use Rattle.pp_text.specs.TextWriter.{Prints}
 use Rattle.pp_text.proofs.PrintingLemmas.{prints_nothing, prints_on, prints_then}
 use Rattle.pp_machine.specs.declared.trace.Trace.{Trace}
