@@ -1,5 +1,5 @@
 -- The steps chosen of a run, step by step of its order.
-use Rattle.std.proofs.Common.{◌≡◌, ℕ, ◌+◌, ◌<◌, ◌≤◌, length, drop, take, get_or, Bool, true, false, cond, List, [], ◌∷◌, ◌++◌, refl, sym, ap, ◌∙◌, append-nil, arith}
+use Rattle.std.proofs.Common.{◌≡◌, ℕ, ◌+◌, ◌<◌, ◌≤◌, length, drop, take, get_or, Bool, cond, List, [], ◌∷◌, ◌++◌, sym, ap, ◌∙◌, append-nil, arith}
 use Rattle.std.specs.List.{filter}
 use Rattle.std.proofs.lemmas.List.{drop_all, drop_more, length-take, take-append-drop}
 use Rattle.std.proofs.lemmas.List.Elements.{filter-append}
@@ -27,8 +27,7 @@ chosen_more choice ns done m k few is =
     ∙ sym (ap (filter (is_chosen choice)) (steps_more ns done k m few is) ∙ filter-append (is_chosen choice) (run_steps (take done ns) m) (step ∷ []))
   where
     at_the_end : (b : Bool) (past : List RunStep) (step : RunStep) → cond b (past ++ step ∷ []) past ≡ past ++ cond b (step ∷ []) []
-    at_the_end true past step = refl
-    at_the_end false past step = sym (append-nil past)
+    at_the_end b past step = grind (arith, append-nil)
 
 -- no more than were made
 pub few_chosen : (choice : Choice) (ns : List ℕ) (done : ℕ) (m : MachineState) → length (chosen_steps choice (take done ns) m) ≤ done

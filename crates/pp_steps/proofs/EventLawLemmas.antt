@@ -1,27 +1,26 @@
 -- The events on the lines of a run are those of its trace.
-use Rattle.std.proofs.Common.{◌≡◌, ℕ, Bool, true, false, ◌&&◌, cond, List, [], ◌∷◌, ◌++◌, length, drop, refl, sym, ap, append_assoc, arith}
-use Rattle.std.specs.Prelude.{Option, Some, None, map}
+use Rattle.std.proofs.Common.{◌≡◌, ℕ, Bool, ◌&&◌, cond, List, [], ◌∷◌, ◌++◌, length, drop, refl, sym, ap, append_assoc, arith}
+use Rattle.std.specs.Prelude.{Option, Some}
 use Rattle.std.specs.List.{filter, flat_map}
-use Rattle.std.specs.Option.{option_to_list}
 use Rattle.std.proofs.lemmas.List.{append-nil}
 use Rattle.std.proofs.Math.Seq.{drop-append_seam}
 use Rattle.std.proofs.lemmas.List.Elements.{filter-append}
 use Rattle.pp_channel.specs.Answer.{event_of}
 use Rattle.pp_channel.specs.declared.{chan_op.ChanOp.ChanOp, event.Event.Event}
 use Rattle.pp_machine.specs.MachineState.{MachineState, history_of, processor_of}
-use Rattle.pp_machine.specs.MachineStep.{answer_to, step_outcome, stepped, trace_after}
+use Rattle.pp_machine.specs.MachineStep.{step_outcome, stepped}
 use Rattle.pp_processor.specs.NeedAndEffect.{need}
 use Rattle.pp_machine.specs.Run.{run}
-use Rattle.pp_processor.specs.declared.{answer.Answer.Answer, need.Need.Need, outcome.Outcome.Outcome}
+use Rattle.pp_processor.specs.declared.{need.Need.Need}
 use Rattle.pp_machine.specs.declared.{trace.Trace.Trace}
 use Rattle.pp_processor.specs.declared.need.Need.TheVariants.{Channel}
 use Rattle.pp_processor.specs.declared.outcome.Outcome.TheVariants as outcomes
 use Rattle.pp_run.specs.RunSteps.{RunStep, run_steps}
 use Rattle.pp_text.proofs.HeldLemmas.{moves_where_made}
-use Rattle.pp_run.specs.BareMachine.{progress, progress_by}
+use Rattle.pp_run.specs.BareMachine.{progress}
 use Rattle.pp_steps.specs.Choice.{chooses_channel, chooses_need, chooses_turn, chosen_steps, is_chosen}
 use Rattle.pp_steps.specs.StepsLaw.{entry_of, event_on, is_chosen_event, line_event}
-use Rattle.pp_steps.specs.StepsText.{line_kind, lines_from, with_line, with_lines}
+use Rattle.pp_steps.specs.StepsText.{line_kind, lines_from, with_lines}
 use Rattle.pp_steps.specs.declared.{choice.Choice.Choice, cursor.LineKind.LineKind}
 use Rattle.pp_steps.specs.declared.cursor.LineKind.TheVariants.{OneStep}
 use Rattle.pp_run.specs.declared.progress.Progress.{Progress}
@@ -29,27 +28,19 @@ use Rattle.pp_run.specs.declared.progress.Progress.TheVariants.{Moved}
 
 -- ---- the trace
 
-trace_by : (n : ℕ) (x : Need) (m : MachineState) → trace_after n x m ≡ m.trace ++ entry_of n x m
-trace_by n x m = grind (arith, append-nil)
-
 trace_more : (n : ℕ) (m : MachineState) → (stepped n m).trace ≡ m.trace ++ entry_of n (need (processor_of n m)) m
 unfolding stepped
-trace_more n m = trace_by n (need (processor_of n m)) m
+trace_more n m = grind (arith, append-nil)
 
 -- ---- a step that makes an event moves its processor
 
-moved_by : (o : Outcome) (answer : Answer) → o ≡ outcomes.Moved → progress_by o answer ≡ Moved
-moved_by o answer e = grind arith
-
 moved : (n : ℕ) (m : MachineState) → step_outcome n m ≡ outcomes.Moved → progress n m ≡ Moved
 unfolding progress
-moved n m e = moved_by (step_outcome n m) (answer_to (need (processor_of n m)) m) e
+moved n m e = grind arith
 
 on_channel : (kind : LineKind) (n c : ℕ) (operation : ChanOp) (m : MachineState) (x : Need) (o : Option Event) → x ≡ Channel c operation → event_of operation (history_of c m) ≡ o → ((e : Event) → o ≡ Some e → kind ≡ OneStep)
     → entry_of n (need (processor_of n m)) m ≡ entry_of n x m → event_on kind n m ≡ entry_of n (need (processor_of n m)) m
-on_channel OneStep n c operation m x o is made moves same = refl
-on_channel kind n c operation m x (Some e) is made moves same = absurd (let wrong : kind ≡ OneStep = moves e refl in cc)
-on_channel kind n c operation m x None is made moves same = grind arith
+on_channel kind n c operation m x o is made moves same = grind arith
 
 none_on : (kind : LineKind) (n : ℕ) (m : MachineState) (x : Need) → x ≡ need (processor_of n m) → entry_of n x m ≡ [] → event_on kind n m ≡ entry_of n (need (processor_of n m)) m
 none_on kind n m x is none = grind arith
@@ -65,12 +56,9 @@ by_need last n m steps other is = none_on (line_kind last (progress n m) steps) 
 abbrev entries_of : RunStep → List Trace
 entries_of step = entry_of step.processor (need (processor_of step.processor step.before)) step.before
 
-event_of_line : (past : List RunStep) (step : RunStep) (future : List RunStep) → line_event (with_line past step future) ≡ entries_of step
-event_of_line past step future = grind (arith, by_need)
-
 lines_events : (past steps : List RunStep) → flat_map line_event (lines_from past steps) ≡ flat_map entries_of steps
 lines_events past [] = refl
-lines_events past (step ∷ steps) = grind (arith, event_of_line, entries_of, lines_events (past ++ step ∷ []) steps)
+lines_events past (step ∷ steps) = grind (arith, entries_of, lines_events (past ++ step ∷ []) steps, by_need)
 
 -- ---- the trace of a run
 
@@ -80,12 +68,6 @@ traced (n ∷ steps) load = grind (arith, entries_of, trace_more, append_assoc, 
 
 -- ---- the events of the steps chosen
 
-all_or_none : (test : Trace → Bool) (b : Bool) (n c : ℕ) (m : MachineState) (o : Option Event) → ((e : Event) → test (record { turn = m.turns; pp = n; channel = c; event = e }) ≡ b)
-    → filter test (map (λ (e : Event). record { turn = m.turns; pp = n; channel = c; event = e }) (option_to_list o)) ≡ cond b (map (λ (e : Event). record { turn = m.turns; pp = n; channel = c; event = e }) (option_to_list o)) []
-all_or_none test true n c m None is = refl
-all_or_none test false n c m None is = refl
-all_or_none test chosen n c m (Some e) is = rw (is e) refl
-
 nothing : (b : Bool) (entries : List Trace) → cond b entries entries ≡ entries
 nothing b entries = grind arith
 
@@ -93,14 +75,11 @@ by_channel : (channels : Option (List Bool)) (c : ℕ) (operation : ChanOp) → 
 by_channel channels c operation = grind arith
 
 chosen_entry : (choice : Choice) (n : ℕ) (m : MachineState) (x : Need) → filter (is_chosen_event choice) (entry_of n x m) ≡ cond (chooses_turn choice n m.turns && chooses_need choice.channels x) (entry_of n x m) []
-chosen_entry choice n m x = grind (arith, all_or_none, by_channel, nothing)
-
-with_first : (b : Bool) (step : RunStep) (rest : List RunStep) → cond b (entries_of step) [] ++ flat_map entries_of rest ≡ flat_map entries_of (cond b (step ∷ rest) rest)
-with_first b step rest = grind arith
+chosen_entry choice n m x = grind (arith, by_channel, nothing)
 
 chosen_events : (choice : Choice) (steps : List RunStep) → filter (is_chosen_event choice) (flat_map entries_of steps) ≡ flat_map entries_of (filter (is_chosen choice) steps)
 chosen_events choice [] = refl
-chosen_events choice (step ∷ steps) = grind (arith, filter-append, entries_of, chosen_entry, with_first, chosen_events choice steps)
+chosen_events choice (step ∷ steps) = grind (arith, filter-append, entries_of, chosen_entry, chosen_events choice steps)
 
 pub events_told : (choice : Choice) (steps : List ℕ) (load : MachineState)
     → flat_map line_event (with_lines (chosen_steps choice steps load)) ≡ filter (is_chosen_event choice) (drop (length load.trace) (run steps load).trace)

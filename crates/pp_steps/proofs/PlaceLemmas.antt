@@ -96,15 +96,11 @@ central_one central a w = dite (dec_lt a (length central)) inside outside
         ∙ append-nil (f a)
 
     outside : (a < length central → ⊥) → centrals_text central after ≡ f a
-    outside past =
-        let same : after ≡ central = set_past central a w (omega (arith, past)) in
-        ap (centrals_text central) same ∙ centrals_same central
-        ∙ sym (ap (λ (words : List ℕ). central_text central words a) same ∙ same_central central central a refl)
+    outside past = grind (arith, after, set_past, centrals_same, same_central)
 
 -- a step that writes no central word leaves them all
 pub centrals_stay : (x : Need) (m : MachineState) (before after : List ℕ) → ((a w : ℕ) → x ≡ Write a w → ⊥) → before ≡ m.central → after ≡ central_after x m → centrals_text before after ≡ []
-centrals_stay (Write a w) m before after other old new = absurd (other a w refl)
-centrals_stay rest m before after other old new = rw (new, old) (centrals_same m.central)
+centrals_stay x m before after other old new = grind (arith, centrals_same)
 
 -- and one that writes changes one at most
 pub centrals_go : (x : Need) (m : MachineState) (before after : List ℕ) (a w : ℕ) → x ≡ Write a w → before ≡ m.central → after ≡ central_after x m → centrals_text before after ≡ central_text before after a

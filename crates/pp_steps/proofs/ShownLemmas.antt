@@ -98,9 +98,6 @@ step_row =
 
 -- ---- what follows its last parts
 
-hold_clear : (h : Option (ℕ × (Flags × ℕ))) (r : List ℕ) → held_format.clear h (line_end ++ r) ≡ true
-hold_clear h r = grind arith
-
 end_clear : (h : Option (ℕ × (Flags × ℕ))) (r : List ℕ) → no_end (held_format.text h ++ (line_end ++ r)) ≡ true
 end_clear h r = grind arith
 
@@ -116,7 +113,7 @@ places_clear (x ∷ xs) c state h r = refl
 places_clear [] c state h r = grind arith
 
 step_clear : (s : ShownStep) (r : List ℕ) → step_row.clear s r ≡ true
-step_clear s r = rw (places_clear, central_clear, channel_clear, end_clear, hold_clear) refl
+step_clear s r = grind (arith, places_clear, central_clear, channel_clear, end_clear)
 
 -- whether there is any
 abbrev is_text : List ℕ → Bool

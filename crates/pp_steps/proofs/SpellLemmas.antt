@@ -1,10 +1,9 @@
 -- The spells in which a processor is held, step by step.
-use Rattle.std.proofs.Common.{◌≡◌, ℕ, zero, suc, ◌+◌, ◌≤◌, Bool, true, false, ◌&&◌, cond, List, [], ◌∷◌, ◌++◌, drop, get_or, refl, sym, ap, ◌∙◌, append-nil, append_assoc, arith}
+use Rattle.std.proofs.Common.{◌≡◌, ℕ, zero, suc, ◌+◌, ◌≤◌, Bool, true, false, cond, List, [], ◌∷◌, ◌++◌, drop, get_or, refl, sym, ap, ◌∙◌, append-nil, append_assoc, arith}
 use Rattle.std.specs.Prelude.{if◌then◌else◌}
 use Rattle.std.specs.List.{fold, prefix_len}
 use Rattle.std.proofs.lemmas.List.{drop-drop, get_or-drop}
 use Rattle.std.proofs.lemmas.Bool.{and_parts}
-use Rattle.std.specs.Bool.{beq}
 use Rattle.pp_channel.specs.declared.flags.Flags.{Flags}
 use Rattle.pp_steps.specs.HeldSpells.{Spells, current_spell, continues_spell, is_held_with, last_of, no_spells, with_step}
 use Rattle.pp_steps.specs.StepsText.{line_kind}
@@ -15,24 +14,15 @@ use Rattle.pp_run.specs.declared.progress.Progress.TheVariants.{AtRest, Moved, H
 
 -- ---- flags
 
-same_sym : (a b : Bool) → beq a b ≡ beq b a
-same_sym a b = grind arith
-
-same_is : (a b : Bool) → beq a b ≡ true → a ≡ b
-same_is a b e = grind arith
-
-same_twice : (a b : Bool) → (beq a a && beq b b) ≡ true
-same_twice a b = grind arith
-
 -- a step is held with the flags that it is held with
 with_itself : (g : Flags) → is_held_with g (Held g) ≡ true
-with_itself g = same_twice g.active g.full
+with_itself g = grind arith
 
 pub with_other : (f g : Flags) → is_held_with f (Held g) ≡ is_held_with g (Held f)
-with_other f g = rw (same_sym f.active g.active, same_sym f.full g.full) refl
+with_other f g = grind arith
 
 pub with_same : (f g : Flags) → is_held_with g (Held f) ≡ true → g ≡ f
-with_same f g e = grind (arith, and_parts, same_is)
+with_same f g e = grind (arith, and_parts)
 
 -- ---- one step more
 
@@ -95,8 +85,7 @@ count_is steps spell =
     at_end (n ∷ counts) (suc i) = at_end counts i
 
     or_last : (counts : List ℕ) (last : Progress) → get_or counts spell current ≡ get_or (counts ++ (current_spell last current [] ++ held_counts last [])) spell current
-    or_last counts (Held f) = at_end counts spell
-    or_last counts other = ap (λ (ks : List ℕ). get_or ks spell current) (sym (append-nil counts))
+    or_last counts last = grind (arith, at_end, current, append-nil)
 
 -- ---- the cursor
 

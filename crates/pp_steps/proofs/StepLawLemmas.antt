@@ -1,6 +1,6 @@
 -- The text of some steps, one after another; the steps on the lines of a processor are all its steps
 -- while it ran.
-use Rattle.std.proofs.Common.{◌≡◌, ◌≢◌, ℕ, ◌<◌, get_or, Bool, true, false, cond, List, [], ◌∷◌, ◌++◌, refl, sym, ap, ◌∙◌, append_assoc, append-nil, arith, ◌+◌, ◌⊎◌, inl, inr, suc, drop}
+use Rattle.std.proofs.Common.{◌≡◌, ◌≢◌, ℕ, ◌<◌, get_or, Bool, true, false, cond, List, [], ◌∷◌, ◌++◌, refl, sym, ap, ◌∙◌, append_assoc, append-nil, arith, ◌+◌, ◌⊎◌, suc, drop}
 use Rattle.std.specs.List.{flat_map, fold, filter, prefix_len}
 use Rattle.std.proofs.lemmas.Bool.{cond-false, cond-true, eq-eqb, ne_eqb, cases_eq}
 use Rattle.std.proofs.lemmas.List.Sums.{fold-append}
@@ -85,14 +85,11 @@ told_before step steps = 0
 
 -- ---- held steps in a row
 
-is_same : (g : Flags) (step : Progress) → is_held_with g step ≡ true → step ≡ Held g
-is_same g step e = grind (arith, with_same)
-
 -- those at the front, and then the others
 with_first : (g : Flags) (step : Progress) (steps : List Progress) (b : Bool) → is_held_with g step ≡ b
     → replicate (prefix_len (is_held_with g) steps) (Held g) ++ filter is_running (drop (prefix_len (is_held_with g) steps) steps) ≡ filter is_running steps
     → replicate (prefix_len (is_held_with g) (step ∷ steps)) (Held g) ++ filter is_running (drop (prefix_len (is_held_with g) (step ∷ steps)) (step ∷ steps)) ≡ filter is_running (step ∷ steps)
-with_first g step steps b e rest = grind (arith, is_same)
+with_first g step steps b e rest = grind (arith, with_same)
 
 front : (g : Flags) (steps : List Progress) → replicate (prefix_len (is_held_with g) steps) (Held g) ++ filter is_running (drop (prefix_len (is_held_with g) steps) steps) ≡ filter is_running steps
 front g [] = refl
@@ -139,15 +136,11 @@ abbrev EventFits : ℕ → List RunStep → List RunStep → Type 0
 EventFits n past steps =
     flat_map line_steps (filter (is_by n) (lines_from past steps)) ≡ steps_told (last_of (seen_of progress_of n past)) (seen_of progress_of n steps)
 
-own_told : (past : List RunStep) (step : RunStep) (steps : List RunStep) → EventFits step.processor (past ++ step ∷ []) steps → EventFits step.processor past (step ∷ steps)
-own_told past step steps rest = grind (arith, cond-true, eq-eqb, steps_told, last_own, seen_first)
-
 other_told : (n : ℕ) (past : List RunStep) (step : RunStep) (steps : List RunStep) → step.processor ≢ n → EventFits n (past ++ step ∷ []) steps → EventFits n past (step ∷ steps)
 other_told n past step steps other rest = grind (arith, cond-false, ne_eqb, steps_told, seen_other, seen_past_first)
 
 by_number : (n : ℕ) (past : List RunStep) (step : RunStep) (steps : List RunStep) → (step.processor ≡ n) ⊎ (step.processor ≢ n) → EventFits n (past ++ step ∷ []) steps → EventFits n past (step ∷ steps)
-by_number n past step steps (inl same) rest = grind (arith, own_told)
-by_number n past step steps (inr other) rest = other_told n past step steps other rest
+by_number n past step steps h rest = grind (arith, other_told, cond-true, eq-eqb, last_own, seen_first)
 
 told_from : (n : ℕ) (past steps : List RunStep) → EventFits n past steps
 told_from n past [] = refl

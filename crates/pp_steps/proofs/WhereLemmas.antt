@@ -1,20 +1,14 @@
 -- The lines of steps that meet a condition, step by step.
 use Rattle.std.proofs.Common.{◌≡◌, ℕ, Bool, true, false, cond, IsTrue, List, [], ◌∷◌, ◌++◌, ◌&&◌, refl, sym, ap, ◌∙◌, append-nil, subst}
-use Rattle.std.specs.Prelude.{◌↔◌, Option, Result, Ok, Err}
-use Rattle.pp_machine.specs.MachineState.{MachineState}
-use Rattle.pp_text.specs.Written.{IsReportWritten}
-use Rattle.pp_text.specs.declared.report_fault.ReportFault.{ReportFault}
+use Rattle.std.specs.Prelude.{◌↔◌, map}
 use Rattle.pp_condition.specs.Condition.{Meets}
 use Rattle.pp_condition.specs.declared.condition.Condition.{Condition}
 use Rattle.pp_run.specs.RunSteps.{RunStep}
 use Rattle.std.specs.List.{flat_map}
-use Rattle.std.specs.Prelude.{map}
 use Rattle.std.proofs.lemmas.List.{map-append}
 use Rattle.std.proofs.lemmas.List.Concat.{flat_map-append}
-use Rattle.pp_steps.specs.Choice.{chosen_steps}
 use Rattle.pp_steps.specs.StepsText.{line_text}
-use Rattle.pp_steps.specs.declared.choice.Choice.{Choice}
-use Rattle.pp_steps.specs.StepsWhere.{HasLinesWhere, IsWrittenWhere, alone, meets, none, passes}
+use Rattle.pp_steps.specs.StepsWhere.{HasLinesWhere, alone, meets, none, passes}
 
 abbrev pub own_text : Bool → Bool → RunStep → List ℕ
 own_text is_chosen meets_it step = cond (is_chosen && meets_it) (line_text (alone step)) []
@@ -44,10 +38,3 @@ where_more condition past step text true false is so_far =
     }
 where_more condition past step text false true is so_far = subst (λ (t : List ℕ). HasLinesWhere condition past t) (sym (append-nil text)) so_far
 where_more condition past step text false false is so_far = subst (λ (t : List ℕ). HasLinesWhere condition past t) (sym (append-nil text)) so_far
-
--- all of them, when the run is over
-pub written_where : (choice : Choice) (condition : Condition) (order : List ℕ) (m : MachineState) (text : List ℕ) (written : Result (Unit {0}) ReportFault) (old new : Option (List ℕ))
-    → HasLinesWhere condition (chosen_steps choice order m) text → IsReportWritten text written old new → IsWrittenWhere choice condition order m written old new
-written_where choice condition order m text (Ok done) old new lines is = (text, lines, is)
-written_where choice condition order m text (Err ReportFault.Write) old new lines is = (text, lines, is)
-written_where choice condition order m text (Err ReportFault.Memory) old new lines kept = kept

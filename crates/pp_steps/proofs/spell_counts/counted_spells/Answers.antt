@@ -54,9 +54,7 @@ loop-n-preserved g c =
     record {
       stands = subst (λ (x : MachineState). StandsFor c.step-step.new.self x) (sym after) (c.step-step.ensures.stepped old c.loop-n.invariant.stands);
       counted = (elim c.if-is_chosen.branch [
-        | then-is_chosen+in_ok-note w ↦
-            let here = made_here with_step no_spells w.index_mut.result.now c.loop-n.spells.items past n w.index.result w.index.ensures.place w.index.ensures.below c.loop-n.invariant.counted w.index_mut.ensures.value in
-            rw (w.spells-is, w.if-is_chosen.true, w.in_ok-note.ensures, here, w.index.ensures.place)
+        | then-is_chosen+in_ok-note w ↦ grind (arith, made_here)
         | else-is_chosen w ↦ rw (w.spells-is, w.if-is_chosen.false)
       ])
           ∙ made_more with_step no_spells c.loop-n.spells.items c.has-is_chosen.result past step c.step-step.result place (c.step-step.ensures.progress old c.loop-n.invariant.stands) c.loop-n.invariant.counted
@@ -64,6 +62,4 @@ loop-n-preserved g c =
     }
 
 pub returns : goal.returns
-returns g c =
-    let order = c.args.order.now in
-    c.loop-n.invariant.counted ∙ ap (λ ns. each_spells (chosen_steps c.args.choice.now ns c.args.machine.now)) (take_all c.loop-n.n-index order (omega (arith, c.loop-n-test.false, ap length c.processors-n-items.ensures.are)))
+returns g c = grind (arith, take_all)

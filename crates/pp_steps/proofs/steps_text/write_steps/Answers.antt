@@ -2,7 +2,7 @@ use Rattle.std.proofs.Common.{◌≡◌, ◌<◌, ◌+◌, ◌++◌, ℕ, [], �
 use Rattle.std.specs.Prelude.{Bool}
 use Rattle.pp_machine.specs.MachineState.{MachineState}
 use Rattle.pp_machine.specs.MachineStep.{stepped}
-use Rattle.pp_numbers.specs.PpNo.{processor_count, processor_index}
+use Rattle.pp_numbers.specs.PpNo.{processor_index}
 use Rattle.std.proofs.lemmas.List.{get_or_read, take_all}
 use Rattle.pp_machine.specs.Run.{run}
 use Rattle.pp_machine.proofs.RunLemmas.{run_more}
@@ -12,7 +12,7 @@ use Rattle.pp_text.proofs.PrintingLemmas.{prints_nothing, prints_then}
 use Rattle.pp_run.specs.BareMachine.{StandsFor, progress}
 use Rattle.pp_steps.specs.Choice.{chosen_steps, is_chosen}
 use Rattle.pp_steps.specs.Cursor.{each_cursor, line_at, no_cursor, past_step}
-use Rattle.pp_steps.specs.HeldSpells.{each_spells, no_spells, with_step}
+use Rattle.pp_steps.specs.HeldSpells.{each_spells, no_spells}
 use Rattle.pp_steps.specs.declared.cursor.Cursor.{Cursor}
 use Rattle.pp_steps.specs.declared.cursor.LineKind.TheVariants.{NoLine}
 use Rattle.pp_numbers.proofs.TableLemmas.{length-tabulate}
@@ -51,11 +51,7 @@ pass-kind-requires g c =
     )
 
 pub index-requires-then-is_chosen-2 : goal.index-requires-then-is_chosen-2
-index-requires-then-is_chosen-2 g c =
-    let m = c.args.machine.now in
-    let counted : c.in_ok-spells.spells.items ≡ each_spells (chosen_steps c.args.choice.now c.args.order.now m) = search rules in
-    let long : length c.in_ok-spells.spells.items ≡ processor_count = ap length counted ∙ length-tabulate processor_count _ in
-    omega (arith, c.index-then-is_chosen.ensures.below, long)
+index-requires-then-is_chosen-2 g c = grind (arith, length-tabulate)
 
 pub loop-n-preserved : goal.loop-n-preserved
 loop-n-preserved g c =
@@ -89,9 +85,7 @@ loop-n-preserved g c =
       | else-is_chosen w ↦ rw (w.cursors-is, w.if-is_chosen.false)
     ] in
     let line : kind ≡ cond b (line_at (get_or c.in_ok-spells.spells.items (processor_index n) no_spells) (get_or c.loop-n.cursors (processor_index n) no_cursor) c.step-step.result) NoLine = elim c.if-is_chosen.branch [
-      | then-is_chosen w ↦
-          let here = made_here with_step no_spells w.index-then-is_chosen-2.result.now c.in_ok-spells.spells.items all n w.index-then-is_chosen.result w.index-then-is_chosen.ensures.place w.index-then-is_chosen.ensures.below counted w.index-then-is_chosen-2.ensures in
-          rw (w.kind-is, w.if-is_chosen.true, w.pass-kind.ensures.line, here, w.index.ensures.place)
+      | then-is_chosen w ↦ grind (arith, made_here)
       | else-is_chosen w ↦ rw (w.kind-is, w.if-is_chosen.false)
     ] in
     let told : Prints g.W.Write.contents c.loop-n.text c.match-kind.text (kind_text kind n old) = elim c.match-kind.branch [

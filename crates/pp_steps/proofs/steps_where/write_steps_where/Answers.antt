@@ -1,4 +1,4 @@
-use Rattle.std.proofs.Common.{◌≡◌, ◌<◌, ◌+◌, ◌++◌, ◌≤◌, ℕ, [], ◌∷◌, List, cond, length, sym, subst, ap, ◌∙◌, get_or, take, arith, rules}
+use Rattle.std.proofs.Common.{◌≡◌, ◌<◌, ◌+◌, ◌++◌, ℕ, [], ◌∷◌, List, cond, length, sym, subst, ap, ◌∙◌, get_or, take, arith}
 use Rattle.std.specs.Prelude.{Bool}
 use Rattle.std.proofs.lemmas.List.{get_or_read, take_all}
 use Rattle.pp_machine.specs.MachineState.{MachineState}
@@ -13,7 +13,7 @@ use Rattle.pp_steps.specs.Choice.{chosen_steps, is_chosen}
 use Rattle.pp_steps.specs.StepsWhere.{HasLinesWhere}
 use Rattle.pp_steps.proofs.ChosenSteps.{chosen_more, step_in}
 use Rattle.pp_steps.proofs.LineLemmas.{kept_ok}
-use Rattle.pp_steps.proofs.WhereLemmas.{no_lines, own_text, where_more, written_where}
+use Rattle.pp_steps.proofs.WhereLemmas.{no_lines, own_text, where_more}
 use Rattle.pp_steps.proofs.steps_where.write_steps_where.Goals as goal
 use Rattle.pp_steps.proofs.steps_where.write_steps_where.Goals.{then-is_chosen+then-meets, else-is_chosen, else-is_chosen-via-then-is_chosen+else-meets, else-is_chosen-via-else-is_chosen}
 
@@ -46,8 +46,7 @@ loop-n-preserved g c =
     ap (λ (x : Bool). cond x (past ++ step ∷ []) past) chosen ∙ chosen_more choice order t m n low is in
     let own = own_text c.has-is_chosen.result c.step_meeting-meets.result step in
     let told : Prints g.W.Write.contents c.loop-n.text c.if-is_chosen.text own = elim c.if-is_chosen.branch [
-      | then-is_chosen+then-meets w ↦
-          rw (w.text-is, w.if-is_chosen.true, w.if-meets.true, sym (c.step-step.ensures.progress old c.loop-n.invariant.after), sym w.line_alone.ensures) (w.print_line.ensures old c.loop-n.invariant.before stands)
+      | then-is_chosen+then-meets w ↦ grind arith
       | else-is_chosen w ↦ elim w.else-is_chosen.branch [
         | else-is_chosen-via-then-is_chosen+else-meets x ↦ rw (w.text-is, x.if-is_chosen.true, x.if-meets.false) (prints_nothing _ _)
         | else-is_chosen-via-else-is_chosen x ↦ rw (w.text-is, x.if-is_chosen.false) (prints_nothing _ _)
@@ -67,12 +66,4 @@ loop-n-preserved g c =
     }
 
 pub returns : goal.returns
-returns g c =
-    let order = c.args.order.now in
-    let m = c.args.machine.now in
-    let choice = c.args.choice.now in
-    let last : length order ≤ c.loop-n.n-index = omega (arith, c.loop-n-test.false, ap length c.processors-n-items.ensures.are) in
-    let (text, prints, lines) = c.loop-n.invariant.printed in
-    let all = subst (λ (steps : List RunStep). HasLinesWhere c.args.condition.now steps text) (ap (λ ns. chosen_steps choice ns m) (take_all c.loop-n.n-index order last)) lines in
-    let written = c.finish.ensures.written _ _ (prints.goes_on _ [] c.new-text.ensures.nothing) in
-    written_where choice c.args.condition.now order m text c.map_err-4.result _ _ all (search (rules, written))
+returns g c = grind (arith, take_all)
