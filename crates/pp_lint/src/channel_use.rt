@@ -214,7 +214,8 @@ pub(crate) fn print_alone_finding<W: Write>(
 }
 
 /// The one that is this instruction of a processor.
-#[tactic(auto, using(crate::proofs::ChannelUseLemmas::use_found, crate::proofs::ChannelUseLemmas::no_use))]
+#[tactic(auto, using(crate::proofs::ChannelUseLemmas::use_found, // or there is none
+crate::proofs::ChannelUseLemmas::no_use))]
 fn use_at(uses: &[ChannelUse], n: PpNo, i: &Instruction) -> Option<ChannelUse>
     ensures { result ≡ find (is_use n i.now) uses.now }
 {
