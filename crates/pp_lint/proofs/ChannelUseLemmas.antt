@@ -1,11 +1,12 @@
 -- Channels that one processor alone uses.
-use Rattle.std.proofs.Common.{◌≡◌, ℕ, ◌+◌, ◌-◌, ◌%◌, ◌^◌, ◌<◌, ◌≤◌, Bool, true, false, List, [], ◌∷◌, ◌++◌, Option, Some, None, get_or, length, map, take, refl, sym, ap, ◌∙◌, arith}
-use Rattle.std.specs.Prelude.{◌||◌, codes, filter_map, if◌then◌else◌, is_some, option_to_list, position, slice_get}
-use Rattle.std.specs.List.{find, list_any, range_with_len}
-use Rattle.std.proofs.lemmas.Option.{slice_get-get_or, slice_get_past}
-use Rattle.std.proofs.lemmas.List.Folds.{find_at, list_any-append, list_any_at}
+use Rattle.std.proofs.Common.{◌≡◌, ℕ, ◌+◌, ◌-◌, ◌%◌, ◌^◌, ◌<◌, ◌≤◌, Bool, true, false, List, [], ◌∷◌, ◌++◌, Option, Some, None, get_or, length, map, replicate, take, refl, sym, ap, ◌∙◌, arith}
+use Rattle.std.specs.Prelude.{◌||◌, ◌==◌, codes, filter_map, if◌then◌else◌, is_some, option_to_list, slice_get, slice_index_or, slice_set}
+use Rattle.std.specs.List.{list_any, range_with_len}
+use Rattle.std.proofs.lemmas.Bool.{eq-eqb, eqb-true}
+use Rattle.std.proofs.lemmas.Grind.{get_or-set_at}
+use Rattle.std.proofs.lemmas.List.Folds.{list_any-append, list_any_at}
 use Rattle.pp_word.specs.Address.{place_count}
-use Rattle.std.proofs.lemmas.List.{append-nil, map-append, take_all, take_more}
+use Rattle.std.proofs.lemmas.List.{append-nil, get_or-replicate, get_or-set_other, map-append, take_all, take_more}
 use Rattle.std.proofs.lemmas.List.Elements.{filter_map-append}
 use Rattle.pp_word.specs.Numeral.{octal, short_octal}
 use Rattle.pp_numbers.proofs.GrowingLists.{filter_map_more, range_append, range_more}
@@ -16,9 +17,9 @@ use Rattle.pp_deck.specs.DeckMeaning.{LoadedDeck}
 use Rattle.pp_instructions.specs.InstructionEffect.{channel_named}
 use Rattle.pp_listing.specs.ListedLine.{ListedLine, listed_line}
 use Rattle.pp_listing.specs.declared.listed_instructions.ListedInstruction.{ListedInstruction}
-use Rattle.pp_lint.specs.ChannelUse.{alone_text, use_in, use_of_one, user}
+use Rattle.pp_instructions.specs.declared.instruction.Instruction.{Instruction}
+use Rattle.pp_lint.specs.ChannelUse.{Names, alone_text, is_for, use_in, use_of_one, user}
 use Rattle.pp_lint.specs.StraightLine.{is_at}
-use Rattle.pp_lint.specs.declared.channel_use.ChannelUse.{ChannelUse}
 
 -- ---- what there is of some numbers, one after another
 
@@ -84,12 +85,12 @@ none_among p ws k all none = sym none ∙ ap (list_any p) (take_all k ws all)
 -- ---- the first instruction
 
 use_listed : (profile : Profile) (c n : ℕ) (i : ListedInstruction) (here second : Bool) → is_at c (channel_named profile i.word) ≡ here → i.has_second ≡ second
-    → use_in profile c n (listed_line i) ≡ (if here then Some (record { n = n; c = c; place = i.place; word = i.word }) else None)
+    → use_in profile c n (listed_line i) ≡ (if here then Some (record { n = n; c = c; word = i.word }) else None)
 use_listed profile c n i here true is long = rw (long, is) refl
 use_listed profile c n i here false is long = rw (long, is) refl
 
 pub first_here : (profile : Profile) (c n : ℕ) (i : ListedInstruction) (old new : List ListedLine) → old ≡ listed_line i ∷ new → true ≡ is_at c (channel_named profile i.word)
-    → Some (record { n = n; c = c; place = i.place; word = i.word }) ≡ slice_get (filter_map (use_in profile c n) old) 0
+    → Some (record { n = n; c = c; word = i.word }) ≡ slice_get (filter_map (use_in profile c n) old) 0
 first_here profile c n i old new taken here = rw (taken, use_listed profile c n i true i.has_second (sym here) refl) refl
 
 pub first_later : (profile : Profile) (c n : ℕ) (i : ListedInstruction) (old new : List ListedLine) → old ≡ listed_line i ∷ new → false ≡ is_at c (channel_named profile i.word)
@@ -103,9 +104,33 @@ pub alone_pieces : (n m c : ℕ) (digits : List ℕ) → digits ≡ octal 2 c �
 unfolding alone_text
 alone_pieces n m c digits is same = rw (is, same) refl
 
--- the first that passes a test, at its place
-pub use_found : (p : ChannelUse → Bool) (uses : List ChannelUse) (at : ℕ) (one : ChannelUse) → Some at ≡ position p uses → one ≡ get_or uses at one → Some one ≡ find p uses
-use_found p uses at one found is = grind (arith, find_at, slice_get-get_or)
+-- ---- the channels of a line
 
-pub no_use : (p : ChannelUse → Bool) (uses : List ChannelUse) → None ≡ position p uses → None ≡ find p uses
-no_use p uses none = grind (arith, find_at, slice_get_past)
+pub none_seen : (profile : Profile) → Names profile (replicate 64 false) []
+none_seen profile = λ c small. get_or-replicate 64 c false false small
+
+apart : true ≡ false → ⊥
+apart same = cc
+
+or_none : (b : Bool) → (b || (false || false)) ≡ b
+or_none true = refl
+or_none false = refl
+
+or_one : (b : Bool) → (b || (true || false)) ≡ true
+or_one true = refl
+or_one false = refl
+
+-- before and behind an instruction, by the channel that it is for
+module _ (profile : Profile) (table : List Bool) (before : List Instruction) (i : Instruction) (long : length table ≡ 64) (names : Names profile table before) where
+  with_named : (named : Option ℕ) (d : ℕ) → named ≡ channel_named profile i.word → list_any (is_for profile d) (before ++ i ∷ []) ≡ (list_any (is_for profile d) before || (is_at d named || false))
+  with_named named d is = list_any-append (is_for profile d) before (i ∷ []) ∙ ap (λ (c : Option ℕ). list_any (is_for profile d) before || (is_at d c || false)) (sym is)
+
+  pub nothing_seen : None ≡ channel_named profile i.word → Names profile table (before ++ i ∷ [])
+  nothing_seen is = λ d small. names d small ∙ sym (with_named None d is ∙ or_none (list_any (is_for profile d) before))
+
+  pub one_seen : (c : ℕ) → Some c ≡ channel_named profile i.word → Names profile (slice_set table c true) (before ++ i ∷ [])
+  one_seen c is = λ d small. by d small (c == d) refl ∙ sym (with_named (Some c) d is)
+    where
+      by : (d : ℕ) → d < 64 → (b : Bool) → (c == d) ≡ b → slice_index_or (slice_set table c true) d false ≡ (list_any (is_for profile d) before || ((c == d) || false))
+      by d small true same = get_or-set_at table c d true false (sym (eqb-true c d same)) (omega (arith, long, small, eqb-true c d same)) ∙ sym (rw same (or_one (list_any (is_for profile d) before)))
+      by d small false other = get_or-set_other table c d true false (λ same. apart (sym (eq-eqb c d (sym same)) ∙ other)) ∙ names d small ∙ sym (rw other (or_none (list_any (is_for profile d) before)))

@@ -12,7 +12,7 @@ use Rattle.pp_numbers.specs.PpNo.{names_processor, processor_index, processor_pl
 use Rattle.pp_lint.specs.FirstLines.{IsThing, Shows, key, line_in}
 use Rattle.pp_lint.specs.Given.{Note, first_line, is_kind}
 use Rattle.pp_lint.specs.declared.{row.Kind.Kind, row.Row.Row}
-use Rattle.pp_lint.specs.declared.row.Kind.TheVariants.{Central, Dead, Fault, Name, Start, Target, Word}
+use Rattle.pp_lint.specs.declared.row.Kind.TheVariants.{Central, Channel, Dead, Fault, Name, Start, Target, Word}
 
 -- ---- keys
 
@@ -35,6 +35,7 @@ first_key (Word n) = 41
 first_key Central = 81961
 first_key Dead = 213033
 first_key (Target n) = 213034
+first_key (Channel n) = 294954
 
 past_keys : Kind → ℕ
 past_keys Fault = 1
@@ -44,6 +45,7 @@ past_keys (Word n) = 81961
 past_keys Central = 213033
 past_keys Dead = 213034
 past_keys (Target n) = 294954
+past_keys (Channel n) = 296234
 
 key_within : (a : Kind) (p : ℕ) → IsThing a p → (first_key a ≤ key a p) × (key a p < past_keys a)
 unfolding first_key past_keys
@@ -54,6 +56,7 @@ key_within (Word n) p s = (omega arith, omega (arith, s.within, below n s.proces
 key_within Central p s = (omega arith, omega (arith, s.within))
 key_within Dead p s = (omega arith, omega (arith, s.within))
 key_within (Target n) p s = (omega arith, omega (arith, s.within, below n s.processor))
+key_within (Channel n) p s = (omega arith, omega (arith, s.within, below n s.processor))
 
 one_key : (a b : Kind) (p q : ℕ) → IsThing a p → IsThing b q → key a p ≡ key b q → Same a p b q
 unfolding Same first_key past_keys
@@ -69,6 +72,9 @@ one_key (Word n) (Word m) p q s t is =
 one_key Central Central p q s t is = eq-eqb q p (omega (arith, is))
 one_key Dead Dead p q s t is = eq-eqb q p (omega (arith, is))
 one_key (Target n) (Target m) p q s t is =
+    let index : processor_index n ≡ processor_index m = omega (arith, is, s.within, t.within) in
+    processor_same n m p q (processor_places.one_place m n t.processor index) (omega (arith, is, index))
+one_key (Channel n) (Channel m) p q s t is =
     let index : processor_index n ≡ processor_index m = omega (arith, is, s.within, t.within) in
     processor_same n m p q (processor_places.one_place m n t.processor index) (omega (arith, is, index))
 one_key a b p q s t is = let one = key_within a p s in let other = key_within b q t in absurd (omega (arith, is, one.0, one.1, other.0, other.1))
@@ -92,6 +98,7 @@ same_key (Word n) (Word m) p q is = same_processor n m p q (λ x y. key (Word x)
 same_key Central Central p q is = ap (λ x. 81961 + x) (sym (eqb-true q p is))
 same_key Dead Dead p q is = ap (λ x. 213033 + x) (sym (eqb-true q p is))
 same_key (Target n) (Target m) p q is = same_processor n m p q (λ x y. key (Target x) y) is
+same_key (Channel n) (Channel m) p q is = same_processor n m p q (λ x y. key (Channel x) y) is
 same_key a b p q is = absurd (cc)
 
 -- ---- one note more

@@ -80,7 +80,7 @@ module _ (profile : Profile) (noted : List Note) (said : Option Line) (reached :
 -- by the row that the line gives
 module _ (profile : Profile) (noted : List Note) (alone : List ChannelUse) (said : Option Line) (reached : Option ℕ) (k : ℕ) (line : List ℕ) (s : Option ℕ) (row : Row) where
   pub run_words : (n first : ℕ) (is : List Instruction) → row ≡ given s said → row.kind ≡ Word n → first ≡ first_place said → is ≡ instructions_of said
-      → instruction_findings profile k line noted alone n first reached is
+      → instruction_findings profile k line noted alone n first reached [] is
       ≡ run_findings profile k line noted alone reached (given s said).kind said
   unfolding run_findings
   run_words n first is value kind from all = rw (sym value) (rw kind (rw from (rw all refl)))
@@ -103,27 +103,30 @@ reached_first profile lines = refl
 
 -- ---- instructions one after another
 
-pub no_instruction : (profile : Profile) (k : ℕ) (line : List ℕ) (notes : List Note) (alone : List ChannelUse) (n first : ℕ) (reached : Option ℕ) → instruction_findings profile k line notes alone n first reached [] ≡ []
+pub no_instruction : (profile : Profile) (k : ℕ) (line : List ℕ) (notes : List Note) (alone : List ChannelUse) (n first : ℕ) (reached : Option ℕ) (before : List Instruction) → instruction_findings profile k line notes alone n first reached before [] ≡ []
 unfolding instruction_findings
-no_instruction profile k line notes alone n first reached = refl
+no_instruction profile k line notes alone n first reached before = refl
 
 -- the first of some instructions, which is reached or not, and those behind it
-module _ (profile : Profile) (k : ℕ) (line columns : List ℕ) (notes : List Note) (alone : List ChannelUse) (n first : ℕ) (reached now : Option ℕ) (all more : List Instruction) (i : Instruction) (here : Bool)
+module _ (profile : Profile) (k : ℕ) (line columns : List ℕ) (notes : List Note) (alone : List ChannelUse) (n first : ℕ) (reached now : Option ℕ) (before all more : List Instruction) (i : Instruction) (here : Bool)
     (same : columns ≡ line) (taken : all ≡ i ∷ more) (is_here : here ≡ is_reached notes n reached i.place) (is_now : now ≡ behind profile notes n reached i) where
   abbrev faulty : List Finding
   faulty = fault_finding profile k columns here first i
 
   abbrev used : List Finding
-  used = alone_finding k columns alone n first i
+  used = alone_finding profile k columns notes alone n first before i
 
-  parts : faulty ++ used ++ instruction_findings profile k line notes alone n first now more ≡ instruction_findings profile k line notes alone n first reached all
+  abbrev later : List Finding
+  later = instruction_findings profile k line notes alone n first now (before ++ i ∷ []) more
+
+  parts : faulty ++ used ++ later ≡ instruction_findings profile k line notes alone n first reached before all
   unfolding instruction_findings
   parts = rw (same, is_here, is_now, taken) refl
 
   pub first_prints : {W : Type 0} (contents : W → Option (List ℕ)) (old between new out : TextWriter W) → Prints contents old between (flat_map finding_line faulty) → Prints contents between new (flat_map finding_line used)
-      → Prints contents new out (flat_map finding_line (instruction_findings profile k line notes alone n first now more)) → Prints contents old out (flat_map finding_line (instruction_findings profile k line notes alone n first reached all))
+      → Prints contents new out (flat_map finding_line later) → Prints contents old out (flat_map finding_line (instruction_findings profile k line notes alone n first reached before all))
   first_prints contents old between new out fault alone_one others = rw (← parts) (prints_both contents old new out _ _ (prints_both contents old between new _ _ fault alone_one) others)
 
-  pub first_found : (before is_faulty is_alone : Bool) → is_faulty ≡ is_something_found faulty → is_alone ≡ is_something_found used
-      → (((before || is_faulty) || is_alone) || is_something_found (instruction_findings profile k line notes alone n first now more)) ≡ (before || is_something_found (instruction_findings profile k line notes alone n first reached all))
-  first_found before is_faulty is_alone fault alone_one = rw (← parts) (grind (arith, found_more, or_on))
+  pub first_found : (is_found is_faulty is_alone : Bool) → is_faulty ≡ is_something_found faulty → is_alone ≡ is_something_found used
+      → (((is_found || is_faulty) || is_alone) || is_something_found later) ≡ (is_found || is_something_found (instruction_findings profile k line notes alone n first reached before all))
+  first_found is_found is_faulty is_alone fault alone_one = rw (← parts) (grind (arith, found_more, or_on))

@@ -21,7 +21,7 @@ use Rattle.pp_text.specs.TextWriter.{Prints}
 use Rattle.pp_text.specs.declared.text_writer.TextWriter.{TextWriter}
 use Rattle.pp_lint.proofs.FindingLemmas.{found_more}
 use Rattle.pp_lint.specs.declared.{row.Kind.Kind, row.Row.Row}
-use Rattle.pp_lint.specs.declared.row.Kind.TheVariants.{Central, Dead, Fault, Name, Start, Target, Word}
+use Rattle.pp_lint.specs.declared.row.Kind.TheVariants.{Central, Channel, Dead, Fault, Name, Start, Target, Word}
 
 range_next : (n : ℕ) → range_with_len 0 (n + 1) ≡ range_with_len 0 n ++ n ∷ []
 range_next n = range_more 0 n ∙ ap (λ j. range_with_len 0 n ++ j ∷ []) (omega arith)
@@ -164,6 +164,9 @@ module _ (k : ℕ) (line : List ℕ) (notes : List Note) where
 
   pub warned_target : (s : Option ℕ) (said : Option Line) (row : Row) (n : ℕ) → row ≡ given s said → row.kind ≡ Target n → warnings k line notes s said ≡ []
   warned_target s said row n is of = warnings_by s said row (Target n) is of ∙ ap (λ found. found ++ []) (none_twice row (Target n) of refl)
+
+  pub warned_channel : (s : Option ℕ) (said : Option Line) (row : Row) (n : ℕ) → row ≡ given s said → row.kind ≡ Channel n → warnings k line notes s said ≡ []
+  warned_channel s said row n is of = warnings_by s said row (Channel n) is of ∙ ap (λ found. found ++ []) (none_twice row (Channel n) of refl)
 
   pub warned_name : (s : Option ℕ) (said : Option Line) (row : Row) (n : ℕ) → row ≡ given s said → row.kind ≡ Name n → warnings k line notes s said ≡ no_start_findings k line notes n
   warned_name s said row n is of = warnings_by s said row (Name n) is of ∙ ap (λ found. found ++ no_start_findings k line notes n) (none_twice row (Name n) of refl)

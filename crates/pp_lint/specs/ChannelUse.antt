@@ -1,8 +1,8 @@
 -- Channels that one processor alone uses: a listing of the deck shows an instruction of it for the
 -- channel, and no other processor has a word that would be one. Function codes go to equipment,
 -- which needs no second processor: a channel that a processor first sends one on is not looked at.
-use Rattle.std.specs.Prelude.{ℕ, ◌+◌, ◌==◌, ◌&&◌, Bool, List, [], ◌∷◌, ◌++◌, codes, filter_map, slice_get, Option, None, Some, Result, Ok, Err, if◌then◌else◌}
-use Rattle.std.specs.List.{find, list_any}
+use Rattle.std.specs.Prelude.{◌≡◌, ℕ, ◌+◌, ◌<◌, ◌==◌, ◌&&◌, Bool, false, not, List, [], ◌∷◌, ◌++◌, codes, filter_map, slice_get, slice_index_or, Option, None, Some, Result, Ok, Err, if◌then◌else◌}
+use Rattle.std.specs.List.{list_any}
 use Rattle.pp_word.specs.Numeral.{octal, short_octal}
 use Rattle.pp_numbers.specs.ChannelNo.{all_channels}
 use Rattle.pp_numbers.specs.PpNo.{all_processors, is_named}
@@ -13,22 +13,24 @@ use Rattle.pp_deck.specs.declared.deck_fault.DeckFault.{DeckFault}
 use Rattle.pp_listing.specs.ListedLine.{ListedLine, bare, one_word, two_words}
 use Rattle.pp_listing.specs.Listing.{instructions_listed}
 use Rattle.pp_instructions.specs.InstructionEffect.{channel_named, sends_function}
-use Rattle.pp_lint.specs.Finding.{Finding}
 use Rattle.pp_instructions.specs.declared.instruction.Instruction.{Instruction}
+use Rattle.pp_lint.specs.Finding.{Finding}
+use Rattle.pp_lint.specs.Given.{Note, first_line}
 use Rattle.pp_lint.specs.StraightLine.{field_of, is_at}
 use Rattle.pp_lint.specs.Warnings.{field_finding}
 use Rattle.pp_lint.specs.declared.channel_use.ChannelUse.{ChannelUse}
+use Rattle.pp_lint.specs.declared.row.Kind.TheVariants.{Channel}
 
--- the word of an instruction at a place, if it is for channel c
-abbrev pub use_of : Profile → ℕ → ℕ → ℕ → ℕ → Option ChannelUse
-use_of profile c n place word = if is_at c (channel_named profile word)
-    then Some (record { n = n; c = c; place = place; word = word }) else None
+-- the word of an instruction, if it is for channel c
+abbrev pub use_of : Profile → ℕ → ℕ → ℕ → Option ChannelUse
+use_of profile c n word = if is_at c (channel_named profile word)
+    then Some (record { n = n; c = c; word = word }) else None
 
 -- a line of a listing, in the section of processor n
 abbrev pub use_in : Profile → ℕ → ℕ → ListedLine → Option ChannelUse
 use_in profile c n (bare line) = None
-use_in profile c n (one_word place word m) = use_of profile c n place word
-use_in profile c n (two_words place word m) = use_of profile c n place word
+use_in profile c n (one_word place word m) = use_of profile c n word
+use_in profile c n (two_words place word m) = use_of profile c n word
 
 -- the first instruction of processor n for channel c that the listing shows
 unfoldable pub first_use : LoadedDeck → ℕ → ℕ → Option ChannelUse
@@ -69,15 +71,34 @@ unfoldable pub alone_text : ℕ → ℕ → List ℕ
 alone_text n c = codes "channel " ++ octal 2 c ++ codes " is used by PP " ++ short_octal 2 n
     ++ codes " alone"
 
--- whether it is this instruction of processor n
-abbrev pub is_use : ℕ → Instruction → ChannelUse → Bool
-is_use n i one = one.n == n && one.place == i.place && one.word == i.word
+-- whether processor n alone uses channel c
+abbrev pub is_alone : List ChannelUse → ℕ → ℕ → Bool
+is_alone uses n c = list_any (λ one. one.n == n && one.c == c) uses
 
-abbrev pub found_use : ℕ → List ℕ → ℕ → Instruction → Option ChannelUse → List Finding
-found_use k line first i None = []
-found_use k line first i (Some one) =
-    field_finding (k + 1) line (field_of first i) (alone_text one.n one.c) ∷ []
+-- whether an instruction is for channel c
+abbrev pub is_for : Profile → ℕ → Instruction → Bool
+is_for profile c i = is_at c (channel_named profile i.word)
 
--- what is found in an instruction of line k of processor n, whose first word is that of this place
-unfoldable pub alone_finding : ℕ → List ℕ → List ChannelUse → ℕ → ℕ → Instruction → List Finding
-alone_finding k line uses n first i = found_use k line first i (find (is_use n i) uses)
+-- whether an instruction for channel c, in line k of processor n, is its first in the deck: this is
+-- the first line that has one, and those before it in the line are for others
+abbrev pub is_first : Profile → ℕ → List Note → ℕ → List Instruction → ℕ → Bool
+is_first profile k notes n before c = is_at (k + 1) (first_line notes (Channel n) c)
+    && not (list_any (is_for profile c) before)
+
+-- what is found in an instruction, by the channel that it is for
+abbrev pub found_for : ℕ → List ℕ → (ℕ → Bool) → ℕ → ℕ → Instruction → Option ℕ → List Finding
+found_for k line is_found n first i None = []
+found_for k line is_found n first i (Some c) = if is_found c
+    then field_finding (k + 1) line (field_of first i) (alone_text n c) ∷ [] else []
+
+-- in an instruction of line k of processor n, behind those before it in the line, whose first word
+-- is that of place `first`
+unfoldable pub alone_finding : Profile → ℕ → List ℕ → List Note → List ChannelUse → ℕ → ℕ
+    → List Instruction → Instruction → List Finding
+alone_finding profile k line notes uses n first before i =
+    found_for k line (λ c. is_first profile k notes n before c && is_alone uses n c) n first i
+    (channel_named profile i.word)
+
+-- a table shows for each number whether one of these instructions is for the channel of that number
+abbrev pub Names : Profile → List Bool → List Instruction → Type 0
+Names profile table is = (c : ℕ) → c < 64 → slice_index_or table c false ≡ list_any (is_for profile c) is

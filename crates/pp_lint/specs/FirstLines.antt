@@ -3,7 +3,7 @@ use Rattle.std.specs.Prelude.{◌≡◌, ℕ, ◌+◌, ◌*◌, ◌^◌, ◌<◌
 use Rattle.pp_numbers.specs.PpNo.{names_processor, processor_index}
 use Rattle.pp_lint.specs.Given.{Note, first_line}
 use Rattle.pp_lint.specs.declared.{row.Kind.Kind, row.Row.Row}
-use Rattle.pp_lint.specs.declared.row.Kind.TheVariants.{Fault, Name, Start, Word, Central, Dead, Target}
+use Rattle.pp_lint.specs.declared.row.Kind.TheVariants.{Fault, Name, Start, Word, Central, Dead, Target, Channel}
 
 -- where each thing stands in the table (decimal)
 abbrev pub key : Kind → ℕ → ℕ
@@ -14,15 +14,17 @@ key (Word n) place = 41 + 4096 * processor_index n + place
 key Central place = 81961 + place
 key Dead place = 213033 + place
 key (Target n) place = 213034 + 4096 * processor_index n + place
+key (Channel n) place = 294954 + 64 * processor_index n + place
 
 abbrev pub key_count : ℕ
-key_count = 294954
+key_count = 296234
 
 -- how many things there are of a kind
 abbrev pub size_of_kind : Kind → ℕ
 size_of_kind (Word n) = 4096
 size_of_kind Central = 131072
 size_of_kind (Target n) = 4096
+size_of_kind (Channel n) = 64
 size_of_kind kind = 1
 
 -- of a processor that there is
@@ -31,6 +33,7 @@ IsOfProcessor (Name n) = IsTrue (names_processor n)
 IsOfProcessor (Start n) = IsTrue (names_processor n)
 IsOfProcessor (Word n) = IsTrue (names_processor n)
 IsOfProcessor (Target n) = IsTrue (names_processor n)
+IsOfProcessor (Channel n) = IsTrue (names_processor n)
 IsOfProcessor kind = Unit {0}
 
 pub record IsThing (kind : Kind) (place : ℕ) : Type 0 where

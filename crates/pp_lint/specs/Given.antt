@@ -8,10 +8,10 @@ use Rattle.pp_deck.specs.DeckLoad.{processor_in}
 use Rattle.pp_deck.specs.DeckMeaning.{begins_section, has_fields, size_of}
 use Rattle.pp_deck.specs.DeckText.{Fields}
 use Rattle.pp_lint.specs.InstructionsOfLine.{instructions_of}
-use Rattle.pp_instructions.specs.InstructionEffect.{leads_to}
+use Rattle.pp_instructions.specs.InstructionEffect.{channel_named, leads_to}
 use Rattle.pp_instructions.specs.declared.instruction.Instruction.{Instruction}
 use Rattle.pp_lint.specs.declared.{row.Kind.Kind, row.Row.Row}
-use Rattle.pp_lint.specs.declared.row.Kind.TheVariants.{Fault, Name, Start, Word, Central, Dead, Target}
+use Rattle.pp_lint.specs.declared.row.Kind.TheVariants.{Fault, Name, Start, Word, Central, Dead, Target, Channel}
 
 -- what fields say as line k of these lines
 abbrev pub said_as_line : Profile → List Fields → ℕ → Fields → Option Line
@@ -72,9 +72,11 @@ note_if number kind None = []
 note_if number kind (Some place) =
     record { line = number; kind = kind; place = place } ∷ []
 
--- what an instruction of processor n gives: the place that it leads to
+-- what an instruction of processor n gives: the place that it leads to, and the channel that it is
+-- for
 abbrev pub notes_of_instruction : ℕ → Profile → ℕ → Instruction → List Note
 notes_of_instruction number profile n i = note_if number (Target n) (leads_to profile i)
+    ++ note_if number (Channel n) (channel_named profile i.word)
 
 -- where a line starts its processor; 0 if it starts none
 abbrev pub start_place : Option Line → ℕ
@@ -104,6 +106,7 @@ is_kind (Word n) (Word m) = n == m
 is_kind Central Central = true
 is_kind Dead Dead = true
 is_kind (Target n) (Target m) = n == m
+is_kind (Channel n) (Channel m) = n == m
 is_kind kind other = false
 
 -- the first line that gives a thing of this kind at this place

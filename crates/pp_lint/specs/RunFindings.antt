@@ -12,19 +12,21 @@ use Rattle.pp_lint.specs.declared.{channel_use.ChannelUse.ChannelUse, row.Kind.K
 use Rattle.pp_lint.specs.declared.row.Kind.TheVariants.{Word}
 
 -- what is found in instructions of line k of processor n, one after another: the line's first word
--- is that of place `first`, and a straight line has come to `reached` before them
+-- is that of place `first`, a straight line has come to `reached` before them, and these stand
+-- before them in the line
 unfoldable pub instruction_findings : Profile → ℕ → List ℕ → List Note → List ChannelUse → ℕ → ℕ
-    → Option ℕ → List Instruction → List Finding
-instruction_findings profile k line notes alone n first reached [] = []
-instruction_findings profile k line notes alone n first reached (i ∷ is) =
+    → Option ℕ → List Instruction → List Instruction → List Finding
+instruction_findings profile k line notes alone n first reached before [] = []
+instruction_findings profile k line notes alone n first reached before (i ∷ is) =
     fault_finding profile k line (is_reached notes n reached i.place) first i
-    ++ alone_finding k line alone n first i
-    ++ instruction_findings profile k line notes alone n first (behind profile notes n reached i) is
+    ++ alone_finding profile k line notes alone n first before i
+    ++ instruction_findings profile k line notes alone n first (behind profile notes n reached i)
+    (before ++ i ∷ []) is
 
 -- what is found in line k, if it gives words, and a straight line has come to `reached` before it
 unfoldable pub run_findings : Profile → ℕ → List ℕ → List Note → List ChannelUse → Option ℕ → Kind
     → Option Line → List Finding
 run_findings profile k line notes alone reached (Word n) said =
-    instruction_findings profile k line notes alone n (first_place said) reached
+    instruction_findings profile k line notes alone n (first_place said) reached []
     (instructions_of said)
 run_findings profile k line notes alone reached kind said = []

@@ -1,16 +1,22 @@
 //! Channels that one processor alone uses.
 
-ghost use Rattle.std.specs.Prelude.{ℕ, ◌≡◌, ◌+◌, IfOk, filter_map, option_to_list, position, slice_get};
-ghost use Rattle.std.specs.List.{find, flat_map, list_any};
+ghost use Rattle.std.specs.Prelude.{ℕ, ◌≡◌, ◌+◌, ◌++◌, ◌∷◌, [], IfOk, List, filter_map, option_to_list, slice_get};
+ghost use Rattle.std.specs.List.{flat_map, list_any};
 ghost use Rattle.pp_instructions.specs.InstructionEffect.{channel_named};
-ghost use Rattle.pp_lint.specs.ChannelUse.{alone_finding, alone_text, alone_use, alone_uses, first_use, is_use, unless_function, use_in, use_of_one, user};
+ghost use Rattle.pp_lint.specs.ChannelUse.{Names, alone_finding, alone_text, alone_use, alone_uses, first_use, is_alone, is_first, unless_function, use_in, use_of_one, user};
+ghost use Rattle.pp_lint.specs.FirstLines.{Shows};
+ghost use Rattle.pp_lint.specs.Given.{Note};
 ghost use Rattle.pp_lint.specs.LintText.{finding_line, is_something_found};
 ghost use Rattle.pp_lint.specs.StraightLine.{is_at};
 ghost use Rattle.pp_numbers.specs.PpNo.{all_processors};
+ghost use Rattle.pp_instructions.specs.declared.instruction.Instruction.{Instruction};
 ghost use Rattle.pp_text.specs.TextWriter.{Prints};
 
+use crate::first_lines::{FirstLines, NUMBERS};
 use crate::line_findings::print_place;
+use crate::row::Kind;
 use crate::straight_line::field_of;
+use crate::whole_deck::WholeDeck;
 use crate::word_line::WordLine;
 use pp_channel::{CHANNELS, ChannelNo, Memory};
 use pp_deck::Deck;
@@ -19,20 +25,20 @@ use pp_listing::ListedInstructions;
 use pp_machine::Pp;
 use pp_numbers::{PROCESSORS, PpNo, Profile};
 use pp_text::{TextWriter, octal2, print_short_octal};
-use pp_word::{PLACES, Word12};
+use pp_word::{PLACES, Word6, Word12};
 use std::alloc::Allocator;
 use std::io::Write;
 
-/// An instruction of processor n for channel c: its place and its word.
+/// An instruction of processor n for channel c.
 #[derive(Clone, Copy)]
 pub(crate) struct ChannelUse {
     pub(crate) n: PpNo,
     pub(crate) c: ChannelNo,
-    pub(crate) place: Word12,
     pub(crate) word: Word12,
 }
 
-/// The first instructions for channels that one processor alone uses, in order of channel.
+/// The first instructions that a listing shows for channels that one processor alone uses, in order
+/// of channel.
 pub(crate) fn alone_uses<A: Allocator>(
     alloc: A,
     deck: &Deck<A>,
@@ -110,7 +116,7 @@ fn unless_function(found: Option<ChannelUse>) -> Option<ChannelUse>
     ensures { result ≡ unless_function found }
 {
     let found = found?;
-    if instruction_of(found.place, found.word).sends_function() {
+    if instruction_of(found.word).sends_function() {
         return None;
     }
     Some(found)
@@ -151,12 +157,7 @@ fn first_of(
 {
     while let Some(i) = instructions.next_instruction() {
         if is_for(profile, c, i.word) {
-            return Some(ChannelUse {
-                n,
-                c,
-                place: i.place,
-                word: i.word,
-            });
+            return Some(ChannelUse { n, c, word: i.word });
         }
     }
     None
@@ -166,18 +167,18 @@ fn first_of(
 fn is_for(profile: Profile, c: ChannelNo, word: Word12) -> bool
     ensures { result ≡ is_at c (channel_named profile word) }
 {
-    match instruction_of(Word12::ZERO, word).channel_named(profile) {
+    match instruction_of(word).channel_named(profile) {
         Some(named) => named.get() == c.get(),
         None => false,
     }
 }
 
 /// An instruction of which the first word is known.
-fn instruction_of(place: Word12, word: Word12) -> Instruction
+fn instruction_of(word: Word12) -> Instruction
     ensures { result.word ≡ word }
 {
     Instruction {
-        place,
+        place: Word12::ZERO,
         word,
         second: None,
     }
@@ -186,61 +187,84 @@ fn instruction_of(place: Word12, word: Word12) -> Instruction
 /// Prints that a processor alone uses a channel, if this instruction of a line is its first for the
 /// channel, and returns whether that is so.
 #[tactic(auto, unfolding(crate::specs::ChannelUse::alone_finding))]
-pub(crate) fn print_alone_finding<W: Write>(
+pub(crate) fn print_alone_finding<A: Allocator, W: Write>(
     text: &mut TextWriter<W>,
-    uses: &[ChannelUse],
+    deck: &WholeDeck<A>,
     words: &WordLine,
     columns: &mut Columns,
+    seen: &[bool; NUMBERS],
     i: &Instruction,
 ) -> bool
     ensures same { columns.new ≡ columns.old }
-    ensures prints { (k : ℕ) → words.now.number ≡ k + 1
-        → Prints W.contents text.old text.new (flat_map finding_line
-        (alone_finding k columns.old uses.now words.now.n words.now.first i.now)) }
-    ensures found { (k : ℕ) → result ≡ is_something_found
-        (alone_finding k columns.old uses.now words.now.n words.now.first i.now) }
+    ensures prints { (k : ℕ) (notes : List Note) (before : List Instruction)
+        → Shows deck.now.firsts notes → Names words.now.profile seen.now before
+        → words.now.number ≡ k + 1 → Prints W.contents text.old text.new (flat_map finding_line
+        (alone_finding words.now.profile k columns.old notes deck.now.alone.items words.now.n
+        words.now.first before i.now)) }
+    ensures found { (k : ℕ) (notes : List Note) (before : List Instruction)
+        → Shows deck.now.firsts notes → Names words.now.profile seen.now before
+        → words.now.number ≡ k + 1 → result ≡ is_something_found
+        (alone_finding words.now.profile k columns.old notes deck.now.alone.items words.now.n
+        words.now.first before i.now) }
 {
-    let Some(alone) = use_at(uses, words.n, i) else {
+    let Some(c) = i.channel_named(words.profile) else {
         return false;
     };
+    let is_first = is_first(&deck.firsts, words.n, words.number, seen, c);
+    if !is_first || !is_alone(&deck.alone, words.n, c) {
+        return false;
+    }
     print_place(
         text,
         words.number,
         columns.column_of(field_of(words.first, i)),
     );
-    print_alone_text(text, alone.n, alone.c);
+    print_alone_text(text, words.n, c);
     text.print(b"\n");
     true
 }
 
-/// The one that is this instruction of a processor.
-#[tactic(auto, using(crate::proofs::ChannelUseLemmas::use_found, // or there is none
-crate::proofs::ChannelUseLemmas::no_use))]
-fn use_at(uses: &[ChannelUse], n: PpNo, i: &Instruction) -> Option<ChannelUse>
-    ensures { result ≡ find (is_use n i.now) uses.now }
+/// Whether a processor alone uses a channel.
+fn is_alone(uses: &[ChannelUse], n: PpNo, c: Word6) -> bool
+    ensures { result ≡ is_alone uses.now n c }
 {
-    let at = place_of_use(uses, n, i)?;
-    Some(uses[at])
+    uses.iter()
+        .any(|one| one.n.get() == n.get() && one.c.get() == c.get())
 }
 
-/// Its place among them.
-fn place_of_use(uses: &[ChannelUse], n: PpNo, i: &Instruction) -> Option<usize>
-    ensures { result ≡ position (is_use n i.now) uses.now }
+/// Whether an instruction of processor n for a channel, in the line of a number, is its first in the
+/// deck; those before it in the line are for the channels seen.
+fn is_first<A: Allocator>(
+    firsts: &FirstLines<A>,
+    n: PpNo,
+    number: u64,
+    seen: &[bool; NUMBERS],
+    c: Word6,
+) -> bool
+    ensures { (profile : Profile) (k : ℕ) (notes : List Note) (before : List Instruction)
+        → Shows firsts.now notes → Names profile seen.now before → number ≡ k + 1
+        → result ≡ is_first profile k notes n before c }
 {
-    uses.iter().position(|one| is_use(n, i, one))
+    let line = firsts.line_of(&Kind::Channel(n), usize::from(c.get()));
+    u64::from(line) == number && !seen[usize::from(c.get())]
 }
 
-/// Whether it is this instruction of a processor.
-fn is_use(n: PpNo, i: &Instruction, one: &ChannelUse) -> bool
-    ensures { result ≡ is_use n i.now one.now }
+/// Keeps for which channel an instruction of a line is.
+#[tactic(auto, using(crate::proofs::ChannelUseLemmas::one_seen, // or it is for none
+crate::proofs::ChannelUseLemmas::nothing_seen))]
+pub(crate) fn see(seen: &mut [bool; NUMBERS], profile: Profile, i: &Instruction)
+    ensures { (before : List Instruction) → Names profile seen.old before
+        → Names profile seen.new (before ++ i.now ∷ []) }
 {
-    one.n.get() == n.get() && one.place.get() == i.place.get() && one.word.get() == i.word.get()
+    if let Some(c) = i.channel_named(profile) {
+        seen[usize::from(c.get())] = true;
+    }
 }
 
 /// Prints `channel 05 is used by PP 0 alone`.
 #[tactic(auto, using(pp_numbers::proofs::PpNoLemmas::processor_fits, // two digits
 pp_numbers::proofs::ChannelNoLemmas::channel_fits))]
-fn print_alone_text<W: Write>(text: &mut TextWriter<W>, n: PpNo, c: ChannelNo)
+fn print_alone_text<W: Write>(text: &mut TextWriter<W>, n: PpNo, c: Word6)
     ensures { Prints W.contents text.old text.new (alone_text n c) }
 {
     text.print(b"channel ");

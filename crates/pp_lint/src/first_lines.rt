@@ -10,9 +10,9 @@ ghost use Rattle.pp_lint.specs.declared.{line_fault.Before.Before, row.Kind.Kind
 use crate::row::{Kind, Row, place_of_start};
 use crate::words::instructions_of;
 use pp_channel::Memory;
-use pp_instructions::Instructions;
+use pp_instructions::{Instruction, Instructions};
 use pp_numbers::{PpNo, Profile};
-use pp_word::Word12;
+use pp_word::{Word6, Word12};
 use std::alloc::Allocator;
 use std::marker::Model;
 
@@ -36,11 +36,16 @@ const DEAD: usize = 213_033;
 
 const TARGETS: usize = 213_034;
 
+const CHANNELS: usize = 294_954;
+
 /// How many keys there are.
-const KEYS: usize = 294_954;
+const KEYS: usize = 296_234;
 
 /// How many places a processor's memory has.
 const PLACES: usize = 0o10000;
+
+/// How many numbers the d of an instruction can be.
+pub(crate) const NUMBERS: usize = 0o100;
 
 impl<A: Allocator> Model for FirstLines<A> {
     ghost use Rattle.std.specs.Prelude.{◌≡◌, ℕ, List, length};
@@ -109,6 +114,7 @@ impl<A: Allocator> FirstLines<A> {
             Kind::Central => {}
             Kind::Dead => {}
             Kind::Target(_) => {}
+            Kind::Channel(_) => {}
         }
     }
 
@@ -125,8 +131,18 @@ impl<A: Allocator> FirstLines<A> {
             (notes ++ flat_map (notes_of_instruction number profile n) instructions.old) }
     {
         while let Some(i) = instructions.next_instruction() {
-            self.note_target(n, i.leads_to(profile), number);
+            self.note_instruction(profile, n, &i, number);
         }
+    }
+
+    /// Notes the place that an instruction leads to, and the channel that it is for.
+    fn note_instruction(&mut self, profile: Profile, n: PpNo, i: &Instruction, number: u32)
+        requires number { 0 < number }
+        ensures { (notes : List Note) → Shows self.old notes
+            → Shows self.new (notes ++ notes_of_instruction number profile n i.now) }
+    {
+        self.note_target(n, i.leads_to(profile), number);
+        self.note_channel(n, i.channel_named(profile), number);
     }
 
     /// Notes a place that START or a jump of a processor leads to, if there is one.
@@ -137,6 +153,17 @@ impl<A: Allocator> FirstLines<A> {
     {
         if let Some(place) = place {
             self.note_one(&Kind::Target(n), usize::from(place.get()), number);
+        }
+    }
+
+    /// Notes the channel that an instruction of a processor is for, if it is for one.
+    fn note_channel(&mut self, n: PpNo, c: Option<Word6>, number: u32)
+        requires number { 0 < number }
+        ensures { (notes : List Note) → Shows self.old notes
+            → Shows self.new (notes ++ note_if number (Kind.Channel n) c) }
+    {
+        if let Some(c) = c {
+            self.note_one(&Kind::Channel(n), usize::from(c.get()), number);
         }
     }
 
@@ -174,5 +201,6 @@ fn key_of(kind: &Kind, place: usize) -> usize
         Kind::Central => CENTRAL + place,
         Kind::Dead => DEAD + place,
         Kind::Target(n) => TARGETS + PLACES * n.index() + place,
+        Kind::Channel(n) => CHANNELS + NUMBERS * n.index() + place,
     }
 }

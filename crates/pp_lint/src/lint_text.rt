@@ -56,7 +56,10 @@ pub fn write_lint<A: Allocator + Copy, W: Write>(
         return Err(ReportFault::Memory);
     };
     let mut text = TextWriter::new(writer);
-    let is_found = print_text(&mut text, &whole, profile, deck);
+    let is_found = print_findings(&mut text, &whole, profile, deck);
+    if !is_found {
+        text.print(b"nothing found\n");
+    }
     match text.finish() {
         Ok(()) => Ok(is_found),
         Err(_) => Err(ReportFault::Write),
@@ -129,27 +132,6 @@ fn first_lines<A: Allocator>(
         before = after_line(&before, line);
     }
     Ok(firsts)
-}
-
-/// Prints the text of what is found in a deck, and returns whether something is.
-fn print_text<A: Allocator, W: Write>(
-    text: &mut TextWriter<W>,
-    whole: &WholeDeck<A>,
-    profile: Profile,
-    deck: &[u8],
-) -> bool
-    requires firsts { length deck.now ≤ LONGEST_DECK
-        → Shows whole.now.firsts (notes profile (lines_of (text_in deck.now))) }
-    requires alone { length deck.now ≤ LONGEST_DECK
-        → whole.now.alone.items ≡ alone_uses_in (deck_meaning profile (text_in deck.now)) }
-    ensures prints { Prints W.contents text.old text.new (lint_text profile deck.now) }
-    ensures found { result ≡ is_something_found (findings profile deck.now) }
-{
-    if print_findings(text, whole, profile, deck) {
-        return true;
-    }
-    text.print(b"nothing found\n");
-    false
 }
 
 /// Prints a line for each finding of a deck, and returns whether there is one.

@@ -33,6 +33,8 @@ pub(crate) enum Kind {
     Dead,
     /// A place of a processor that START or a jump leads to.
     Target(PpNo),
+    /// A channel for which a processor has an instruction, by its number.
+    Channel(PpNo),
 }
 
 /// Things in a row: how many of a kind, from a place or an address on.

@@ -1,6 +1,6 @@
 //! What is found in a line's instructions by how they run.
 
-ghost use Rattle.std.specs.Prelude.{ℕ, ◌≡◌, ◌+◌, ◌≤◌, ◌^◌, List};
+ghost use Rattle.std.specs.Prelude.{ℕ, ◌≡◌, ◌+◌, ◌≤◌, ◌^◌, List, []};
 ghost use Rattle.std.specs.List.{flat_map};
 ghost use Rattle.pp_deck.specs.DeckText.{fields_of};
 ghost use Rattle.pp_lint.specs.FirstLines.{Shows};
@@ -11,7 +11,8 @@ ghost use Rattle.pp_lint.specs.RunFindings.{instruction_findings, run_findings};
 ghost use Rattle.pp_lint.specs.WordsOfLine.{HasNoFault};
 ghost use Rattle.pp_text.specs.TextWriter.{Prints};
 
-use crate::channel_use::print_alone_finding;
+use crate::channel_use::{print_alone_finding, see};
+use crate::first_lines::NUMBERS;
 use crate::line_fault::Before;
 use crate::row::{Kind, row_of};
 use crate::straight_line::{behind, is_reached, print_fault_finding};
@@ -42,7 +43,7 @@ pub(crate) fn print_run_findings<A: Allocator, W: Write>(
         (run_findings before.now.profile k line.now notes deck.now.alone.items reached.now
         (given before.now.section (said_after before.now (fields_of line.now))).kind
         (said_after before.now (fields_of line.now)))) }
-    ensures found { (k : ℕ) (notes : List Note) → Shows deck.now.firsts notes
+    ensures found { (k : ℕ) (notes : List Note) → Shows deck.now.firsts notes → number ≡ k + 1
         → result ≡ is_something_found (run_findings before.now.profile k line.now notes
         deck.now.alone.items reached.now
         (given before.now.section (said_after before.now (fields_of line.now))).kind
@@ -74,21 +75,23 @@ fn print_instruction_findings<A: Allocator, W: Write>(
     ensures prints { (k : ℕ) (notes : List Note) → Shows deck.now.firsts notes
         → words.now.number ≡ k + 1 → Prints W.contents text.old text.new
         (flat_map finding_line (instruction_findings words.now.profile k words.now.line.now notes
-        deck.now.alone.items words.now.n words.now.first reached.now instructions.old)) }
+        deck.now.alone.items words.now.n words.now.first reached.now [] instructions.old)) }
     ensures found { (k : ℕ) (notes : List Note) → Shows deck.now.firsts notes
-        → result ≡ is_something_found
+        → words.now.number ≡ k + 1 → result ≡ is_something_found
         (instruction_findings words.now.profile k words.now.line.now notes
-        deck.now.alone.items words.now.n words.now.first reached.now instructions.old) }
+        deck.now.alone.items words.now.n words.now.first reached.now [] instructions.old) }
 {
     let mut columns = Columns::of(words.line);
+    let mut seen = [false; NUMBERS];
     let mut reached = *reached;
     let mut is_found = false;
     while let Some(i) = instructions.next_instruction() {
         let is_here = is_reached(&deck.firsts, words.n, &reached, &i);
         let is_faulty = print_fault_finding(text, words, &mut columns, is_here, &i);
-        let is_alone = print_alone_finding(text, &deck.alone, words, &mut columns, &i);
+        let is_alone = print_alone_finding(text, deck, words, &mut columns, &seen, &i);
         is_found = is_found | is_faulty | is_alone;
         reached = behind(&deck.firsts, words.profile, words.n, &reached, &i);
+        see(&mut seen, words.profile, &i);
     }
     is_found
 }

@@ -44,6 +44,7 @@ pub(crate) fn behind_line<A: Allocator>(
         Kind::Central => *reached,
         Kind::Dead => *reached,
         Kind::Target(_) => *reached,
+        Kind::Channel(_) => *reached,
     }
 }
 

@@ -55,6 +55,7 @@ pub(crate) fn print_warnings<A: Allocator, W: Write>(
         Kind::Central => print_twice(text, firsts, &row, number, line),
         Kind::Dead => false,
         Kind::Target(_) => false,
+        Kind::Channel(_) => false,
     }
 }
 

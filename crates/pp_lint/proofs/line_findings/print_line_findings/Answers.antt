@@ -42,6 +42,6 @@ pub returns-in-None-clause-found : goal.returns-in-None-clause-found
 returns-in-None-clause-found g c = λ k notes shows number.
     let none = rw c.of.ensures at c.in-None.ensures in
     found_both _ _ (c.print_warnings-is_warned.result || c.print_run_findings-is_amiss.result) c.print_comment_findings-is_otherwise.result _
-    (found_both _ _ c.print_warnings-is_warned.result c.print_run_findings-is_amiss.result _ (c.print_warnings-is_warned.ensures.found k notes shows number) (c.print_run_findings-is_amiss.ensures.found k notes shows) refl)
+    (found_both _ _ c.print_warnings-is_warned.result c.print_run_findings-is_amiss.result _ (c.print_warnings-is_warned.ensures.found k notes shows number) (c.print_run_findings-is_amiss.ensures.found k notes shows number) refl)
     (c.print_comment_findings-is_otherwise.ensures.found c.args.before.now k (record { none = none })) refl
     ∙ ap is_something_found (sym (others_are_found k c.args.line.now (fault_after c.args.before.now) _ c.in_default.ensures none))

@@ -16,7 +16,7 @@ returns-in_default-clause-prints g c = λ k notes shows number.
     prints_none _ _ _ (run_nothing c.args.before.now.profile notes c.args.deck.now.alone.items _ c.args.reached.now k c.args.line.now _ c.row_of-row.result value (no_word _ c.in_default.not-Word))
 
 pub returns-in_default-clause-found : goal.returns-in_default-clause-found
-returns-in_default-clause-found g c = λ k notes shows.
+returns-in_default-clause-found g c = λ k notes shows number.
     let value = rw c.of.ensures at (c.row_of-row.ensures.value (rw c.of.ensures c.requires.clean.none)) in
     none_found _ (run_nothing c.args.before.now.profile notes c.args.deck.now.alone.items _ c.args.reached.now k c.args.line.now _ c.row_of-row.result value (no_word _ c.in_default.not-Word))
 
@@ -27,7 +27,7 @@ returns-clause-prints g c = λ k notes shows number.
     (c.print_instruction_findings.ensures.prints k notes shows number)
 
 pub returns-clause-found : goal.returns-clause-found
-returns-clause-found g c = λ k notes shows.
+returns-clause-found g c = λ k notes shows number.
     let value = rw c.of.ensures at (c.row_of-row.ensures.value (rw c.of.ensures c.requires.clean.none)) in
-    c.print_instruction_findings.ensures.found k notes shows
+    c.print_instruction_findings.ensures.found k notes shows number
     ∙ ap is_something_found (run_words c.args.before.now.profile notes c.args.deck.now.alone.items _ c.args.reached.now k c.args.line.now _ c.row_of-row.result c.in-Word.n _ _ value c.in-Word.is (c.first_place.ensures c.args.before.now c.requires.clean) (c.instructions_of.ensures c.args.before.now c.requires.clean))

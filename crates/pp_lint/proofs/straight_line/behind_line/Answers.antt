@@ -25,3 +25,6 @@ returns-in-Dead g c = λ notes before shows gives. behind_other c.args.profile n
 
 pub returns-in-Target : goal.returns-in-Target
 returns-in-Target g c = λ notes before shows gives. behind_other c.args.profile notes _ c.args.reached.now c.args.kind.now (rw c.in-Target.is refl) (rw c.in-Target.is refl)
+
+pub returns-in-Channel : goal.returns-in-Channel
+returns-in-Channel g c = λ notes before shows gives. behind_other c.args.profile notes _ c.args.reached.now c.args.kind.now (rw c.in-Channel.is refl) (rw c.in-Channel.is refl)

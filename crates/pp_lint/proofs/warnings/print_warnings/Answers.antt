@@ -3,7 +3,7 @@ use Rattle.std.specs.List.{flat_map}
 use Rattle.pp_lint.specs.LintText.{finding_line, is_something_found}
 use Rattle.pp_lint.proofs.CommentLemmas.{none_found, prints_none}
 use Rattle.pp_instructions.proofs.FieldLemmas.{few_fields}
-use Rattle.pp_lint.proofs.WarningLemmas.{warned_central, warned_dead, warned_name, warned_nothing, warned_start, warned_target, warned_word}
+use Rattle.pp_lint.proofs.WarningLemmas.{warned_central, warned_dead, warned_name, warned_nothing, warned_start, warned_channel, warned_target, warned_word}
 use Rattle.pp_text.specs.TextWriter.{Prints}
 use Rattle.pp_lint.proofs.warnings.print_warnings.Goals as goal
 
@@ -72,3 +72,9 @@ returns-in-Target-clause-prints g c = λ k notes shows number. prints_none _ _ _
 
 pub returns-in-Target-clause-found : goal.returns-in-Target-clause-found
 returns-in-Target-clause-found g c = λ k notes shows number. none_found _ (warned_target k c.args.line.now notes _ _ c.row_of-row.result c.in-Target.field-0 (rw c.of.ensures at (c.row_of-row.ensures.value (rw c.of.ensures c.requires.clean.none))) c.in-Target.is)
+
+pub returns-in-Channel-clause-prints : goal.returns-in-Channel-clause-prints
+returns-in-Channel-clause-prints g c = λ k notes shows number. prints_none _ _ _ (warned_channel k c.args.line.now notes _ _ c.row_of-row.result c.in-Channel.field-0 (rw c.of.ensures at (c.row_of-row.ensures.value (rw c.of.ensures c.requires.clean.none))) c.in-Channel.is)
+
+pub returns-in-Channel-clause-found : goal.returns-in-Channel-clause-found
+returns-in-Channel-clause-found g c = λ k notes shows number. none_found _ (warned_channel k c.args.line.now notes _ _ c.row_of-row.result c.in-Channel.field-0 (rw c.of.ensures at (c.row_of-row.ensures.value (rw c.of.ensures c.requires.clean.none))) c.in-Channel.is)

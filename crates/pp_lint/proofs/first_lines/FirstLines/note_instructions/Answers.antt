@@ -14,7 +14,7 @@ loop-i-preserved g c = λ notes shows.
     let so_far = c.loop-i.invariant notes shows in (
       so_far.0 ++ each c.in-Some.i,
       (
-        rw (← c.leads_to.ensures) (c.note_target.ensures _ so_far.1.0),
+        c.note_instruction.ensures _ so_far.1.0,
         append_assoc so_far.0 (each c.in-Some.i) _ ∙ ap (λ is. so_far.0 ++ flat_map each is) (sym c.in-Some.ensures.taken) ∙ so_far.1.1,
       ),
     )

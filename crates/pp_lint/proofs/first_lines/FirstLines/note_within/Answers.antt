@@ -30,3 +30,6 @@ returns-in-Dead g c = λ notes before shows gives. subst (Shows c.args.self.now)
 
 pub returns-in-Target : goal.returns-in-Target
 returns-in-Target g c = λ notes before shows gives. subst (Shows c.args.self.now) (same_within c.args.profile _ c.args.number c.args.kind.now notes (rw c.in-Target.is refl) (rw c.in-Target.is refl)) shows
+
+pub returns-in-Channel : goal.returns-in-Channel
+returns-in-Channel g c = λ notes before shows gives. subst (Shows c.args.self.now) (same_within c.args.profile _ c.args.number c.args.kind.now notes (rw c.in-Channel.is refl) (rw c.in-Channel.is refl)) shows
