@@ -101,4 +101,5 @@ alone_finding profile k line notes uses n first before i =
 
 -- a table shows for each number whether one of these instructions is for the channel of that number
 abbrev pub Names : Profile → List Bool → List Instruction → Type 0
-Names profile table is = (c : ℕ) → c < 64 → slice_index_or table c false ≡ list_any (is_for profile c) is
+Names profile table is = (c : ℕ) → c < 64
+    → slice_index_or table c false ≡ list_any (is_for profile c) is

@@ -232,8 +232,8 @@ fn is_alone(uses: &[ChannelUse], n: PpNo, c: Word6) -> bool
         .any(|one| one.n.get() == n.get() && one.c.get() == c.get())
 }
 
-/// Whether an instruction of processor n for a channel, in the line of a number, is its first in the
-/// deck; those before it in the line are for the channels seen.
+/// Whether an instruction of processor n for a channel, in the line of a number, is its first in
+/// the deck; those before it in the line are for the channels seen.
 fn is_first<A: Allocator>(
     firsts: &FirstLines<A>,
     n: PpNo,
