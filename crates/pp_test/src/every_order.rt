@@ -219,7 +219,7 @@ fn lines_of_ending<A: Allocator + Copy>(
         return Err(Memory);
     };
     let turns = order.len() as u32;
-    let mut lines = run_to_lines(alloc, profile, bytes, &mut loaded, order, turns)?;
+    let mut lines = run_to_lines(alloc, bytes, &mut loaded, order, turns)?;
     lines.extend_from_slice(findings)?;
     Ok(lines)
 }

@@ -31,7 +31,7 @@ pub fn lines_to_judge<A: Allocator + Copy>(
         (record { machine = loaded.old.machine; named = loaded.old.named }) text.items) }
 {
     deck_law();
-    let mut lines = run_to_lines(alloc, profile, bytes, loaded, first, turns)?;
+    let mut lines = run_to_lines(alloc, bytes, loaded, first, turns)?;
     write_findings(alloc, &mut lines, profile, bytes)?;
     Ok(lines)
 }

@@ -23,20 +23,20 @@ use std::io::Write;
 /// The deck is that of these bytes, which are read once more to find how it ends.
 pub(crate) fn run_to_lines<A: Allocator + Copy>(
     alloc: A,
-    profile: Profile,
     bytes: &[u8],
     loaded: &mut Deck<A>,
     first: &[PpNo],
     turns: u32,
 ) -> Result<Vec<u8, A>, Memory>
-    requires { deck_meaning profile bytes.now
+    requires { deck_meaning loaded.old.machine.profile bytes.now
         ≡ Ok (record { machine = loaded.old.machine; named = loaded.old.named }) }
     ensures { IfOk result (λ text. IsRunText first.now turns
         (record { machine = loaded.old.machine; named = loaded.old.named }) text.items) }
 {
     let shown = loaded.in_use();
+    let profile = loaded.machine.profile();
     let ending = ending_of_run(alloc, profile, bytes, first, turns)?;
-    let order = Order::of_run(alloc, first, loaded.machine.profile(), turns)?;
+    let order = Order::of_run(alloc, first, profile, turns)?;
     let Ok(counts) = run_counting_steps(&mut loaded.machine, &order) else {
         return Err(Memory);
     };

@@ -1,5 +1,5 @@
 use Rattle.std.proofs.Common.{◌≡◌, List, ◌++◌, length, Result, Ok, sym, ap, subst, ◌∙◌}
-use Rattle.pp_deck.specs.DeckMeaning.{LoadedDeck}
+use Rattle.pp_deck.specs.DeckMeaning.{LoadedDeck, deck_meaning}
 use Rattle.pp_deck.specs.declared.deck_fault.DeckFault.{DeckFault}
 use Rattle.pp_lint.specs.LintText.{lint_text}
 use Rattle.pp_test.specs.JudgedLines.{IsJudgedText}
@@ -7,6 +7,9 @@ use Rattle.pp_test.proofs.every_order.lines_of_ending.Goals as goal
 
 one_deck : (read : Result LoadedDeck DeckFault) (one other : LoadedDeck) → read ≡ Ok one → read ≡ Ok other → one ≡ other
 one_deck read one other is was = cc
+
+pub run_to_lines-requires : goal.run_to_lines-requires
+run_to_lines-requires g c = ap (λ profile. deck_meaning profile c.args.bytes.now) (c.deck_law.ensures.profile c.args.profile c.args.bytes.now _ c.in-Ok.ensures.ok) ∙ c.in-Ok.ensures.ok
 
 pub returns : goal.returns
 returns g c = λ deck meant.

@@ -1,6 +1,10 @@
 use Rattle.std.proofs.Common.{◌≡◌, ◌++◌, sym, ap, ◌∙◌}
+use Rattle.pp_deck.specs.DeckMeaning.{deck_meaning}
 use Rattle.pp_lint.specs.LintText.{lint_text}
 use Rattle.pp_test.proofs.judged_lines.lines_to_judge.Goals as goal
+
+pub run_to_lines-requires : goal.run_to_lines-requires
+run_to_lines-requires g c = ap (λ profile. deck_meaning profile c.args.bytes.now) (c.deck_law.ensures.profile c.args.profile c.args.bytes.now _ c.requires) ∙ c.requires
 
 pub returns : goal.returns
 returns g c =

@@ -18,12 +18,12 @@ returns g c =
     let ok = c.in-Ok in
     let ending = c.in_ok-ending.ending in
     let steps = run_order c.args.first.now before.profile c.args.turns in
-    let order : c.in_ok-order.order ≡ steps = c.in_ok-order.ensures ∙ ap (λ p. run_order c.args.first.now p c.args.turns) c.profile.ensures in
+    let order : c.in_ok-order.order ≡ steps = c.in_ok-order.ensures ∙ ap (λ p. run_order c.args.first.now p c.args.turns) c.profile-profile.ensures in
     let lines : List Bool → MachineState → List StepCounts → List ℕ = λ shown m counts. machine_lines shown m counts ending ++ sessions_text true shown m counts in
     let written : c.write_lines.new.writer.items ≡ c.new-text.result.items ++ lines c.in_use-shown.result after ok.counts = c.in_ok-write_lines.ensures in
     record {
       ending = ending;
-      ends = c.in_ok-ending.ensures deck c.requires;
+      ends = c.in_ok-ending.ensures deck (rw c.profile-profile.ensures c.requires);
       text_is = written ∙ ap (λ (items : List ℕ). items ++ lines c.in_use-shown.result after ok.counts) c.new-text.ensures.items
           ∙ ap (λ (flags : List Bool). lines flags after ok.counts) c.in_use-shown.ensures
           ∙ ap (λ (m : MachineState). lines (in_use deck) m ok.counts) (ok.ensures.run.ran ∙ ap (λ ns. run ns before) order)
