@@ -1,6 +1,6 @@
 -- Channels that one processor alone uses.
 use Rattle.std.proofs.Common.{◌≡◌, ℕ, ◌+◌, ◌-◌, ◌%◌, ◌^◌, ◌<◌, ◌≤◌, Bool, true, false, List, [], ◌∷◌, ◌++◌, Option, Some, None, get_or, length, map, replicate, take, refl, sym, ap, ◌∙◌, arith}
-use Rattle.std.specs.Prelude.{◌||◌, ◌==◌, codes, filter_map, if◌then◌else◌, is_some, option_to_list, slice_get, slice_index_or, slice_set}
+use Rattle.std.specs.Prelude.{◌||◌, ◌==◌, codes, filter_map, is_some, option_to_list, slice_index_or, slice_set}
 use Rattle.std.specs.List.{list_any, range_with_len}
 use Rattle.std.proofs.lemmas.Bool.{eq-eqb, eqb-true}
 use Rattle.std.proofs.lemmas.Grind.{get_or-set_at}
@@ -18,7 +18,8 @@ use Rattle.pp_instructions.specs.InstructionEffect.{channel_named}
 use Rattle.pp_listing.specs.ListedLine.{ListedLine, listed_line}
 use Rattle.pp_listing.specs.declared.listed_instructions.ListedInstruction.{ListedInstruction}
 use Rattle.pp_instructions.specs.declared.instruction.Instruction.{Instruction}
-use Rattle.pp_lint.specs.ChannelUse.{Names, alone_text, is_for, use_in, use_of_one, user}
+use Rattle.pp_lint.specs.ChannelUse.{alone_text, is_for, is_listed_for, use_of_one, user}
+use Rattle.pp_lint.specs.SeenChannels.{ShowsChannels}
 use Rattle.pp_lint.specs.StraightLine.{is_at}
 
 -- ---- what there is of some numbers, one after another
@@ -82,20 +83,18 @@ module _ (p : ℕ → Bool) (ws : List ℕ) (k at w : ℕ) (long : length ws ≡
 pub none_among : (p : ℕ → Bool) (ws : List ℕ) (k : ℕ) → length ws ≤ k → list_any p (take k ws) ≡ false → false ≡ list_any p ws
 none_among p ws k all none = sym none ∙ ap (list_any p) (take_all k ws all)
 
--- ---- the first instruction
+-- ---- instructions that a listing shows
 
-use_listed : (profile : Profile) (c n : ℕ) (i : ListedInstruction) (here second : Bool) → is_at c (channel_named profile i.word) ≡ here → i.has_second ≡ second
-    → use_in profile c n (listed_line i) ≡ (if here then Some (record { n = n; c = c; word = i.word }) else None)
-use_listed profile c n i here true is long = rw (long, is) refl
-use_listed profile c n i here false is long = rw (long, is) refl
+listed_for : (profile : Profile) (c : ℕ) (i : ListedInstruction) (second : Bool) → i.has_second ≡ second → is_listed_for profile c (listed_line i) ≡ is_for profile c i.word
+listed_for profile c i true long = rw long refl
+listed_for profile c i false long = rw long refl
 
-pub first_here : (profile : Profile) (c n : ℕ) (i : ListedInstruction) (old new : List ListedLine) → old ≡ listed_line i ∷ new → true ≡ is_at c (channel_named profile i.word)
-    → Some (record { n = n; c = c; word = i.word }) ≡ slice_get (filter_map (use_in profile c n) old) 0
-first_here profile c n i old new taken here = rw (taken, use_listed profile c n i true i.has_second (sym here) refl) refl
+module _ (profile : Profile) (c : ℕ) (i : ListedInstruction) (old new : List ListedLine) (taken : old ≡ listed_line i ∷ new) where
+  pub listed_here : true ≡ is_for profile c i.word → true ≡ list_any (is_listed_for profile c) old
+  listed_here here = rw (taken, listed_for profile c i i.has_second refl, ← here) refl
 
-pub first_later : (profile : Profile) (c n : ℕ) (i : ListedInstruction) (old new : List ListedLine) → old ≡ listed_line i ∷ new → false ≡ is_at c (channel_named profile i.word)
-    → slice_get (filter_map (use_in profile c n) new) 0 ≡ slice_get (filter_map (use_in profile c n) old) 0
-first_later profile c n i old new taken other = rw (taken, use_listed profile c n i false i.has_second (sym other) refl) refl
+  pub listed_later : false ≡ is_for profile c i.word → list_any (is_listed_for profile c) new ≡ list_any (is_listed_for profile c) old
+  listed_later other = rw (taken, listed_for profile c i i.has_second refl, ← other) refl
 
 -- ---- what is found
 
@@ -106,7 +105,7 @@ alone_pieces n m c digits is same = rw (is, same) refl
 
 -- ---- the channels of a line
 
-pub none_seen : (profile : Profile) → Names profile (replicate 64 false) []
+pub none_seen : (profile : Profile) → ShowsChannels profile (replicate 64 false) []
 none_seen profile = λ c small. get_or-replicate 64 c false false small
 
 apart : true ≡ false → ⊥
@@ -121,16 +120,16 @@ or_one true = refl
 or_one false = refl
 
 -- before and behind an instruction, by the channel that it is for
-module _ (profile : Profile) (table : List Bool) (before : List Instruction) (i : Instruction) (long : length table ≡ 64) (names : Names profile table before) where
-  with_named : (named : Option ℕ) (d : ℕ) → named ≡ channel_named profile i.word → list_any (is_for profile d) (before ++ i ∷ []) ≡ (list_any (is_for profile d) before || (is_at d named || false))
-  with_named named d is = list_any-append (is_for profile d) before (i ∷ []) ∙ ap (λ (c : Option ℕ). list_any (is_for profile d) before || (is_at d c || false)) (sym is)
+module _ (profile : Profile) (table : List Bool) (before : List Instruction) (i : Instruction) (long : length table ≡ 64) (names : ShowsChannels profile table before) where
+  with_named : (named : Option ℕ) (d : ℕ) → named ≡ channel_named profile i.word → list_any (λ (i : Instruction). is_for profile d i.word) (before ++ i ∷ []) ≡ (list_any (λ (i : Instruction). is_for profile d i.word) before || (is_at d named || false))
+  with_named named d is = list_any-append (λ (i : Instruction). is_for profile d i.word) before (i ∷ []) ∙ ap (λ (c : Option ℕ). list_any (λ (i : Instruction). is_for profile d i.word) before || (is_at d c || false)) (sym is)
 
-  pub nothing_seen : None ≡ channel_named profile i.word → Names profile table (before ++ i ∷ [])
-  nothing_seen is = λ d small. names d small ∙ sym (with_named None d is ∙ or_none (list_any (is_for profile d) before))
+  pub nothing_seen : None ≡ channel_named profile i.word → ShowsChannels profile table (before ++ i ∷ [])
+  nothing_seen is = λ d small. names d small ∙ sym (with_named None d is ∙ or_none (list_any (λ (i : Instruction). is_for profile d i.word) before))
 
-  pub one_seen : (c : ℕ) → Some c ≡ channel_named profile i.word → Names profile (slice_set table c true) (before ++ i ∷ [])
+  pub one_seen : (c : ℕ) → Some c ≡ channel_named profile i.word → ShowsChannels profile (slice_set table c true) (before ++ i ∷ [])
   one_seen c is = λ d small. by d small (c == d) refl ∙ sym (with_named (Some c) d is)
     where
-      by : (d : ℕ) → d < 64 → (b : Bool) → (c == d) ≡ b → slice_index_or (slice_set table c true) d false ≡ (list_any (is_for profile d) before || ((c == d) || false))
-      by d small true same = get_or-set_at table c d true false (sym (eqb-true c d same)) (omega (arith, long, small, eqb-true c d same)) ∙ sym (rw same (or_one (list_any (is_for profile d) before)))
-      by d small false other = get_or-set_other table c d true false (λ same. apart (sym (eq-eqb c d (sym same)) ∙ other)) ∙ names d small ∙ sym (rw other (or_none (list_any (is_for profile d) before)))
+      by : (d : ℕ) → d < 64 → (b : Bool) → (c == d) ≡ b → slice_index_or (slice_set table c true) d false ≡ (list_any (λ (i : Instruction). is_for profile d i.word) before || ((c == d) || false))
+      by d small true same = get_or-set_at table c d true false (sym (eqb-true c d same)) (omega (arith, long, small, eqb-true c d same)) ∙ sym (rw same (or_one (list_any (λ (i : Instruction). is_for profile d i.word) before)))
+      by d small false other = get_or-set_other table c d true false (λ same. apart (sym (eq-eqb c d (sym same)) ∙ other)) ∙ names d small ∙ sym (rw other (or_none (list_any (λ (i : Instruction). is_for profile d i.word) before)))

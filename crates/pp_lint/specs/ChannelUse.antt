@@ -1,7 +1,8 @@
 -- Channels that one processor alone uses: a listing of the deck shows an instruction of it for the
--- channel, and no other processor has a word that would be one. Function codes go to equipment,
--- which needs no second processor: a channel that a processor first sends one on is not looked at.
-use Rattle.std.specs.Prelude.{◌≡◌, ℕ, ◌+◌, ◌<◌, ◌==◌, ◌&&◌, Bool, false, not, List, [], ◌∷◌, ◌++◌, codes, filter_map, slice_get, slice_index_or, Option, None, Some, Result, Ok, Err, if◌then◌else◌}
+-- channel, and no other processor has a word that would be one. Pointed at is the first instruction
+-- for it in the lines of the processor. A function code goes to equipment, which needs no second
+-- processor: nothing is said if the first sends one.
+use Rattle.std.specs.Prelude.{ℕ, ◌+◌, ◌==◌, ◌&&◌, Bool, false, not, List, [], ◌∷◌, ◌++◌, codes, filter_map, Option, None, Some, Result, Ok, Err, if◌then◌else◌}
 use Rattle.std.specs.List.{list_any}
 use Rattle.pp_word.specs.Numeral.{octal, short_octal}
 use Rattle.pp_numbers.specs.ChannelNo.{all_channels}
@@ -21,36 +22,31 @@ use Rattle.pp_lint.specs.Warnings.{field_finding}
 use Rattle.pp_lint.specs.declared.channel_use.ChannelUse.{ChannelUse}
 use Rattle.pp_lint.specs.declared.row.Kind.TheVariants.{Channel}
 
--- the word of an instruction, if it is for channel c
-abbrev pub use_of : Profile → ℕ → ℕ → ℕ → Option ChannelUse
-use_of profile c n word = if is_at c (channel_named profile word)
-    then Some (record { n = n; c = c; word = word }) else None
+-- whether a word is an instruction for channel c
+abbrev pub is_for : Profile → ℕ → ℕ → Bool
+is_for profile c word = is_at c (channel_named profile word)
 
--- a line of a listing, in the section of processor n
-abbrev pub use_in : Profile → ℕ → ℕ → ListedLine → Option ChannelUse
-use_in profile c n (bare line) = None
-use_in profile c n (one_word place word m) = use_of profile c n word
-use_in profile c n (two_words place word m) = use_of profile c n word
+-- that of a line of a listing
+abbrev pub is_listed_for : Profile → ℕ → ListedLine → Bool
+is_listed_for profile c (bare line) = false
+is_listed_for profile c (one_word place word m) = is_for profile c word
+is_listed_for profile c (two_words place word m) = is_for profile c word
 
--- the first instruction of processor n for channel c that the listing shows
-unfoldable pub first_use : LoadedDeck → ℕ → ℕ → Option ChannelUse
-first_use deck c n = slice_get (filter_map (use_in deck.machine.profile c n)
-    (instructions_listed (processor_of n deck.machine))) 0
+-- whether the listing shows an instruction of processor n for channel c
+unfoldable pub is_listed : LoadedDeck → ℕ → ℕ → Bool
+is_listed deck c n = list_any (is_listed_for deck.machine.profile c)
+    (instructions_listed (processor_of n deck.machine))
 
 -- processor n, if the deck names it and it has a word that would be an instruction for channel c
 unfoldable pub user : LoadedDeck → ℕ → ℕ → Option ℕ
-user deck c n = if is_named deck.named n && list_any (λ word. is_at c
-    (channel_named deck.machine.profile word)) (processor_of n deck.machine).memory
+user deck c n = if is_named deck.named n
+    && list_any (is_for deck.machine.profile c) (processor_of n deck.machine).memory
     then Some n else None
 
--- one that is no function code
-abbrev pub unless_function : Option ChannelUse → Option ChannelUse
-unless_function None = None
-unless_function (Some one) = if sends_function one.word then None else Some one
-
--- of these processors, if it is only one, its first instruction for channel c
+-- of these processors, the only one, if the listing shows an instruction of it for channel c
 abbrev pub use_of_one : LoadedDeck → ℕ → List ℕ → Option ChannelUse
-use_of_one deck c (n ∷ []) = unless_function (first_use deck c n)
+use_of_one deck c (n ∷ []) =
+    if is_listed deck c n then Some (record { n = n; c = c }) else None
 use_of_one deck c ns = None
 
 -- of the only processor for a channel, which no dead start opens
@@ -75,15 +71,11 @@ alone_text n c = codes "channel " ++ octal 2 c ++ codes " is used by PP " ++ sho
 abbrev pub is_alone : List ChannelUse → ℕ → ℕ → Bool
 is_alone uses n c = list_any (λ one. one.n == n && one.c == c) uses
 
--- whether an instruction is for channel c
-abbrev pub is_for : Profile → ℕ → Instruction → Bool
-is_for profile c i = is_at c (channel_named profile i.word)
-
 -- whether an instruction for channel c, in line k of processor n, is its first in the deck: this is
--- the first line that has one, and those before it in the line are for others
+-- the first line that has one, and the instructions before it in the line are for others
 abbrev pub is_first : Profile → ℕ → List Note → ℕ → List Instruction → ℕ → Bool
 is_first profile k notes n before c = is_at (k + 1) (first_line notes (Channel n) c)
-    && not (list_any (is_for profile c) before)
+    && not (list_any (λ i. is_for profile c i.word) before)
 
 -- what is found in an instruction, by the channel that it is for
 abbrev pub found_for : ℕ → List ℕ → (ℕ → Bool) → ℕ → ℕ → Instruction → Option ℕ → List Finding
@@ -91,15 +83,10 @@ found_for k line is_found n first i None = []
 found_for k line is_found n first i (Some c) = if is_found c
     then field_finding (k + 1) line (field_of first i) (alone_text n c) ∷ [] else []
 
--- in an instruction of line k of processor n, behind those before it in the line, whose first word
--- is that of place `first`
+-- what is found in an instruction of processor n, in line k, whose first word is that of place
+-- `first`: these instructions are before it in the line
 unfoldable pub alone_finding : Profile → ℕ → List ℕ → List Note → List ChannelUse → ℕ → ℕ
     → List Instruction → Instruction → List Finding
 alone_finding profile k line notes uses n first before i =
-    found_for k line (λ c. is_first profile k notes n before c && is_alone uses n c) n first i
-    (channel_named profile i.word)
-
--- a table shows for each number whether one of these instructions is for the channel of that number
-abbrev pub Names : Profile → List Bool → List Instruction → Type 0
-Names profile table is = (c : ℕ) → c < 64
-    → slice_index_or table c false ≡ list_any (is_for profile c) is
+    found_for k line (λ c. is_first profile k notes n before c && is_alone uses n c
+    && not (sends_function i.word)) n first i (channel_named profile i.word)

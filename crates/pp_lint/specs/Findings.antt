@@ -62,8 +62,7 @@ found_without_fault profile k line notes alone reached processor said =
     ++ run_findings profile k line notes alone reached (given processor said).kind said
     ++ comment_findings k line said
 
--- what is found in line k of these lines; of channels that one processor alone uses, these are the
--- first instructions
+-- what is found in line k of these lines, by the channels that one processor alone uses
 abbrev pub findings_at : Profile → List (List ℕ) → List ChannelUse → ℕ → List Finding
 findings_at profile lines alone k =
     let line = slice_index_or lines k [] in

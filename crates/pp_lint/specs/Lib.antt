@@ -15,3 +15,4 @@ pub mod LineFault
 pub mod WordsOfLine
 pub mod FirstLines
 pub mod RowOfLine
+pub mod SeenChannels

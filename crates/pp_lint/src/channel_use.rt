@@ -1,18 +1,17 @@
 //! Channels that one processor alone uses.
 
-ghost use Rattle.std.specs.Prelude.{ℕ, ◌≡◌, ◌+◌, ◌++◌, ◌∷◌, [], IfOk, List, filter_map, option_to_list, slice_get};
+ghost use Rattle.std.specs.Prelude.{ℕ, ◌≡◌, ◌+◌, ◌++◌, ◌∷◌, [], IfOk, List, filter_map, option_to_list};
 ghost use Rattle.std.specs.List.{flat_map, list_any};
-ghost use Rattle.pp_instructions.specs.InstructionEffect.{channel_named};
-ghost use Rattle.pp_lint.specs.ChannelUse.{Names, alone_finding, alone_text, alone_use, alone_uses, first_use, is_alone, is_first, unless_function, use_in, use_of_one, user};
+ghost use Rattle.pp_lint.specs.ChannelUse.{alone_finding, alone_text, alone_use, alone_uses, is_alone, is_first, is_for, is_listed, is_listed_for, use_of_one, user};
 ghost use Rattle.pp_lint.specs.FirstLines.{Shows};
 ghost use Rattle.pp_lint.specs.Given.{Note};
 ghost use Rattle.pp_lint.specs.LintText.{finding_line, is_something_found};
-ghost use Rattle.pp_lint.specs.StraightLine.{is_at};
+ghost use Rattle.pp_lint.specs.SeenChannels.{ShowsChannels};
 ghost use Rattle.pp_numbers.specs.PpNo.{all_processors};
 ghost use Rattle.pp_instructions.specs.declared.instruction.Instruction.{Instruction};
 ghost use Rattle.pp_text.specs.TextWriter.{Prints};
 
-use crate::first_lines::{FirstLines, NUMBERS};
+use crate::first_lines::{D_VALUES, FirstLines};
 use crate::line_findings::print_place;
 use crate::row::Kind;
 use crate::straight_line::field_of;
@@ -29,16 +28,14 @@ use pp_word::{PLACES, Word6, Word12};
 use std::alloc::Allocator;
 use std::io::Write;
 
-/// An instruction of processor n for channel c.
+/// Channel c, which processor n alone uses.
 #[derive(Clone, Copy)]
 pub(crate) struct ChannelUse {
     pub(crate) n: PpNo,
     pub(crate) c: ChannelNo,
-    pub(crate) word: Word12,
 }
 
-/// The first instructions that a listing shows for channels that one processor alone uses, in order
-/// of channel.
+/// The channels that one processor alone uses, in order.
 pub(crate) fn alone_uses<A: Allocator>(
     alloc: A,
     deck: &Deck<A>,
@@ -55,8 +52,8 @@ pub(crate) fn alone_uses<A: Allocator>(
     Ok(uses)
 }
 
-/// The first instruction for a channel, if one processor alone has words for it, the instruction
-/// sends no function code, and no dead start opens the channel.
+/// A channel, if one processor alone has words for it, a listing shows one as an instruction, and
+/// no dead start opens the channel.
 #[tactic(auto, unfolding(crate::specs::ChannelUse::alone_use))]
 fn alone_use<A: Allocator>(deck: &Deck<A>, c: ChannelNo) -> Option<ChannelUse>
     ensures { result ≡ alone_use
@@ -68,8 +65,7 @@ fn alone_use<A: Allocator>(deck: &Deck<A>, c: ChannelNo) -> Option<ChannelUse>
     use_of_one(deck, c)
 }
 
-/// The first instruction for a channel of the only processor that has words for it, unless it sends
-/// a function code.
+/// A channel, if one processor alone has words for it, and a listing shows one as an instruction.
 fn use_of_one<A: Allocator>(deck: &Deck<A>, c: ChannelNo) -> Option<ChannelUse>
     ensures { result ≡ use_of_one (record { machine = deck.now.machine; named = deck.now.named }) c
         (filter_map (user (record { machine = deck.now.machine; named = deck.now.named }) c)
@@ -87,39 +83,29 @@ fn use_of_one<A: Allocator>(deck: &Deck<A>, c: ChannelNo) -> Option<ChannelUse>
     use_of(deck, c, found)
 }
 
-/// The first instruction for a channel of a processor, if there is one, unless it sends a function
-/// code.
+/// A channel, if a listing shows an instruction for it of the processor that is found.
 fn use_of<A: Allocator>(deck: &Deck<A>, c: ChannelNo, found: Option<PpNo>) -> Option<ChannelUse>
     ensures { result ≡ use_of_one (record { machine = deck.now.machine; named = deck.now.named }) c
         (option_to_list found) }
 {
     let n = found?;
-    unless_function(first_use(deck, c, n))
-}
-
-/// The first instruction of a processor for a channel that a listing of the deck shows.
-#[tactic(auto, unfolding(crate::specs::ChannelUse::first_use))]
-fn first_use<A: Allocator>(deck: &Deck<A>, c: ChannelNo, n: PpNo) -> Option<ChannelUse>
-    ensures { result ≡ first_use
-        (record { machine = deck.now.machine; named = deck.now.named }) c n }
-{
-    first_of(
-        deck.machine.profile(),
-        c,
-        n,
-        &mut ListedInstructions::of(deck.machine.pp(n)),
-    )
-}
-
-/// An instruction, unless it sends a function code.
-fn unless_function(found: Option<ChannelUse>) -> Option<ChannelUse>
-    ensures { result ≡ unless_function found }
-{
-    let found = found?;
-    if instruction_of(found.word).sends_function() {
+    if !is_listed(deck, c, n) {
         return None;
     }
-    Some(found)
+    Some(ChannelUse { n, c })
+}
+
+/// Whether a listing of the deck shows an instruction of a processor for a channel.
+#[tactic(auto, unfolding(crate::specs::ChannelUse::is_listed))]
+fn is_listed<A: Allocator>(deck: &Deck<A>, c: ChannelNo, n: PpNo) -> bool
+    ensures { result ≡ is_listed
+        (record { machine = deck.now.machine; named = deck.now.named }) c n }
+{
+    has_instruction_for(
+        deck.machine.profile(),
+        c,
+        &mut ListedInstructions::of(deck.machine.pp(n)),
+    )
 }
 
 /// A processor, if the deck names it and it has a word that would be an instruction for a channel.
@@ -136,7 +122,7 @@ fn user<A: Allocator>(deck: &Deck<A>, c: ChannelNo, n: PpNo) -> Option<PpNo>
 
 /// Whether a processor has a word that would be an instruction for a channel.
 fn has_word_for(profile: Profile, c: ChannelNo, pp: &Pp) -> bool
-    ensures { result ≡ list_any (λ word. is_at c (channel_named profile word)) pp.now.memory }
+    ensures { result ≡ list_any (is_for profile c) pp.now.memory }
 {
     for place in 0..PLACES {
         if is_for(profile, c, pp.get(Word12::truncated(place))) {
@@ -146,63 +132,56 @@ fn has_word_for(profile: Profile, c: ChannelNo, pp: &Pp) -> bool
     false
 }
 
-/// The first of these instructions of a processor that is for a channel.
-fn first_of(
+/// Whether one of these instructions is for a channel.
+fn has_instruction_for(
     profile: Profile,
     c: ChannelNo,
-    n: PpNo,
     instructions: &mut ListedInstructions,
-) -> Option<ChannelUse>
-    ensures { result ≡ slice_get (filter_map (use_in profile c n) instructions.old) 0 }
+) -> bool
+    ensures { result ≡ list_any (is_listed_for profile c) instructions.old }
 {
     while let Some(i) = instructions.next_instruction() {
         if is_for(profile, c, i.word) {
-            return Some(ChannelUse { n, c, word: i.word });
+            return true;
         }
     }
-    None
+    false
 }
 
 /// Whether a word is an instruction for a channel.
 fn is_for(profile: Profile, c: ChannelNo, word: Word12) -> bool
-    ensures { result ≡ is_at c (channel_named profile word) }
+    ensures { result ≡ is_for profile c word }
 {
-    match instruction_of(word).channel_named(profile) {
+    let i = Instruction {
+        place: Word12::ZERO,
+        word,
+        second: None,
+    };
+    match i.channel_named(profile) {
         Some(named) => named.get() == c.get(),
         None => false,
     }
 }
 
-/// An instruction of which the first word is known.
-fn instruction_of(word: Word12) -> Instruction
-    ensures { result.word ≡ word }
-{
-    Instruction {
-        place: Word12::ZERO,
-        word,
-        second: None,
-    }
-}
-
 /// Prints that a processor alone uses a channel, if this instruction of a line is its first for the
-/// channel, and returns whether that is so.
+/// channel, and sends no function code; and returns whether that is so.
 #[tactic(auto, unfolding(crate::specs::ChannelUse::alone_finding))]
 pub(crate) fn print_alone_finding<A: Allocator, W: Write>(
     text: &mut TextWriter<W>,
     deck: &WholeDeck<A>,
     words: &WordLine,
     columns: &mut Columns,
-    seen: &[bool; NUMBERS],
+    seen: &[bool; D_VALUES],
     i: &Instruction,
 ) -> bool
     ensures same { columns.new ≡ columns.old }
     ensures prints { (k : ℕ) (notes : List Note) (before : List Instruction)
-        → Shows deck.now.firsts notes → Names words.now.profile seen.now before
+        → Shows deck.now.firsts notes → ShowsChannels words.now.profile seen.now before
         → words.now.number ≡ k + 1 → Prints W.contents text.old text.new (flat_map finding_line
         (alone_finding words.now.profile k columns.old notes deck.now.alone.items words.now.n
         words.now.first before i.now)) }
     ensures found { (k : ℕ) (notes : List Note) (before : List Instruction)
-        → Shows deck.now.firsts notes → Names words.now.profile seen.now before
+        → Shows deck.now.firsts notes → ShowsChannels words.now.profile seen.now before
         → words.now.number ≡ k + 1 → result ≡ is_something_found
         (alone_finding words.now.profile k columns.old notes deck.now.alone.items words.now.n
         words.now.first before i.now) }
@@ -211,7 +190,7 @@ pub(crate) fn print_alone_finding<A: Allocator, W: Write>(
         return false;
     };
     let is_first = is_first(&deck.firsts, words.n, words.number, seen, c);
-    if !is_first || !is_alone(&deck.alone, words.n, c) {
+    if !is_first || !is_alone(&deck.alone, words.n, c) || i.sends_function() {
         return false;
     }
     print_place(
@@ -238,23 +217,23 @@ fn is_first<A: Allocator>(
     firsts: &FirstLines<A>,
     n: PpNo,
     number: u64,
-    seen: &[bool; NUMBERS],
+    seen: &[bool; D_VALUES],
     c: Word6,
 ) -> bool
     ensures { (profile : Profile) (k : ℕ) (notes : List Note) (before : List Instruction)
-        → Shows firsts.now notes → Names profile seen.now before → number ≡ k + 1
+        → Shows firsts.now notes → ShowsChannels profile seen.now before → number ≡ k + 1
         → result ≡ is_first profile k notes n before c }
 {
     let line = firsts.line_of(&Kind::Channel(n), usize::from(c.get()));
     u64::from(line) == number && !seen[usize::from(c.get())]
 }
 
-/// Keeps for which channel an instruction of a line is.
+/// Marks the channel of an instruction as seen.
 #[tactic(auto, using(crate::proofs::ChannelUseLemmas::one_seen, // or it is for none
 crate::proofs::ChannelUseLemmas::nothing_seen))]
-pub(crate) fn see(seen: &mut [bool; NUMBERS], profile: Profile, i: &Instruction)
-    ensures { (before : List Instruction) → Names profile seen.old before
-        → Names profile seen.new (before ++ i.now ∷ []) }
+pub(crate) fn see(seen: &mut [bool; D_VALUES], profile: Profile, i: &Instruction)
+    ensures { (before : List Instruction) → ShowsChannels profile seen.old before
+        → ShowsChannels profile seen.new (before ++ i.now ∷ []) }
 {
     if let Some(c) = i.channel_named(profile) {
         seen[usize::from(c.get())] = true;

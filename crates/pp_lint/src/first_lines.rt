@@ -44,8 +44,8 @@ const KEYS: usize = 296_234;
 /// How many places a processor's memory has.
 const PLACES: usize = 0o10000;
 
-/// How many numbers the d of an instruction can be.
-pub(crate) const NUMBERS: usize = 0o100;
+/// How many values the d of an instruction can have.
+pub(crate) const D_VALUES: usize = 0o100;
 
 impl<A: Allocator> Model for FirstLines<A> {
     ghost use Rattle.std.specs.Prelude.{◌≡◌, ℕ, List, length};
@@ -201,6 +201,6 @@ fn key_of(kind: &Kind, place: usize) -> usize
         Kind::Central => CENTRAL + place,
         Kind::Dead => DEAD + place,
         Kind::Target(n) => TARGETS + PLACES * n.index() + place,
-        Kind::Channel(n) => CHANNELS + NUMBERS * n.index() + place,
+        Kind::Channel(n) => CHANNELS + D_VALUES * n.index() + place,
     }
 }

@@ -93,7 +93,7 @@ fn whole_deck<A: Allocator + Copy>(
     Ok(WholeDeck { firsts, alone })
 }
 
-/// The first instructions for channels that one processor alone uses; none if the deck has a fault.
+/// The channels that one processor alone uses; none if the deck has a fault.
 fn alone_in<A: Allocator + Copy>(
     alloc: A,
     profile: Profile,

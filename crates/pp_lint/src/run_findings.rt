@@ -1,4 +1,4 @@
-//! What is found in a line's instructions by how they run.
+//! What is found in a line's instructions.
 
 ghost use Rattle.std.specs.Prelude.{ℕ, ◌≡◌, ◌+◌, ◌≤◌, ◌^◌, List, []};
 ghost use Rattle.std.specs.List.{flat_map};
@@ -12,7 +12,7 @@ ghost use Rattle.pp_lint.specs.WordsOfLine.{HasNoFault};
 ghost use Rattle.pp_text.specs.TextWriter.{Prints};
 
 use crate::channel_use::{print_alone_finding, see};
-use crate::first_lines::NUMBERS;
+use crate::first_lines::D_VALUES;
 use crate::line_fault::Before;
 use crate::row::{Kind, row_of};
 use crate::straight_line::{behind, is_reached, print_fault_finding};
@@ -26,8 +26,8 @@ use pp_word::Word12;
 use std::alloc::Allocator;
 use std::io::Write;
 
-/// Prints what is found in the instructions of a line without a fault by how they run, and returns
-/// whether something is.
+/// Prints what is found in the instructions of a line without a fault, and returns whether
+/// something is.
 pub(crate) fn print_run_findings<A: Allocator, W: Write>(
     text: &mut TextWriter<W>,
     deck: &WholeDeck<A>,
@@ -82,7 +82,7 @@ fn print_instruction_findings<A: Allocator, W: Write>(
         deck.now.alone.items words.now.n words.now.first reached.now [] instructions.old) }
 {
     let mut columns = Columns::of(words.line);
-    let mut seen = [false; NUMBERS];
+    let mut seen = [false; D_VALUES];
     let mut reached = *reached;
     let mut is_found = false;
     while let Some(i) = instructions.next_instruction() {
