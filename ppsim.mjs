@@ -6,14 +6,14 @@
 import { readFileSync } from 'node:fs';
 import { inflateSync } from 'node:zlib';
 
-const TAKEN = 'const MODULE = "', MOST = 1 << 30; // bytes for one call
+const TAKEN = 'const MODULE = ', MOST = 1 << 30; // bytes for one call
 const aligned = n => Math.ceil(n / 16) * 16;
 
 /** The module of the page. */
 function library() {
   const page = readFileSync(new URL('ppsim.html', import.meta.url), 'latin1');
   const start = page.indexOf(TAKEN) + TAKEN.length;
-  const packed = Buffer.from(page.slice(start, page.indexOf('"', start)), 'base64url');
+  const packed = Buffer.from(JSON.parse(page.slice(start, page.indexOf(';', start))), 'base64url');
   return new WebAssembly.Module(inflateSync(packed));
 }
 
