@@ -3,26 +3,4 @@
 #![tactic(auto)]
 
 #[cfg(test)]
-mod ample;
-#[cfg(test)]
-mod cases;
-#[cfg(test)]
-mod devices;
-#[cfg(test)]
-mod entry;
-#[cfg(test)]
-mod files;
-#[cfg(test)]
-mod fronts;
-#[cfg(test)]
-mod long_pair;
-#[cfg(test)]
-mod pieces;
-#[cfg(test)]
-mod requests;
-#[cfg(test)]
-mod runs;
-#[cfg(test)]
-mod sweep;
-#[cfg(test)]
-mod threads;
+mod tests;

@@ -1,7 +1,7 @@
 //! Requests for memory: those that are refused in a long text, and those that do not grow with a
 //! run.
 
-use crate::runs::{ending, requests_refused, whole};
+use super::runs::{ending, requests_refused, whole};
 use std::fs::Files;
 use std::sync::Wait;
 use std::test::Fail;

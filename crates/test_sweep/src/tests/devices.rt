@@ -1,6 +1,6 @@
 //! Readers and writers that give up, as a pipe whose other end is closed does.
 
-use crate::runs::{Run, ends, is_read_fault, is_write_fault};
+use super::runs::{Run, ends, is_read_fault, is_write_fault};
 use pp_sim::run_program;
 use std::fs::Files;
 use std::io::{self, ErrorKind, Read};

@@ -1,6 +1,6 @@
 //! The system's own devices that fail or never end, as the program's streams.
 
-use crate::runs::ends;
+use super::runs::ends;
 use pp_sim::run_program;
 use std::fs::{File, Files, OpenOptions};
 use std::io::{Read, Write};

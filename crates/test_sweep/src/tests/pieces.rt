@@ -1,6 +1,6 @@
 //! Texts that are longer than a piece in which they go out, and writers that give up in the middle.
 
-use crate::runs::{Run, ends, is_write_fault};
+use super::runs::{Run, ends, is_write_fault};
 use std::alloc::Global;
 use std::fs::Files;
 use std::io::{self, ErrorKind, Write};

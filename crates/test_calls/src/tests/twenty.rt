@@ -1,6 +1,6 @@
 //! Turns of the barrel on both machines, and steps of processors that it leaves out.
 
-use crate::processor::shown;
+use super::processor::shown;
 use pp_machine::{Machine, Outcome, PROCESSORS, Pp, PpNo, PpState, Profile};
 use pp_word::Word18;
 use std::alloc::Global;

@@ -1,7 +1,7 @@
 //! The longest run of two processors, each in a thread of its own, over an allocator that counts
 //! the requests and refuses none: its text, line by line.
 
-use crate::ample::text_by_threads;
+use super::ample::text_by_threads;
 use pp_machine::Profile;
 use std::alloc::{AllocError, Global};
 use std::test::Fail;

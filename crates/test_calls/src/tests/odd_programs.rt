@@ -1,6 +1,6 @@
 //! Drawings of runs of odd programs are well-formed.
 
-use crate::well_formed::is_well_formed;
+use super::well_formed::is_well_formed;
 use pp_draw::{Window, run_seeing_steps, write_drawing};
 use pp_machine::{CentralFault, Machine, PROCESSORS, PpNo, Profile};
 use pp_run::Order;

@@ -1,5 +1,5 @@
 use Rattle.std.proofs.Common.{◌≡◌}
-use Rattle.test_calls.proofs.lines.answers.Given as goal
+use Rattle.test_calls.proofs.tests.lines.answers.Given as goal
 
 abbrev pub invariant-loop-op : goal.invariant-loop-op
 invariant-loop-op l = record {

@@ -1,7 +1,7 @@
 //! Each case again, with one request refused, with a reader that fails, with a writer that fails.
 
-use crate::cases::{AT_ONCE, CASES};
-use crate::runs::{Run, ends, is_read_fault, is_write_fault, requests_refused, whole};
+use super::cases::{AT_ONCE, CASES};
+use super::runs::{Run, ends, is_read_fault, is_write_fault, requests_refused, whole};
 use std::fs::Files;
 use std::io::ErrorKind;
 use std::sync::Wait;

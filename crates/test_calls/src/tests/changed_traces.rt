@@ -1,6 +1,6 @@
 //! Lawful traces, and the same with one change: a word altered, an event dropped, doubled or moved.
 
-use crate::told::{Form, Stand, Told, after, first_unlawful, text_of};
+use super::told::{Form, Stand, Told, after, first_unlawful, text_of};
 use pp_channel::{CHANNELS, Event};
 use pp_check::check_trace;
 use std::alloc::{AllocError, Global};

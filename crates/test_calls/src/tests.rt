@@ -1,0 +1,16 @@
+mod changed_traces;
+mod channel_numbers;
+mod channel_words;
+mod fault_texts;
+mod large;
+mod limits;
+mod lines;
+mod machine;
+mod numbers;
+mod odd_programs;
+mod one_channel;
+mod processor;
+mod told;
+mod twenty;
+mod well_formed;
+mod words;

@@ -1,0 +1,12 @@
+mod ample;
+mod cases;
+mod devices;
+mod entry;
+mod files;
+mod fronts;
+mod long_pair;
+mod pieces;
+mod requests;
+mod runs;
+mod sweep;
+mod threads;
