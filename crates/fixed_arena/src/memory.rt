@@ -1,13 +1,8 @@
-//! The memory that an arena is in, as its owner passes it.
-
 ghost use Rattle.std.specs.Prelude.{◌≡◌, ◌-◌, ◌%◌, ◌≤◌};
 ghost use Rattle.fixed_arena.specs.Units.{IsWhole, bytes_at};
 
 use core::mem::replace_with;
 use std::marker::Model;
-
-/// The alignment of memory, and what its size is a multiple of, in bytes.
-pub(crate) const UNIT: usize = 16;
 
 /// `size` bytes in which nothing lies, at a pointer that is aligned to 16; `size` is a multiple of
 /// 16, below 2 ^ 63.

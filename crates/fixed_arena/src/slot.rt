@@ -1,10 +1,7 @@
-//! The memory as an allocator of one block, which is the whole of it.
-
 ghost use Rattle.std.specs.Prelude.{◌≡◌, ◌≤◌, ◌⊎◌, IfSome};
 ghost use Rattle.fixed_arena.specs.Units.{IsWhole, whole_block_token};
 
 use crate::Memory;
-use crate::memory::UNIT;
 use std::alloc::{AllocError, Allocator};
 use std::cell::Cell;
 
@@ -53,7 +50,7 @@ impl Slot {
     fn take(&self, size: usize, align: usize) -> Option<Memory>
         ensures { IfSome result (λ m. (m.size ≡ self.now.size) × (size ≤ m.size) × (align ≤ 16)) }
     {
-        if align > UNIT {
+        if align > 16 {
             return None;
         }
         let (room, memory) = self.memory.replace(None)?.with_size();
