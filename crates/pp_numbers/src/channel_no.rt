@@ -1,5 +1,6 @@
 ghost use Rattle.std.specs.Prelude.{◌≡◌, ℕ, ◌<◌, ◌↔◌, IsTrue, IsSome, IfSome};
-ghost use Rattle.pp_numbers.specs.ChannelNo.{channel_count, names_channel, channel_index, channel_number};
+ghost use Rattle.std.proofs.Common.{ap};
+ghost use Rattle.pp_numbers.specs.ChannelNo.{channel_count, names_channel, channel_index, channel_number, channel_places};
 
 use std::marker::Model;
 
@@ -14,10 +15,6 @@ pub struct ChannelNo {
 }
 
 impl Model for ChannelNo {
-    ghost use Rattle.std.specs.Prelude.{ℕ, IsTrue};
-    ghost use Rattle.std.proofs.Common.{ap};
-    ghost use Rattle.pp_numbers.specs.ChannelNo.{names_channel, channel_index, channel_number, channel_places};
-
     ghost Value = { ℕ };
 
     ghost view = { λ c. channel_number c.place };
@@ -52,11 +49,7 @@ impl ChannelNo {
         ensures value { result ≡ self }
         ensures names { IsTrue (names_channel result) }
     {
-        if self.place < 0o14 {
-            self.place
-        } else {
-            self.place + 4
-        }
+        self.place + if self.place < 0o14 { 0 } else { 4 }
     }
 
     /// Its place in a list of all channels in order of number.

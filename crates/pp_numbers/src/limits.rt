@@ -11,8 +11,6 @@ pub struct Limits {
 }
 
 impl Model for Limits {
-    ghost use Rattle.pp_numbers.specs.Limits.{RunLimits, AreLimits};
-
     ghost Value = { RunLimits };
 
     ghost view = { λ l. record { steps = l.steps; patience = l.patience } };

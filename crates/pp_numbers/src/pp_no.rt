@@ -1,5 +1,6 @@
 ghost use Rattle.std.specs.Prelude.{◌≡◌, ℕ, ◌+◌, ◌%◌, ◌<◌, ◌↔◌, IsTrue, IsSome, IfSome};
-ghost use Rattle.pp_numbers.specs.PpNo.{processor_count, names_processor, processor_index, processor_number};
+ghost use Rattle.std.proofs.Common.{ap};
+ghost use Rattle.pp_numbers.specs.PpNo.{processor_count, names_processor, processor_index, processor_number, processor_places};
 
 use std::marker::Model;
 
@@ -14,10 +15,6 @@ pub struct PpNo {
 }
 
 impl Model for PpNo {
-    ghost use Rattle.std.specs.Prelude.{ℕ, IsTrue};
-    ghost use Rattle.std.proofs.Common.{ap};
-    ghost use Rattle.pp_numbers.specs.PpNo.{names_processor, processor_index, processor_number, processor_places};
-
     ghost Value = { ℕ };
 
     ghost view = { λ n. processor_number n.place };
@@ -52,11 +49,7 @@ impl PpNo {
         ensures value { result ≡ self }
         ensures names { IsTrue (names_processor result) }
     {
-        if self.place < 0o12 {
-            self.place
-        } else {
-            self.place + 6
-        }
+        self.place + if self.place < 0o12 { 0 } else { 6 }
     }
 
     /// Its place in a list of all processors in the barrel's order.
