@@ -1,5 +1,3 @@
-//! Shifts and logic, bit by bit.
-
 ghost use Rattle.std.specs.Prelude.{ℕ, ◌≡◌, ◌+◌, ◌-◌, ◌%◌, ◌<◌, ◌≤◌, not, ◌&&◌, if◌then◌else◌};
 ghost use Rattle.pp_word.specs.Bits.{bit, shift, complement, logical_product, logical_difference, selective_clear};
 

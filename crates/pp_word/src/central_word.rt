@@ -1,5 +1,3 @@
-//! A central word and its five parts.
-
 ghost use Rattle.std.specs.Prelude.{◌≡◌, ◌%◌, ◌^◌};
 ghost use Rattle.pp_word.specs.CentralWord.{parts_of, joined};
 
@@ -8,7 +6,6 @@ use crate::{Word12, Word60};
 /// Central memory has at most 400000 words (octal).
 pub const MOST_CENTRAL_WORDS: u32 = 0o400_000;
 
-/// The low twelve bits of a number.
 fn lowest_part(bits: u64) -> Word12
     ensures { result ≡ bits % 2 ^ 12 }
 {

@@ -1,5 +1,3 @@
-//! Numbers in digits: how they are read, and their law.
-
 ghost use Rattle.std.specs.Prelude.{◌≡◌, ℕ, ◌<◌, ◌≤◌, ◌^◌, IfSome, Some, length};
 ghost use Rattle.pp_word.specs.Numeral.{IsNumeral, decimal, numeral, octal};
 

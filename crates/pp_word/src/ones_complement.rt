@@ -1,5 +1,3 @@
-//! Sum and difference in ones' complement.
-
 ghost use Rattle.std.specs.Prelude.{◌≡◌};
 ghost use Rattle.pp_word.specs.OnesComplement.{sum, difference, IsSum, IsDifference};
 

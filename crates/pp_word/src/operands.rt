@@ -1,5 +1,4 @@
-/// What comes after the mnemonic of an instruction, whose lower six bits are d and whose second
-/// word is m.
+/// What follows an instruction's mnemonic: d is the lower six bits of its word, m its second word.
 #[derive(Clone, Copy)]
 pub enum Operands {
     /// `mmmm`, and `,dd` if d is not 00: a place, and the place of its index.

@@ -1,4 +1,5 @@
-ghost use Rattle.std.specs.Prelude.{ℕ, ◌≡◌, ◌%◌, ◌^◌, ◌<◌, ◌↔◌, IsSome, IfSome};
+ghost use Rattle.std.specs.Prelude.{ℕ, ◌≡◌, ◌%◌, ◌^◌, ◌<◌, ◌↔◌, IsSome, IfSome, Some};
+ghost use Rattle.pp_word.specs.Numeral.{octal};
 
 use crate::Word6;
 use std::fmt::{self, Display, Formatter, Write};
@@ -65,20 +66,11 @@ impl From<Word6> for Word12 {
 
 /// In four octal digits.
 impl Display for Word12 {
-    ghost use Rattle.std.specs.Prelude.{Some};
-    ghost use Rattle.pp_word.specs.Numeral.{octal};
-
     ghost output = { λ w. Some (octal 4 w) };
 
     fn fmt<W: Write>(&self, f: &mut Formatter<W>) -> fmt::Result {
         let n = self.get();
-        write!(
-            f,
-            "{}{}{}{}",
-            n / 8 / 8 / 8 % 8,
-            n / 8 / 8 % 8,
-            n / 8 % 8,
-            n % 8
-        )
+        let upper = n / 8 / 8;
+        write!(f, "{}{}{}{}", upper / 8 % 8, upper % 8, n / 8 % 8, n % 8)
     }
 }

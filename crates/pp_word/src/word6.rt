@@ -1,4 +1,5 @@
-ghost use Rattle.std.specs.Prelude.{ℕ, ◌≡◌, ◌%◌, ◌^◌, ◌<◌, ◌↔◌, IsSome, IfSome};
+ghost use Rattle.std.specs.Prelude.{ℕ, ◌≡◌, ◌%◌, ◌^◌, ◌<◌, ◌↔◌, IsSome, IfSome, Some};
+ghost use Rattle.pp_word.specs.Numeral.{octal};
 
 use std::fmt::{self, Display, Formatter, Write};
 use std::marker::Model;
@@ -47,9 +48,6 @@ impl Word6 {
 
 /// In two octal digits.
 impl Display for Word6 {
-    ghost use Rattle.std.specs.Prelude.{Some};
-    ghost use Rattle.pp_word.specs.Numeral.{octal};
-
     ghost output = { λ w. Some (octal 2 w) };
 
     fn fmt<W: Write>(&self, f: &mut Formatter<W>) -> fmt::Result {

@@ -1,4 +1,8 @@
-ghost use Rattle.std.specs.Prelude.{◌≡◌, ◌%◌, ◌^◌, ◌<◌, ◌↔◌, IsSome, IfSome};
+ghost use Rattle.std.specs.Prelude.{◌≡◌, ℕ, ◌%◌, ◌^◌, ◌<◌, ◌↔◌, IsSome, IfSome, length, nat_eq, slice_index};
+ghost use Rattle.std.specs.Cmp.Rules.{comparing};
+ghost use Rattle.std.specs.Int.{from_le_bytes, to_le_bytes, w64};
+ghost use Rattle.std.proofs.Common.{ap, refl, rules};
+ghost use Rattle.std.proofs.lemmas.Nat.{le_bytes_8};
 
 use std::marker::Model;
 
@@ -11,11 +15,6 @@ pub struct Word60 {
 }
 
 impl Model for Word60 {
-    ghost use Rattle.std.specs.Prelude.{◌≡◌, ℕ, ◌^◌, ◌<◌, length, slice_index};
-    ghost use Rattle.std.specs.Int.{from_le_bytes, to_le_bytes, w64};
-    ghost use Rattle.std.proofs.Common.{ap, refl};
-    ghost use Rattle.std.proofs.lemmas.Nat.{le_bytes_8};
-
     ghost Value = { ℕ };
 
     ghost view = { λ w. from_le_bytes w64 w.bytes };
@@ -61,10 +60,6 @@ impl Word60 {
 }
 
 impl PartialEq for Word60 {
-    ghost use Rattle.std.specs.Prelude.{nat_eq};
-    ghost use Rattle.std.specs.Cmp.Rules.{comparing};
-    ghost use Rattle.std.proofs.Common.{rules};
-
     ghost eq = { nat_eq };
 
     ghost laws = { Prim.search (comparing, rules) };
@@ -75,8 +70,5 @@ impl PartialEq for Word60 {
 }
 
 impl Eq for Word60 {
-    ghost use Rattle.std.specs.Cmp.Rules.{comparing};
-    ghost use Rattle.std.proofs.Common.{rules};
-
     ghost laws = { Prim.search (comparing, rules) };
 }
