@@ -1,11 +1,8 @@
-//! What a channel answers: the table of operations, and the laws of histories.
-
 ghost use Rattle.std.specs.Prelude.{◌≡◌, ◌↔◌, List, [], ◌∷◌, ◌++◌, Some, IfSome};
 ghost use Rattle.pp_channel.specs.declared.{chan_op.ChanOp.ChanOp, event.Event.Event, reply.Reply.Reply};
 ghost use Rattle.pp_channel.specs.History.{IsLawful, HasTwelveBitWord};
 ghost use Rattle.pp_channel.specs.Answer.{IsReady, IsAnswer, event_by, event_of, reply_made, reply_shown, reply_to, history_after, flags_of, flags_after};
-ghost use Rattle.pp_channel.specs.Law.{KeepsLaw};
-ghost use Rattle.pp_channel.specs.Session.{word_put};
+ghost use Rattle.pp_channel.specs.{Law.KeepsLaw, Session.word_put};
 
 use crate::{ChanOp, ChannelState, Event, Flags, Reply};
 use pp_word::Word12;

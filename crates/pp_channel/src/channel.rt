@@ -1,7 +1,7 @@
-ghost use Rattle.std.specs.Prelude.{◌≡◌, [], ◌∷◌, ◌++◌, ◌↔◌, IsTrue, None, IsSome, IfSome, IsOk, IfOk, OnOk, OnErr};
+ghost use Rattle.std.specs.Prelude.{◌≡◌, List, [], ◌∷◌, ◌++◌, ◌↔◌, IsTrue, None, IsSome, IfSome, IsOk, IfOk, OnOk, OnErr};
 ghost use Rattle.pp_channel.specs.History.{IsLawful, HasTwelveBitWord, HasTwelveBitWords, full, waiting};
 ghost use Rattle.pp_channel.specs.Answer.{IsAnswer, channel_state, event_of, reply_shown, reply_to, history_after, flags_of};
-ghost use Rattle.pp_channel.specs.Law.{KeepsLaw};
+ghost use Rattle.pp_channel.specs.{Law.KeepsLaw, declared.event.Event.Event};
 
 use crate::answer::word_put;
 use crate::{
@@ -21,11 +21,6 @@ pub struct Channel<A: Allocator> {
 }
 
 impl<A: Allocator> Model for Channel<A> {
-    ghost use Rattle.std.specs.Prelude.{◌≡◌, List};
-    ghost use Rattle.pp_channel.specs.declared.event.Event.{Event};
-    ghost use Rattle.pp_channel.specs.History.{IsLawful, HasTwelveBitWords, waiting};
-    ghost use Rattle.pp_channel.specs.Answer.{flags_of};
-
     ghost Value = { List Event };
 
     ghost view = { λ c. c.events.items };
@@ -113,9 +108,8 @@ impl<A: Allocator> Channel<A> {
         Ok(self.events.reserve_exact(events)?)
     }
 
-    /// The event that the operation would make now, or nothing if it would make none. It takes no
-    /// memory: a caller that also records events asks first, and so takes memory for a record only
-    /// if there is an event.
+    /// The event that the operation would make now, or nothing. It takes no memory: a caller that
+    /// also records events asks first, and so takes memory for a record only if there is an event.
     #[inline(always)]
     pub fn next_event(&self, op: &ChanOp) -> Option<Event>
         ensures event { result ≡ event_of op.now self.now }

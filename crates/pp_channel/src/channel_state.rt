@@ -1,7 +1,7 @@
-ghost use Rattle.std.specs.Prelude.{◌≡◌, [], ◌∷◌, ◌++◌, List, IfSome, IfNone};
+ghost use Rattle.std.specs.Prelude.{◌≡◌, [], ◌∷◌, ◌++◌, List, Some, IfSome, IfNone};
 ghost use Rattle.pp_channel.specs.Answer.{channel_state, event_by, event_of, history_after, operation_of, reply_to, state_after, state_reply};
 ghost use Rattle.pp_channel.specs.History.{HasTwelveBitWord, IsLawful};
-ghost use Rattle.pp_channel.specs.declared.event.Event.{Event};
+ghost use Rattle.pp_channel.specs.{ChannelText.channel_text, declared.event.Event.Event};
 
 use crate::answer::word_put;
 use crate::{
@@ -13,10 +13,8 @@ use std::alloc::Allocator;
 use std::fmt::{self, Display, Formatter, Write};
 
 /// The flags of a channel and the word in its register: all of its history that its answers need.
-/// It takes no memory that grows.
-///
-/// Example: if the word 0007 (octal) waits, both flags are set, the register has this word, and the
-/// state is printed as `ACTIVE FULL 0007`.
+/// It takes no memory that grows. Example: if the word 0007 (octal) waits, both flags are set, the
+/// register has this word, and the state is printed as `ACTIVE FULL 0007`.
 #[derive(Clone, Copy, Debug, PartialEq, Eq)]
 pub struct ChannelState {
     pub flags: Flags,
@@ -84,9 +82,8 @@ impl ChannelState {
         })
     }
 
-    /// Makes an operation if it is ready; otherwise holds it, and nothing changes. Replies as a
-    /// channel does. Example: an empty channel holds `ChanOp::Take`, and after `ChanOp::Put(word)`
-    /// it is full with that word.
+    /// Makes an operation if it is ready; otherwise holds it, and nothing changes. Example: an
+    /// empty channel holds `ChanOp::Take`, and after `ChanOp::Put(word)` it is full with that word.
     pub fn act(&mut self, op: ChanOp) -> Reply
         ensures table { result ≡ state_reply op self.old }
         ensures state { self.new ≡ state_after op self.old }
@@ -103,7 +100,6 @@ impl ChannelState {
     }
 }
 
-/// The operation that makes an event.
 fn operation_of(event: &Event) -> ChanOp
     ensures { result ≡ operation_of event.now }
 {
@@ -117,9 +113,6 @@ fn operation_of(event: &Event) -> ChanOp
 }
 
 impl Display for ChannelState {
-    ghost use Rattle.std.specs.Prelude.{Some};
-    ghost use Rattle.pp_channel.specs.ChannelText.{channel_text};
-
     ghost output = { λ state. Some (channel_text state.flags.active state.register) };
 
     fn fmt<W: Write>(&self, f: &mut Formatter<W>) -> fmt::Result {

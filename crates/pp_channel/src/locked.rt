@@ -15,9 +15,8 @@ pub struct Locked<A: Allocator> {
 impl<A: Allocator> Locked<A> {
     /// The channel, which threads may now share.
     pub fn new(channel: Channel<A>) -> Self {
-        Locked {
-            channel: Mutex::new(channel),
-        }
+        let channel = Mutex::new(channel);
+        Locked { channel }
     }
 
     /// Makes the operation under the lock if it is ready, and otherwise holds it. `number` and

@@ -7,7 +7,6 @@ pub struct Numbered {
     pub reply: Reply,
     /// How many events the channel had had when its word was loaded, or before a call under a lock.
     pub loaded: u64,
-    /// For an event its place in the history, counted from 0; for a look how many events the
-    /// channel had had.
+    /// For an event its place in the history, from 0; for a look how many events came before it.
     pub number: u64,
 }
