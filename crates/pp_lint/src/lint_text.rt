@@ -52,18 +52,14 @@ pub fn write_lint<A: Allocator + Copy, W: Write>(
     ensures fault { IfErr result (λ fault. IsReportWritten (lint_text profile deck.now)
         (Err fault) (W.contents writer.old) (W.contents writer.new)) }
 {
-    let Ok(whole) = whole_deck(alloc, profile, text_in(deck)) else {
-        return Err(ReportFault::Memory);
-    };
+    let whole = whole_deck(alloc, profile, text_in(deck))?;
     let mut text = TextWriter::new(writer);
     let is_found = print_findings(&mut text, &whole, profile, deck);
     if !is_found {
         text.print(b"nothing found\n");
     }
-    match text.finish() {
-        Ok(()) => Ok(is_found),
-        Err(_) => Err(ReportFault::Write),
-    }
+    text.finish()?;
+    Ok(is_found)
 }
 
 /// The text of a deck, behind a byte order mark; nothing if it is too long.

@@ -1,36 +1,15 @@
 //! Something for each of the flags of a channel.
 
-ghost use Rattle.std.specs.Prelude.{◌≡◌, ◌<◌, if◌then◌else◌};
+ghost use Rattle.std.specs.Prelude.{◌≡◌, ◌<◌};
 ghost use Rattle.pp_channel.specs.declared.flags.Flags.{Flags};
 ghost use Rattle.pp_races.specs.ByFlags.{all, at, number_of, set_count};
 
 use pp_channel::Flags;
 
-/// The flags of an inactive channel.
-const INACTIVE: Flags = Flags {
-    active: false,
-    full: false,
-};
-/// Flags that no channel has.
-const INACTIVE_FULL: Flags = Flags {
-    active: false,
-    full: true,
-};
-/// The flags of an active channel without a word.
-const EMPTY: Flags = Flags {
-    active: true,
-    full: false,
-};
-/// The flags of one with a word.
-const FULL: Flags = Flags {
-    active: true,
-    full: true,
-};
-
 /// How many sets of flags there are (decimal).
 pub(crate) const SETS: usize = 16;
 
-/// One of each of the flags: of `bool`, a set of flags.
+/// One of each of the flags, also of those that no channel has: of `bool`, a set of flags.
 #[derive(Clone, Copy)]
 pub(crate) struct ByFlags<T> {
     pub(crate) inactive: T,
@@ -45,11 +24,12 @@ impl<T: Copy> ByFlags<T> {
         requires { F.IsAlwaysCallable value }
         ensures { (flags : Flags) → F.post value flags (at result flags) }
     {
+        let of = |active, full| value(Flags { active, full });
         ByFlags {
-            inactive: value(INACTIVE),
-            inactive_full: value(INACTIVE_FULL),
-            empty: value(EMPTY),
-            full: value(FULL),
+            inactive: of(false, false),
+            inactive_full: of(false, true),
+            empty: of(true, false),
+            full: of(true, true),
         }
     }
 
@@ -84,15 +64,9 @@ impl ByFlags<bool> {
         ensures number { result ≡ number_of self.now }
         ensures within { result < set_count }
     {
-        digit(self.inactive, 1)
-            + digit(self.inactive_full, 2)
-            + digit(self.empty, 4)
-            + digit(self.full, 8)
+        usize::from(self.inactive)
+            + 2 * usize::from(self.inactive_full)
+            + 4 * usize::from(self.empty)
+            + 8 * usize::from(self.full)
     }
-}
-
-fn digit(is_in: bool, value: usize) -> usize
-    ensures { result ≡ (if is_in then value else 0) }
-{
-    if is_in { value } else { 0 }
 }

@@ -20,8 +20,7 @@ use std::io::Write;
 /// Makes the steps of an order, and writes those that may race with others, the processors that are
 /// not settled at the end, the central words that one processor wrote and another used, and what
 /// they come to; and flushes the writer. If nothing is found, the run determines the result of
-/// every order of steps; if nothing but processors that go on, each of its steps so far waits or is
-/// race-free.
+/// every order; if nothing but processors that go on, each of its steps so far waits or is race-free.
 ///
 /// The lines go out as they come. Memory is asked for before the first of them, for as many events
 /// as a run without histories and trace makes first: none is asked for later, as tests show. No
@@ -36,15 +35,9 @@ pub fn write_races<A: Allocator + Copy, W: Write>(
     ensures { AnswersRaces order.now machine.old machine.new result
         (W.contents writer.old) (W.contents writer.new) }
 {
-    let Ok(events) = event_counts(alloc, machine, order) else {
-        return Err(ReportFault::Memory);
-    };
-    let Ok(()) = machine.reserve(&events) else {
-        return Err(ReportFault::Memory);
-    };
-    let Ok(mut tables) = WatchTables::of(alloc, machine, &events) else {
-        return Err(ReportFault::Memory);
-    };
+    let events = event_counts(alloc, machine, order)?;
+    machine.reserve(&events)?;
+    let mut tables = WatchTables::of(alloc, machine, &events)?;
     write_watched(writer, machine, order, &mut tables)
 }
 
@@ -63,7 +56,7 @@ fn write_watched<A: Allocator, W: Write>(
     match print_run(&mut text, machine, order, tables) {
         Ok(verdict) => {
             print_verdict(&mut text, verdict);
-            text.finish().map_err(|_| ReportFault::Write)
+            Ok(text.finish()?)
         }
         Err(verdict) => {
             let _written = text.finish();

@@ -31,11 +31,5 @@ impl Verdict {
 fn is_going_on(finding: &Finding) -> bool
     ensures { result ≡ is_going_on finding.now }
 {
-    match finding {
-        Finding::GoingOn(_) => true,
-        Finding::Before(_, _)
-        | Finding::After(_, _)
-        | Finding::HeldBefore(_, _)
-        | Finding::Shared(_, _, _) => false,
-    }
+    matches!(finding, Finding::GoingOn(_))
 }

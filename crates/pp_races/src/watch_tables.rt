@@ -2,7 +2,7 @@
 
 ghost use Rattle.std.specs.Prelude.{◌≡◌, IfOk, length, replicate, vec_len};
 ghost use Rattle.pp_numbers.specs.ChannelNo.{channel_count};
-ghost use Rattle.pp_races.specs.Tables.{entry_count, AreCursors, AreEmpty, AreLooks, AreUses};
+ghost use Rattle.pp_races.specs.Tables.{entry_count, AreEmpty, AreUses};
 ghost use Rattle.pp_races.specs.Watch.{unwatched};
 
 use crate::by_flags::ByFlags;
@@ -35,8 +35,7 @@ pub(crate) struct WatchTables<A: Allocator> {
 impl<A: Allocator> WatchTables<A> {
     ghost use Rattle.pp_races.specs.WatchTables.{AreTables};
 
-    /// Those before the first step, with room for these numbers of events, by the places of the
-    /// channels.
+    /// Those before the first step, with room for so many events of each channel, by place.
     pub(crate) fn of(
         alloc: A,
         machine: &Machine<A>,

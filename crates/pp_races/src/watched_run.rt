@@ -1,6 +1,6 @@
 //! A run that is watched, and whose findings are printed as they come.
 
-ghost use Rattle.std.specs.Prelude.{◌≡◌, ◌≢◌, ◌≤◌, ℕ, true, [], List, length, take, IfErr, IfOk, OnErr, OnOk};
+ghost use Rattle.std.specs.Prelude.{◌≡◌, ◌≢◌, ◌≤◌, ℕ, true, [], length, take, IfErr, IfOk, OnErr, OnOk};
 ghost use Rattle.std.specs.List.{list_all};
 ghost use Rattle.pp_machine.specs.Run.{run};
 ghost use Rattle.pp_run.specs.Determinacy.{IsDeterminate};

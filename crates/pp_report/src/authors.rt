@@ -1,16 +1,16 @@
 //! Who made the events of the channels.
 
-ghost use Rattle.std.specs.Prelude.{◌≡◌, ◌<◌, ◌≤◌, ◌==◌, ℕ, None, Some, length, map, replicate, slice_index_or, slice_set, if◌then◌else◌, IfOk, nat_lt};
+ghost use Rattle.std.specs.Prelude.{◌≡◌, ◌<◌, ◌≤◌, ℕ, None, Some, length, map, replicate, slice_index_or, slice_set, IfOk, nat_lt};
 ghost use Rattle.pp_numbers.specs.ChannelNo.{channel_count};
 ghost use Rattle.pp_line.specs.Merge.{logs_event, times_logged};
 ghost use Rattle.pp_numbers.specs.PpNo.{processor_count};
 ghost use Rattle.pp_report.specs.Authors.{AreAuthors, AreMarked, no_authors};
 
-use pp_channel::{CHANNELS, Channel, Seen};
+use pp_channel::{CHANNELS, Channel, Memory, Seen};
 use pp_line::Entry;
 use pp_machine::{PROCESSORS, PpNo};
 use pp_runner::Worker;
-use std::alloc::{AllocError, Allocator};
+use std::alloc::Allocator;
 use std::marker::Model;
 
 /// No place of a processor: that of an author who is not known.
@@ -35,7 +35,7 @@ impl<A: Allocator> Model for ChannelAuthors<A> {
 impl<A: Allocator> ChannelAuthors<A> {
     /// The authors of `count` events, none of them known.
     #[tactic(auto, using(crate::proofs::AuthorLemmas::nobody_of))]
-    fn unknown(alloc: A, count: usize) -> Result<Self, AllocError>
+    fn unknown(alloc: A, count: usize) -> Result<Self, Memory>
         ensures { IfOk result (λ authors. authors ≡ replicate count None) }
     {
         let places = vec![in alloc; UNKNOWN; count]?;
@@ -73,7 +73,7 @@ pub(crate) fn authors<A: Allocator + Copy>(
     alloc: A,
     workers: &[Worker<A>],
     channels: &[Channel<A>; CHANNELS],
-) -> Result<Vec<ChannelAuthors<A>, A>, AllocError>
+) -> Result<Vec<ChannelAuthors<A>, A>, Memory>
     requires { length workers.now ≤ processor_count }
     ensures each_channel { IfOk result (λ authors. length authors.items ≡ channel_count) }
     ensures authors { IfOk result (λ authors. AreAuthors workers.now channels.now authors.items) }
@@ -88,7 +88,7 @@ pub(crate) fn authors<A: Allocator + Copy>(
 fn unknown_authors<A: Allocator + Copy>(
     alloc: A,
     channels: &[Channel<A>; CHANNELS],
-) -> Result<Vec<ChannelAuthors<A>, A>, AllocError>
+) -> Result<Vec<ChannelAuthors<A>, A>, Memory>
     ensures { IfOk result (λ authors. authors.items ≡ map no_authors channels.now) }
 {
     let mut authors = Vec::with_capacity(alloc, CHANNELS)?;

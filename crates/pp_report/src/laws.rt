@@ -1,5 +1,4 @@
-//! Laws of the texts of reports. These functions do nothing: their contracts say what is proved of
-//! the definitions.
+//! Laws of the texts of reports.
 
 ghost use Rattle.std.specs.Prelude.{ℕ, ◌≡◌, ◌<◌, ◌↔◌, All, Bool, List, length, None};
 ghost use Rattle.pp_channel.specs.History.{IsLawful, history_on};

@@ -1,5 +1,4 @@
-//! Reports of runs by threads: what is promised of them and of every run of a deck, and their
-//! printed texts.
+//! Reports of runs by threads: what is promised of them and of every run of a deck; their texts.
 #![tactic(auto)]
 
 mod authors;

@@ -20,8 +20,8 @@ use std::alloc::Allocator;
 use std::io::Write;
 
 /// Writes the text of a report, with the lines of the processors named, and flushes the writer. The
-/// author of each event is found first, which takes memory; then the text goes out in pieces, which
-/// takes none. If the writer fails, the rest of the text is lost.
+/// author of each event is found first, which takes memory; writing takes none. If the writer
+/// fails, the rest of the text is lost.
 pub fn write_report<A: Allocator + Copy, W: Write>(
     alloc: A,
     writer: &mut W,
@@ -33,13 +33,8 @@ pub fn write_report<A: Allocator + Copy, W: Write>(
         (W.contents writer.old) (W.contents writer.new) }
     ensures fits { result ≢ Err ReportFault.Memory → FitsItsReport named.now report.now }
 {
-    let Ok(authors) = authors(alloc, report.ends.as_slice(), &report.channels) else {
-        return Err(ReportFault::Memory);
-    };
-    let Ok(()) = print_report(writer, report, &authors, named) else {
-        return Err(ReportFault::Write);
-    };
-    Ok(())
+    let authors = authors(alloc, report.ends.as_slice(), &report.channels)?;
+    Ok(print_report(writer, report, &authors, named)?)
 }
 
 /// Prints the text of a report whose authors are known.

@@ -44,11 +44,6 @@ pub not_held : (x : Need) (m : MachineState) (count : ℕ) → ((c : ℕ) (opera
 not_held (Channel c operation) m count other = absurd (other c operation refl)
 not_held x m count other = refl
 
--- what is known of a value, of the same after another error was named
-pub kept_ok : {T E F : Type 0} (P : T → Type 0) (r : Result T E) (s : Result T F) (x : T) (Q : E → Type 0) → MatchResult r (λ y. s ≡ Ok y) Q → is_ok s ≡ is_ok r → IfOk r P → s ≡ Ok x → P x
-kept_ok P (Ok y) s x Q is same h was = let here : y ≡ x = cc in subst P here h
-kept_ok P (Err e) s x Q is same h was = absurd (let wrong : true ≡ false = sym (ap is_ok was) ∙ same in cc)
-
 -- a processor that goes on no more, and one that goes on
 pub end_told : (state : PpState) → is_running state ≡ false → codes " " ++ state_text state ≡ end_text state
 end_told Running e = absurd (cc)

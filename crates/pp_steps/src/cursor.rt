@@ -26,8 +26,7 @@ pub(crate) struct Cursor {
 }
 
 impl Cursor {
-    /// Goes past a step, and says which line it has: how many steps in a row are held from it on
-    /// was counted before.
+    /// Goes past a step, and says which line it has. How long spells are was counted before.
     pub(crate) fn pass<A: Allocator>(&mut self, spells: &HeldSpells<A>, step: Progress) -> LineKind
         requires { self.old.spells + 1 < 2 ^ 64 }
         ensures cursor { self.new ≡ past_step self.old step }

@@ -1,5 +1,4 @@
-//! The laws of the steps of a run. The functions do nothing: their contracts say what is proved of
-//! the definitions.
+//! Laws of the steps of a run.
 
 ghost use Rattle.std.specs.Prelude.{◌≡◌, ℕ, List, drop, length};
 ghost use Rattle.std.specs.List.{All, filter, flat_map};

@@ -1,5 +1,4 @@
-//! The steps of a run, line by line: each instruction with what it did, and held steps in a row on
-//! one line.
+//! The steps of a run, line by line: each with what it did, and held steps in a row on one line.
 #![tactic(auto)]
 
 mod choice;

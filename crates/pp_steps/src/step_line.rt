@@ -12,8 +12,10 @@ ghost use Rattle.pp_text.specs.PrintedText.{event_text, padded};
 ghost use Rattle.pp_text.specs.TextWriter.{Prints};
 ghost use Rattle.pp_run.specs.BareMachine.{StandsFor};
 ghost use Rattle.pp_steps.specs.StepLine.{centrals_text, channel_text, heading, held_line, place_text, places_text, step_line, words_text};
+ghost use Rattle.pp_steps.specs.StepsText.{kind_text};
 ghost use Rattle.pp_processor.specs.Stores.{KeepsOthers};
 
+use crate::cursor::LineKind;
 use pp_channel::Event;
 use pp_machine::{Block, Central, Need, Pp, PpNo};
 use pp_run::BareMachine;
@@ -25,9 +27,27 @@ use pp_word::{PLACES, Word12, Word18, decode, next};
 use std::alloc::Allocator;
 use std::io::Write;
 
+/// Prints a line of this kind of a step of a processor from one machine to another.
+pub(crate) fn print_line<A: Allocator, W: Write>(
+    text: &mut TextWriter<W>,
+    n: PpNo,
+    before: &BareMachine<A>,
+    after: &BareMachine<A>,
+    kind: LineKind,
+)
+    ensures { (m : MachineState) → StandsFor before.now m → StandsFor after.now (stepped n m)
+        → Prints W.contents text.old text.new (kind_text kind n m) }
+{
+    match kind {
+        LineKind::NoLine => {}
+        LineKind::OneStep => print_step_line(text, n, before, after),
+        LineKind::HeldSteps(count) => print_held_line(text, n, before, count),
+    }
+}
+
 /// Prints the line of a step of a processor from one machine to another:
 /// `000020 PP00 0102 7205       OAN 05        A=000001 CH05 PUT 0001` and a line feed.
-pub(crate) fn print_step_line<A: Allocator, W: Write>(
+fn print_step_line<A: Allocator, W: Write>(
     text: &mut TextWriter<W>,
     n: PpNo,
     before: &BareMachine<A>,
@@ -52,7 +72,7 @@ pub(crate) fn print_step_line<A: Allocator, W: Write>(
 
 /// Prints the line of held steps in a row of a processor, and their number:
 /// `000031 PP01 0201            IAM 05        A=000004 HELD CH05 ACTIVE EMPTY x1` and a line feed.
-pub(crate) fn print_held_line<A: Allocator, W: Write>(
+fn print_held_line<A: Allocator, W: Write>(
     text: &mut TextWriter<W>,
     n: PpNo,
     machine: &BareMachine<A>,
@@ -170,8 +190,7 @@ fn print_central<A: Allocator, W: Write>(
     print_octal(text, 20, word);
 }
 
-/// Prints ` CH05 PUT 0007`, or ` CH05 ACTIVE EMPTY` where no event was made, where a channel was
-/// needed.
+/// Prints ` CH05 PUT 0007`, or without an event ` CH05 ACTIVE EMPTY`, where a channel was needed.
 fn print_channel<A: Allocator, W: Write>(
     text: &mut TextWriter<W>,
     need: &Need,

@@ -6,7 +6,7 @@ ghost use Rattle.pp_steps.specs.StepsText.{steps_text};
 use crate::Choice;
 use crate::cursor::{Cursor, LineKind};
 use crate::spell_counts::counted_spells;
-use crate::step_line::{print_held_line, print_step_line};
+use crate::step_line::print_line;
 use pp_machine::{Machine, PROCESSORS};
 use pp_run::{BareMachine, Order, Progress};
 use pp_text::{ReportFault, TextWriter};
@@ -26,9 +26,9 @@ pub fn write_steps<A: Allocator + Copy, W: Write>(
     ensures { IsReportWritten (steps_text choice.now order.now machine.now)
         result (W.contents writer.old) (W.contents writer.new) }
 {
-    let spells = counted_spells(alloc, machine, choice, order).map_err(|_| ReportFault::Memory)?;
-    let mut before = BareMachine::of(alloc, machine).map_err(|_| ReportFault::Memory)?;
-    let mut after = BareMachine::of(alloc, machine).map_err(|_| ReportFault::Memory)?;
+    let spells = counted_spells(alloc, machine, choice, order)?;
+    let mut before = BareMachine::of(alloc, machine)?;
+    let mut after = BareMachine::of(alloc, machine)?;
     let mut text = TextWriter::new(writer);
     let mut cursors = [Cursor {
         spells: 0,
@@ -42,12 +42,8 @@ pub fn write_steps<A: Allocator + Copy, W: Write>(
         } else {
             LineKind::NoLine
         };
-        match kind {
-            LineKind::NoLine => {}
-            LineKind::OneStep => print_step_line(&mut text, *n, &before, &after),
-            LineKind::HeldSteps(count) => print_held_line(&mut text, *n, &before, count),
-        }
+        print_line(&mut text, *n, &before, &after, kind);
         let _same = before.step(*n);
     }
-    text.finish().map_err(|_| ReportFault::Write)
+    Ok(text.finish()?)
 }

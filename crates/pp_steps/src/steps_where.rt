@@ -1,18 +1,13 @@
 //! The text of the steps of a run that meet a condition.
 
 ghost use Rattle.std.specs.Prelude.{◌≡◌};
-ghost use Rattle.pp_machine.specs.MachineState.{MachineState};
-ghost use Rattle.pp_machine.specs.MachineStep.{stepped};
-ghost use Rattle.pp_run.specs.BareMachine.{StandsFor};
-ghost use Rattle.pp_text.specs.TextWriter.{Prints};
-ghost use Rattle.pp_steps.specs.StepsText.{kind_text};
 ghost use Rattle.pp_steps.specs.StepsWhere.{IsWrittenWhere, line_alone};
 
 use crate::Choice;
 use crate::cursor::LineKind;
-use crate::step_line::{print_held_line, print_step_line};
+use crate::step_line::print_line;
 use pp_condition::{Condition, step_meeting};
-use pp_machine::{Machine, PpNo};
+use pp_machine::Machine;
 use pp_run::{BareMachine, Order, Progress};
 use pp_text::{ReportFault, TextWriter};
 use std::alloc::Allocator;
@@ -32,9 +27,9 @@ pub fn write_steps_where<A: Allocator + Copy, W: Write>(
     ensures { IsWrittenWhere choice.now condition.now order.now machine.now
         result (W.contents writer.old) (W.contents writer.new) }
 {
-    let mut before = BareMachine::of(alloc, machine).map_err(|_| ReportFault::Memory)?;
-    let mut after = BareMachine::of(alloc, machine).map_err(|_| ReportFault::Memory)?;
-    let mut watched = BareMachine::of(alloc, machine).map_err(|_| ReportFault::Memory)?;
+    let mut before = BareMachine::of(alloc, machine)?;
+    let mut after = BareMachine::of(alloc, machine)?;
+    let mut watched = BareMachine::of(alloc, machine)?;
     let mut text = TextWriter::new(writer);
     for n in order.processors() {
         let is_chosen = choice.has(&after, *n);
@@ -45,7 +40,7 @@ pub fn write_steps_where<A: Allocator + Copy, W: Write>(
         }
         let _same = before.step(*n);
     }
-    text.finish().map_err(|_| ReportFault::Write)
+    Ok(text.finish()?)
 }
 
 /// The line of a step by itself.
@@ -56,23 +51,5 @@ fn line_alone(step: Progress) -> LineKind
         Progress::AtRest => LineKind::NoLine,
         Progress::Moved => LineKind::OneStep,
         Progress::Held(_) => LineKind::HeldSteps(1),
-    }
-}
-
-/// Prints a line of this kind of a step of a processor from one machine to another.
-fn print_line<A: Allocator, W: Write>(
-    text: &mut TextWriter<W>,
-    n: PpNo,
-    before: &BareMachine<A>,
-    after: &BareMachine<A>,
-    kind: LineKind,
-)
-    ensures { (m : MachineState) → StandsFor before.now m → StandsFor after.now (stepped n m)
-        → Prints W.contents text.old text.new (kind_text kind n m) }
-{
-    match kind {
-        LineKind::NoLine => {}
-        LineKind::OneStep => print_step_line(text, n, before, after),
-        LineKind::HeldSteps(count) => print_held_line(text, n, before, count),
     }
 }

@@ -27,15 +27,9 @@ pub fn print_held_text<W: Write>(text: &mut TextWriter<W>, c: ChannelNo, flags: 
 pub fn print_flags_text<W: Write>(text: &mut TextWriter<W>, flags: Flags)
     ensures { Prints W.contents text.old text.new (flags_text flags) }
 {
-    match flags {
-        Flags {
-            active: true,
-            full: true,
-        } => text.print(b"ACTIVE FULL"),
-        Flags {
-            active: true,
-            full: false,
-        } => text.print(b"ACTIVE EMPTY"),
-        Flags { active: false, .. } => text.print(b"INACTIVE"),
+    match (flags.active, flags.full) {
+        (true, true) => text.print(b"ACTIVE FULL"),
+        (true, false) => text.print(b"ACTIVE EMPTY"),
+        (false, _) => text.print(b"INACTIVE"),
     }
 }

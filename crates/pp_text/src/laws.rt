@@ -1,5 +1,4 @@
-//! Laws of printed texts. These functions do nothing: their contracts say what is proved of the
-//! definitions.
+//! Laws of printed texts.
 
 ghost use Rattle.std.specs.Prelude.{◌≡◌, ◌<◌, ◌^◌, ℕ, Bool, IsTrue, List};
 ghost use Rattle.pp_machine.specs.Headline.{HoldsOnEachChannel};
@@ -25,8 +24,7 @@ pub fn text_law()
 {}
 
 /// The text of an instruction says which it is: read by its mnemonic and by columns, in octal, it
-/// is its word (of those that mean a pass, or a jump to its own place, the usual one), and its
-/// second word.
+/// is its word (of those for a pass or a jump to its own place, the usual one), and its second.
 pub fn instruction_law()
     ensures word { (place word m : ℕ) → place < place_count → word < 2 ^ 12 → m < 2 ^ 12
         → word_of_text place (instruction_text place word m) ≡ usual_word word }

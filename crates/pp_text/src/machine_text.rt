@@ -19,9 +19,8 @@ use pp_machine::{Machine, PROCESSORS};
 use std::alloc::Allocator;
 use std::io::Write;
 
-/// Writes the text of a machine, with the lines of the processors named, and flushes the writer.
-/// The text goes out in pieces, and takes no memory. If the writer fails, the rest of the text is
-/// lost.
+/// Writes the text of a machine, with the lines of the processors named, and flushes the writer. It
+/// takes no memory. If the writer fails, the rest of the text is lost.
 #[tactic(auto, unfolding(crate::specs::PrintedText::printed))]
 pub fn write_text<A: Allocator + Copy, W: Write>(
     writer: &mut W,

@@ -63,8 +63,7 @@ pub fn print_decimal<W: Write>(text: &mut TextWriter<W>, n: u64)
     text.print(&decimal6(lower));
 }
 
-/// Prints the decimal digits of a count before its last six, and returns the number that these six
-/// make.
+/// Prints the decimal digits of a count before its last six, and returns the number of these six.
 #[inline]
 pub fn print_upper_digits<W: Write>(text: &mut TextWriter<W>, n: u64) -> u32
     ensures text { Prints W.contents text.old text.new (unpadded 14 (n / 10 ^ 6)) }

@@ -11,8 +11,7 @@ use std::marker::Model;
 /// The most bytes that a piece holds (decimal).
 const PIECE_LENGTH: usize = 8192;
 
-/// The bytes of a text that are held back, to be written at once. It takes no memory. Contracts see
-/// the list of its bytes.
+/// The bytes of a text that are held back, to be written at once. Contracts see their list.
 #[derive(Drop)]
 struct Piece {
     bytes: [u8; PIECE_LENGTH],

@@ -24,8 +24,7 @@ pub(crate) fn write_bytes<W: Write>(writer: &mut W, bytes: &[u8]) -> Result<(), 
     Ok(())
 }
 
-/// Writes all of a text, and flushes the writer. An error ends it, and so does a write that takes
-/// nothing.
+/// Writes all of a text so, and flushes the writer.
 pub fn write_whole<W: Write>(writer: &mut W, text: &[u8]) -> Result<(), WriteFault>
     ensures { IsWritten text.now result (W.contents writer.old) (W.contents writer.new) }
 {

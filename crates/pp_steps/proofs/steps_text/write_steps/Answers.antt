@@ -21,16 +21,15 @@ use Rattle.pp_steps.proofs.ChosenSteps.{chosen_from, chosen_more, chosen_parts, 
 use Rattle.pp_steps.proofs.StepLawLemmas.{IsSoFar, everything, nothing_so_far, turn_told}
 use Rattle.pp_steps.proofs.CountedSpells.{made_few, made_here, made_more, none_made}
 use Rattle.pp_steps.proofs.SpellLemmas.{spells_grow}
-use Rattle.pp_steps.proofs.LineLemmas.{kept_ok}
 use Rattle.pp_steps.proofs.steps_text.write_steps.Goals as goal
-use Rattle.pp_steps.proofs.steps_text.write_steps.Goals.{then-is_chosen, else-is_chosen, in-NoLine, in-OneStep, in-HeldSteps}
+use Rattle.pp_steps.proofs.steps_text.write_steps.Goals.{then-is_chosen, else-is_chosen}
 
 pub loop-n-init : goal.loop-n-init
 loop-n-init g c =
     let m = c.args.machine.now in
     record {
-      before = kept_ok (λ b. StandsFor b m) c.of.result c.map_err-2.result c.in_ok-before.before _ c.map_err-2.ensures.cases c.map_err-2.ensures.variant c.of.ensures c.in_ok-before.was;
-      after = kept_ok (λ b. StandsFor b m) c.of-2.result c.map_err-3.result c.in_ok-after.after _ c.map_err-3.ensures.cases c.map_err-3.ensures.variant c.of-2.ensures c.in_ok-after.was;
+      before = c.in_ok-before.ensures;
+      after = c.in_ok-after.ensures;
       followed = none_made past_step no_cursor;
       printed = ([], prints_nothing _ _, nothing_so_far (chosen_steps c.args.choice.now c.args.order.now m));
     }
@@ -88,11 +87,7 @@ loop-n-preserved g c =
       | then-is_chosen w ↦ grind (arith, made_here)
       | else-is_chosen w ↦ rw (w.kind-is, w.if-is_chosen.false)
     ] in
-    let told : Prints g.W.Write.contents c.loop-n.text c.match-kind.text (kind_text kind n old) = elim c.match-kind.branch [
-      | in-NoLine w ↦ rw (w.text-is, w.in-NoLine.is) (prints_nothing _ _)
-      | in-OneStep w ↦ rw (w.text-is, w.in-OneStep.is) (w.print_step_line.ensures old c.loop-n.invariant.before stands)
-      | in-HeldSteps w ↦ rw (w.text-is, w.in-HeldSteps.is) (w.print_held_line.ensures old c.loop-n.invariant.before)
-    ] in
+    let told = c.print_line.ensures old c.loop-n.invariant.before stands in
     let (text, prints, so_far) = c.loop-n.invariant.printed in
     record {
       before = subst (λ (x : MachineState). StandsFor c.step-same.new.self x) (sym after) (c.step-same.ensures.stepped old c.loop-n.invariant.before);

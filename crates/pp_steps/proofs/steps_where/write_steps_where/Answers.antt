@@ -12,7 +12,6 @@ use Rattle.pp_text.proofs.PrintingLemmas.{prints_nothing, prints_then}
 use Rattle.pp_steps.specs.Choice.{chosen_steps, is_chosen}
 use Rattle.pp_steps.specs.StepsWhere.{HasLinesWhere}
 use Rattle.pp_steps.proofs.ChosenSteps.{chosen_more, step_in}
-use Rattle.pp_steps.proofs.LineLemmas.{kept_ok}
 use Rattle.pp_steps.proofs.WhereLemmas.{no_lines, own_text, where_more}
 use Rattle.pp_steps.proofs.steps_where.write_steps_where.Goals as goal
 use Rattle.pp_steps.proofs.steps_where.write_steps_where.Goals.{then-is_chosen+then-meets, else-is_chosen, else-is_chosen-via-then-is_chosen+else-meets, else-is_chosen-via-else-is_chosen}
@@ -21,9 +20,9 @@ pub loop-n-init : goal.loop-n-init
 loop-n-init g c =
     let m = c.args.machine.now in
     record {
-      before = kept_ok (λ b. StandsFor b m) c.of.result c.map_err.result c.in_ok-before.before _ c.map_err.ensures.cases c.map_err.ensures.variant c.of.ensures c.in_ok-before.was;
-      after = kept_ok (λ b. StandsFor b m) c.of-2.result c.map_err-2.result c.in_ok-after.after _ c.map_err-2.ensures.cases c.map_err-2.ensures.variant c.of-2.ensures c.in_ok-after.was;
-      watched = kept_ok (λ b. StandsFor b m) c.of-3.result c.map_err-3.result c.in_ok-watched.watched _ c.map_err-3.ensures.cases c.map_err-3.ensures.variant c.of-3.ensures c.in_ok-watched.was;
+      before = c.in_ok-before.ensures;
+      after = c.in_ok-after.ensures;
+      watched = c.in_ok-watched.ensures;
       printed = ([], prints_nothing _ _, no_lines _);
     }
 
