@@ -1,5 +1,5 @@
 -- Where a step leaves P, by the table of instructions.
-use Rattle.std.proofs.Common.{◌≡◌, ℕ, ◌<◌, Bool, true, false, Option, Some, None, length, inl, inr, refl, sym, ap, subst, ◌∙◌, arith, get_or-set_same}
+use Rattle.std.proofs.Common.{◌≡◌, ℕ, Bool, true, false, Option, Some, None, length, inl, inr, refl, sym, ap, subst, ◌∙◌, arith, get_or-set_same}
 use Rattle.std.specs.Prelude.{◌⊎◌, ◌==◌, ◌&&◌, not, is_some, if◌then◌else◌}
 use Rattle.pp_word.specs.Address.{next_place, place_after, place_count, relative_to}
 use Rattle.pp_word.specs.Opcode.{length_of}

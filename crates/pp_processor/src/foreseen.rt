@@ -2,12 +2,10 @@
 //! word, m its second word.
 
 ghost use Rattle.std.specs.Prelude.{◌≡◌, ℕ, None, Some};
-ghost use Rattle.pp_processor.specs.Effect.{faults};
+ghost use Rattle.pp_processor.specs.{Effect.faults, NeedAndEffect.processor_after, Step.local};
 ghost use Rattle.pp_processor.specs.Foreseen.{MayComeTo, channel_named, jump_from, jumps_at, may_go_on, sends_function, sure_fault};
 ghost use Rattle.pp_processor.specs.InstructionTable.{instruction, works_on_channel};
-ghost use Rattle.pp_processor.specs.NeedAndEffect.{processor_after};
 ghost use Rattle.pp_processor.specs.Processor.{IsProcessor, Processor};
-ghost use Rattle.pp_processor.specs.Step.{local};
 ghost use Rattle.pp_processor.specs.declared.answer.Answer.{Answer};
 ghost use Rattle.pp_word.specs.declared.opcode.Opcode.{Opcode};
 
@@ -27,10 +25,7 @@ fn works_on_channel(op: Opcode) -> bool
 pub fn channel_named(profile: Profile, op: Opcode, d: Word6) -> Option<Word6>
     ensures { result ≡ channel_named profile op d }
 {
-    if works_on_channel(op) && profile.channel(d.get()).is_some() {
-        return Some(d);
-    }
-    None
+    (works_on_channel(op) && profile.channel(d.get()).is_some()).then_some(d)
 }
 
 /// The fault of an instruction that faults whatever its processor holds.
@@ -68,10 +63,7 @@ pub fn jump_from(
         Opcode::UJN | Opcode::ZJN | Opcode::NJN | Opcode::PJN | Opcode::MJN => {
             Some(relative(place, d))
         }
-        Opcode::AJM | Opcode::IJM | Opcode::FJM | Opcode::EJM => {
-            profile.channel(d.get())?;
-            m
-        }
+        Opcode::AJM | Opcode::IJM | Opcode::FJM | Opcode::EJM => profile.channel(d.get()).and(m),
         _ => None,
     }
 }

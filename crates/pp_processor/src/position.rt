@@ -1,5 +1,3 @@
-//! Where a processor is, and where an operation on a channel that makes no event leaves it.
-
 ghost use Rattle.std.specs.Prelude.{◌≡◌};
 ghost use Rattle.pp_channel.specs.declared.chan_op.ChanOp.{ChanOp};
 ghost use Rattle.pp_processor.specs.Positions.{AsksChannel, branch_position, cut_position, held_position, is_same, position_at, position_of, position_shown};
@@ -50,11 +48,7 @@ fn shown(pp: &Pp, op: &ChanOp, flags: Flags) -> Position
 {
     match op {
         ChanOp::Probe => branch(pp, flags),
-        ChanOp::Activate
-        | ChanOp::Disconnect
-        | ChanOp::Put(_)
-        | ChanOp::Take
-        | ChanOp::Function(_) => held(pp, flags),
+        _ => held(pp, flags),
     }
 }
 
@@ -79,9 +73,8 @@ fn held(pp: &Pp, flags: Flags) -> Position
     ensures { result ≡ held_position pp.now.block pp.now flags }
 {
     match pp.block() {
-        None => Position::of(pp),
         Some(block) if !flags.active => cut(pp, block),
-        Some(_) => Position::of(pp),
+        _ => Position::of(pp),
     }
 }
 
@@ -89,20 +82,11 @@ fn held(pp: &Pp, flags: Flags) -> Position
 fn cut(pp: &Pp, block: Block) -> Position
     ensures { result ≡ cut_position block.kind block.place pp.now }
 {
-    match block.kind {
-        BlockKind::Input { .. } => Position {
-            p: next(if block.place.get() == 0 {
-                Word12::ZERO
-            } else {
-                pp.get(Word12::ZERO)
-            }),
-            in_block: false,
-        },
-        BlockKind::Output { .. } => Position {
-            p: next(pp.get(Word12::ZERO)),
-            in_block: false,
-        },
-        BlockKind::CentralIn { .. } => Position::of(pp),
-        BlockKind::CentralOut { .. } => Position::of(pp),
-    }
+    let last = match block.kind {
+        BlockKind::Input { .. } if block.place.get() == 0 => Word12::ZERO,
+        BlockKind::Input { .. } | BlockKind::Output { .. } => pp.get(Word12::ZERO),
+        BlockKind::CentralIn { .. } | BlockKind::CentralOut { .. } => return Position::of(pp),
+    };
+    let p = next(last);
+    Position { p, in_block: false }
 }

@@ -10,7 +10,7 @@ mod step;
 mod stores;
 
 ghost use Rattle.std.specs.Prelude.{◌≡◌, ◌↔◌, IsTrue, IsSome, IfSome};
-ghost use Rattle.pp_processor.specs.Processor.{IsProcessor, HasFaultNumber, IsBlockIn, new_processor, word_at};
+ghost use Rattle.pp_processor.specs.Processor.{IsProcessor, HasFaultNumber, IsBlockIn, Processor, new_processor, word_at};
 ghost use Rattle.pp_numbers.specs.Profile.{has_channel};
 
 use crate::pp_memory::PpMemory;
@@ -34,8 +34,6 @@ pub struct Pp {
 }
 
 impl Model for Pp {
-    ghost use Rattle.pp_processor.specs.Processor.{Processor, HasFaultNumber, IsBlockIn};
-
     ghost Value = { Processor };
 
     ghost view = { λ pp. record {

@@ -1,4 +1,4 @@
-ghost use Rattle.std.specs.Prelude.{◌≡◌, ◌≢◌, IsNone, IsSome, slice_index, slice_set};
+ghost use Rattle.std.specs.Prelude.{◌≡◌, ◌≢◌, ℕ, List, IsNone, IsSome, slice_index, slice_set};
 ghost use Rattle.pp_processor.specs.PpMemory.{IsMemory, empty_memory};
 
 use pp_word::{PLACES, Word12};
@@ -11,9 +11,6 @@ pub struct PpMemory {
 }
 
 impl Model for PpMemory {
-    ghost use Rattle.std.specs.Prelude.{ℕ, List};
-    ghost use Rattle.pp_processor.specs.PpMemory.{IsMemory};
-
     ghost Value = { List ℕ };
 
     ghost view = { λ m. m.words };

@@ -1,5 +1,3 @@
-//! Which answers fit a need, and a processor's replay of answers.
-
 ghost use Rattle.std.specs.Prelude.{◌≡◌};
 ghost use Rattle.pp_processor.specs.BlockResults.{CompleteInput, ShortInput, CompleteOutput, ShortOutput, CentralRead, CentralWrite};
 ghost use Rattle.pp_processor.specs.Replay.{fits, reply_fits, replayed, given_count};
@@ -8,7 +6,6 @@ ghost use Rattle.pp_processor.specs.Processor.{IsAtRest};
 use crate::{Answer, Need, Pp};
 use pp_channel::{ChanOp, Reply};
 
-/// Whether a reply fits an operation.
 fn reply_fits(operation: &ChanOp, reply: &Reply) -> bool
     ensures { result ≡ reply_fits operation.now reply.now }
 {
@@ -36,7 +33,6 @@ pub fn fits(need: &Need, answer: &Answer) -> bool
     }
 }
 
-/// What a whole block transfer leaves, without its single steps.
 fn block_results(pp: &Pp)
     ensures complete_input { CompleteInput pp.now }
     ensures short_input { ShortInput pp.now }

@@ -1,11 +1,7 @@
-//! Block transfers: their start, each word, and their end.
-
 ghost use Rattle.std.specs.Prelude.{◌≡◌, ◌-◌, ◌<◌, Some};
-ghost use Rattle.pp_word.specs.Address.{next_place};
-ghost use Rattle.pp_word.specs.OnesComplement.{sum};
+ghost use Rattle.pp_word.specs.{Address.next_place, OnesComplement.sum};
 ghost use Rattle.pp_processor.specs.Block.{receives, central_from, ends, starts, counts_down, counts_up, block_word};
-ghost use Rattle.pp_processor.specs.NeedAndEffect.{answered};
-ghost use Rattle.pp_processor.specs.Processor.{HasWordsLeft};
+ghost use Rattle.pp_processor.specs.{NeedAndEffect.answered, Processor.HasWordsLeft};
 
 use crate::{Answer, Block, BlockKind, PAST_CENTRAL_MEMORY, Pp, PpState};
 use pp_channel::{ChannelNo, Reply};
@@ -214,11 +210,9 @@ impl Pp {
                 self.set(place, *word);
                 self.count_down(BlockKind::Input { channel }, place);
             }
-            Reply::Held(flags) => {
-                if !flags.active {
-                    self.set(place, Word12::ZERO);
-                    self.end();
-                }
+            Reply::Held(flags) if !flags.active => {
+                self.set(place, Word12::ZERO);
+                self.end();
             }
             _ => {}
         }
@@ -235,11 +229,7 @@ impl Pp {
     {
         match reply {
             Reply::Done => self.count_down(BlockKind::Output { channel }, place),
-            Reply::Held(flags) => {
-                if !flags.active {
-                    self.end();
-                }
-            }
+            Reply::Held(flags) if !flags.active => self.end(),
             _ => {}
         }
     }

@@ -1,10 +1,8 @@
-//! What single instructions do.
-
 ghost use Rattle.std.specs.Prelude.{◌≡◌, None};
 ghost use Rattle.pp_word.specs.Bits.{logical_difference, logical_product};
 ghost use Rattle.pp_word.specs.OnesComplement.{sum, difference};
 ghost use Rattle.pp_processor.specs.Processor.{IsFaultNumber};
-ghost use Rattle.pp_processor.specs.Effect.{goes_on, faults, jumps_or_stops, jumps_where, branches_where, calls, is_negative, leads_to_itself, loads, loads_word, adds_word, subtracts_word, differs_from_word, stores_word, replaces, replaces_by_sum, replaces_by_one_more, replaces_by_one_less};
+ghost use Rattle.pp_processor.specs.Effect.{goes_on, faults, jumps_or_stops, jumps_where, branches_where, calls, is_negative, leads_to_itself, loads, stores_word, replaces, replaces_by_sum, replaces_by_one_more, replaces_by_one_less};
 
 use crate::{Pp, PpState};
 use pp_word::{Word6, Word12, Word18, add18, and18, next, relative, sub18, xor18};
@@ -12,7 +10,6 @@ use pp_word::{Word6, Word12, Word18, add18, and18, next, relative, sub18, xor18}
 /// The uppermost bit of A: 1 in a negative number.
 const SIGN: u32 = 0o400_000;
 
-/// Whether a jump by d leads to itself.
 pub(super) fn leads_to_itself(d: Word6) -> bool
     ensures { result ≡ leads_to_itself d }
 {
@@ -86,7 +83,6 @@ impl Pp {
         self.a.get() >= SIGN
     }
 
-    /// A becomes a value.
     pub(super) fn load(&mut self, value: Word18, words: u8)
         ensures { self.new ≡ loads self.old value words }
     {
@@ -94,63 +90,30 @@ impl Pp {
         self.go_on(words);
     }
 
-    /// A value is added to A.
     pub(super) fn add(&mut self, value: Word18, words: u8)
         ensures { self.new ≡ loads self.old (sum self.old.a value) words }
     {
         self.load(add18(self.a, value), words);
     }
 
-    /// A value is subtracted from A.
     pub(super) fn subtract(&mut self, value: Word18, words: u8)
         ensures { self.new ≡ loads self.old (difference self.old.a value) words }
     {
         self.load(sub18(self.a, value), words);
     }
 
-    /// A becomes its logical difference from a value.
     pub(super) fn differ(&mut self, value: Word18, words: u8)
         ensures { self.new ≡ loads self.old (logical_difference self.old.a value) words }
     {
         self.load(xor18(self.a, value), words);
     }
 
-    /// A becomes its logical product with a value.
     pub(super) fn mask(&mut self, value: Word18, words: u8)
         ensures { self.new ≡ loads self.old (logical_product self.old.a value) words }
     {
         self.load(and18(self.a, value), words);
     }
 
-    /// A becomes the word at a place.
-    pub(super) fn load_word(&mut self, place: Word12, words: u8)
-        ensures { self.new ≡ loads_word self.old place words }
-    {
-        self.load(Word18::from(self.get(place)), words);
-    }
-
-    /// The word at a place is added to A.
-    pub(super) fn add_word(&mut self, place: Word12, words: u8)
-        ensures { self.new ≡ adds_word self.old place words }
-    {
-        self.add(Word18::from(self.get(place)), words);
-    }
-
-    /// The word at a place is subtracted from A.
-    pub(super) fn subtract_word(&mut self, place: Word12, words: u8)
-        ensures { self.new ≡ subtracts_word self.old place words }
-    {
-        self.subtract(Word18::from(self.get(place)), words);
-    }
-
-    /// A becomes its logical difference from the word at a place.
-    pub(super) fn differ_from_word(&mut self, place: Word12, words: u8)
-        ensures { self.new ≡ differs_from_word self.old place words }
-    {
-        self.differ(Word18::from(self.get(place)), words);
-    }
-
-    /// The word at a place becomes the low twelve bits of A.
     pub(super) fn store_word(&mut self, place: Word12, words: u8)
         ensures { self.new ≡ stores_word self.old place words }
     {
@@ -158,7 +121,6 @@ impl Pp {
         self.go_on(words);
     }
 
-    /// A becomes a value, and the word at a place its low twelve bits.
     fn replace(&mut self, place: Word12, value: Word18, words: u8)
         ensures { self.new ≡ replaces self.old place value words }
     {
@@ -166,26 +128,21 @@ impl Pp {
         self.load(value, words);
     }
 
-    /// Replace add.
     pub(super) fn replace_by_sum(&mut self, place: Word12, words: u8)
         ensures { self.new ≡ replaces_by_sum self.old place words }
     {
-        self.replace(place, add18(self.a, Word18::from(self.get(place))), words);
+        self.replace(place, add18(self.a, self.value_at(place)), words);
     }
 
-    /// Replace add one.
     pub(super) fn replace_by_one_more(&mut self, place: Word12, words: u8)
         ensures { self.new ≡ replaces_by_one_more self.old place words }
     {
-        let sum = add18(Word18::from(self.get(place)), Word18::ONE);
-        self.replace(place, sum, words);
+        self.replace(place, add18(self.value_at(place), Word18::ONE), words);
     }
 
-    /// Replace subtract one.
     pub(super) fn replace_by_one_less(&mut self, place: Word12, words: u8)
         ensures { self.new ≡ replaces_by_one_less self.old place words }
     {
-        let difference = sub18(Word18::from(self.get(place)), Word18::ONE);
-        self.replace(place, difference, words);
+        self.replace(place, sub18(self.value_at(place), Word18::ONE), words);
     }
 }

@@ -1,5 +1,3 @@
-//! Loading and starting a program.
-
 ghost use Rattle.std.specs.Prelude.{◌≡◌, slice_set};
 ghost use Rattle.pp_processor.specs.Processor.{runs_from, waiting_on};
 

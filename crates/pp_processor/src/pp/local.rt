@@ -1,11 +1,6 @@
-//! Instructions that need nothing from outside.
-
 ghost use Rattle.std.specs.Prelude.{◌≡◌, IsTrue, None, true};
-ghost use Rattle.pp_processor.specs.NextStep.{is_internal};
-ghost use Rattle.pp_processor.specs.InstructionTable.{instruction};
-ghost use Rattle.pp_processor.specs.NeedAndEffect.{answered};
-ghost use Rattle.pp_processor.specs.Replay.{fits};
-ghost use Rattle.pp_processor.specs.Step.{need_of};
+ghost use Rattle.pp_processor.specs.{InstructionTable.instruction, NextStep.is_internal};
+ghost use Rattle.pp_processor.specs.{NeedAndEffect.answered, Replay.fits, Step.need_of};
 
 use crate::{Answer, BlockKind, EXCHANGE_JUMP, NO_CENTRAL_PROCESSOR, NO_SUCH_CHANNEL, Pp, PpState};
 use pp_word::{Opcode, Word6, Word12, Word18, clear18, complement18, shift18};
@@ -38,16 +33,9 @@ impl Pp {
                 Some(channel) => self.start_block(self.a.get(), BlockKind::Output { channel }),
                 None => self.fault(NO_SUCH_CHANNEL),
             },
-            Opcode::AJM
-            | Opcode::IJM
-            | Opcode::FJM
-            | Opcode::EJM
-            | Opcode::IAN
-            | Opcode::OAN
-            | Opcode::ACN
-            | Opcode::DCN
-            | Opcode::FAN
-            | Opcode::FNC => self.fault(NO_SUCH_CHANNEL),
+            Opcode::AJM | Opcode::IJM | Opcode::FJM | Opcode::EJM => self.fault(NO_SUCH_CHANNEL),
+            Opcode::IAN | Opcode::OAN | Opcode::ACN => self.fault(NO_SUCH_CHANNEL),
+            Opcode::DCN | Opcode::FAN | Opcode::FNC => self.fault(NO_SUCH_CHANNEL),
             _ => self.run_internal(op, d),
         }
     }
@@ -86,26 +74,26 @@ impl Pp {
             Opcode::PSN25 => self.go_on(1),
             Opcode::EXN => self.fault(EXCHANGE_JUMP),
             Opcode::RPN => self.fault(NO_CENTRAL_PROCESSOR),
-            Opcode::LDD => self.load_word(Word12::from(d), 1),
-            Opcode::ADD => self.add_word(Word12::from(d), 1),
-            Opcode::SBD => self.subtract_word(Word12::from(d), 1),
-            Opcode::LMD => self.differ_from_word(Word12::from(d), 1),
+            Opcode::LDD => self.load(self.value_at(Word12::from(d)), 1),
+            Opcode::ADD => self.add(self.value_at(Word12::from(d)), 1),
+            Opcode::SBD => self.subtract(self.value_at(Word12::from(d)), 1),
+            Opcode::LMD => self.differ(self.value_at(Word12::from(d)), 1),
             Opcode::STD => self.store_word(Word12::from(d), 1),
             Opcode::RAD => self.replace_by_sum(Word12::from(d), 1),
             Opcode::AOD => self.replace_by_one_more(Word12::from(d), 1),
             Opcode::SOD => self.replace_by_one_less(Word12::from(d), 1),
-            Opcode::LDI => self.load_word(self.indirect(d), 1),
-            Opcode::ADI => self.add_word(self.indirect(d), 1),
-            Opcode::SBI => self.subtract_word(self.indirect(d), 1),
-            Opcode::LMI => self.differ_from_word(self.indirect(d), 1),
+            Opcode::LDI => self.load(self.value_at(self.indirect(d)), 1),
+            Opcode::ADI => self.add(self.value_at(self.indirect(d)), 1),
+            Opcode::SBI => self.subtract(self.value_at(self.indirect(d)), 1),
+            Opcode::LMI => self.differ(self.value_at(self.indirect(d)), 1),
             Opcode::STI => self.store_word(self.indirect(d), 1),
             Opcode::RAI => self.replace_by_sum(self.indirect(d), 1),
             Opcode::AOI => self.replace_by_one_more(self.indirect(d), 1),
             Opcode::SOI => self.replace_by_one_less(self.indirect(d), 1),
-            Opcode::LDM => self.load_word(self.index(d), 2),
-            Opcode::ADM => self.add_word(self.index(d), 2),
-            Opcode::SBM => self.subtract_word(self.index(d), 2),
-            Opcode::LMM => self.differ_from_word(self.index(d), 2),
+            Opcode::LDM => self.load(self.value_at(self.index(d)), 2),
+            Opcode::ADM => self.add(self.value_at(self.index(d)), 2),
+            Opcode::SBM => self.subtract(self.value_at(self.index(d)), 2),
+            Opcode::LMM => self.differ(self.value_at(self.index(d)), 2),
             Opcode::STM => self.store_word(self.index(d), 2),
             Opcode::RAM => self.replace_by_sum(self.index(d), 2),
             Opcode::AOM => self.replace_by_one_more(self.index(d), 2),

@@ -4,12 +4,10 @@
 ghost use Rattle.std.specs.Prelude.{◌≡◌, ◌↔◌, ℕ, None, IsTrue, false, if◌then◌else◌};
 ghost use Rattle.std.specs.Bool.{OnTrue, OnFalse};
 ghost use Rattle.pp_processor.specs.NextStep.{IsAtInstruction, IsNext, ends, is_internal};
-ghost use Rattle.pp_processor.specs.InstructionTable.{instruction};
+ghost use Rattle.pp_processor.specs.{InstructionTable.instruction, Replay.fits, Step.need_of};
 ghost use Rattle.pp_processor.specs.NeedAndEffect.{need, processor_after, outcome, IsHeldAnswer};
 ghost use Rattle.pp_processor.specs.Processor.{IsAtRest, Processor};
 ghost use Rattle.pp_numbers.specs.Profile.{has_channel};
-ghost use Rattle.pp_processor.specs.Replay.{fits};
-ghost use Rattle.pp_processor.specs.Step.{need_of};
 
 use crate::pp::effect::leads_to_itself;
 use crate::{Answer, Block, BlockKind, Need, Outcome, Pp, PpState};

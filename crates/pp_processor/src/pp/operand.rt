@@ -1,23 +1,25 @@
-//! The places and constants that the instruction at P means.
-
 ghost use Rattle.std.specs.Prelude.{◌≡◌};
 ghost use Rattle.pp_word.specs.Address.{place_after};
 ghost use Rattle.pp_processor.specs.Operand.{second_word, index, constant};
-ghost use Rattle.pp_processor.specs.InstructionTable.{operand_place};
-ghost use Rattle.pp_processor.specs.Processor.{word_at};
+ghost use Rattle.pp_processor.specs.{InstructionTable.operand_place, Processor.word_at};
 
 use crate::Pp;
 use pp_word::{Opcode, Word6, Word12, Word18, index_address};
 
 impl Pp {
-    /// The place `words` places after P.
     pub(super) fn place_after_p(&self, words: u8) -> Word12
         ensures { result ≡ place_after self.now.p words }
     {
         Word12::truncated(u32::from(self.p.get()) + u32::from(words))
     }
 
-    /// The second word of a long instruction.
+    /// The word at a place, as a value of A.
+    pub(super) fn value_at(&self, place: Word12) -> Word18
+        ensures { result ≡ word_at self.now place }
+    {
+        Word18::from(self.get(place))
+    }
+
     pub(super) fn second_word(&self) -> Word12
         ensures { result ≡ second_word self.now }
     {

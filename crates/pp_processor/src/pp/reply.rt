@@ -1,8 +1,5 @@
-//! Instructions that asked something from outside, with the answer.
-
 ghost use Rattle.std.specs.Prelude.{◌≡◌, None};
-ghost use Rattle.pp_processor.specs.InstructionTable.{row};
-ghost use Rattle.pp_processor.specs.NeedAndEffect.{answered};
+ghost use Rattle.pp_processor.specs.{InstructionTable.row, NeedAndEffect.answered};
 
 use crate::{Answer, PAST_CENTRAL_MEMORY, Pp};
 use pp_channel::Reply;

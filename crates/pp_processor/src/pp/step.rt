@@ -1,12 +1,8 @@
-//! One step: what it needs, and what its answer does.
-
 ghost use Rattle.std.specs.Prelude.{◌≡◌, ◌↔◌, if◌then◌else◌, IsTrue};
-ghost use Rattle.pp_processor.specs.Block.{block_word};
-ghost use Rattle.pp_processor.specs.InstructionTable.{instruction};
+ghost use Rattle.pp_processor.specs.{Block.block_word, InstructionTable.instruction};
 ghost use Rattle.pp_processor.specs.NeedAndEffect.{need, processor_after, outcome, IsHeldAnswer};
 ghost use Rattle.pp_numbers.specs.Profile.{has_channel};
-ghost use Rattle.pp_processor.specs.Replay.{fits};
-ghost use Rattle.pp_processor.specs.Step.{need_of};
+ghost use Rattle.pp_processor.specs.{Replay.fits, Step.need_of};
 ghost use Rattle.pp_processor.specs.Processor.{IsAtRest, IsAtFault, KeepsMemoryAndRegisters};
 
 use crate::{Answer, Block, BlockKind, Need, Outcome, Pp, PpState};
@@ -45,7 +41,6 @@ impl Pp {
         }
     }
 
-    /// What the next word of a block needs.
     #[inline(always)]
     pub(super) fn block_need(&self, block: Block) -> Need
         ensures { result ≡ need_of (block_word block.kind block.place self.now) }
@@ -67,13 +62,11 @@ impl Pp {
         ensures need { result ≡ need self.now }
         ensures nothing_unless_running { (result ≡ Need.Nothing) ↔ IsAtRest self.now }
     {
-        match self.state {
-            PpState::Running => {
-                let (next, d) = self.next_instruction();
-                self.wants_next(&next, d)
-            }
-            PpState::Stopped | PpState::Fault(_) => Need::Nothing,
+        if !matches!(self.state, PpState::Running) {
+            return Need::Nothing;
         }
+        let (next, d) = self.next_instruction();
+        self.wants_next(&next, d)
     }
 
     /// Gives the answer to the need that `wants` returns.
@@ -91,12 +84,10 @@ impl Pp {
         ensures fault_keeps { self.old.state ≡ PpState.Running → IsAtFault self.new
             → KeepsMemoryAndRegisters self.old self.new }
     {
-        match self.state {
-            PpState::Running => {
-                let (next, d) = self.next_instruction();
-                self.give_next(&next, d, answer)
-            }
-            PpState::Stopped | PpState::Fault(_) => Outcome::AtRest,
+        if !matches!(self.state, PpState::Running) {
+            return Outcome::AtRest;
         }
+        let (next, d) = self.next_instruction();
+        self.give_next(&next, d, answer)
     }
 }

@@ -1,5 +1,3 @@
-//! The places that a step may store to.
-
 ghost use Rattle.std.specs.Prelude.{◌≡◌};
 ghost use Rattle.pp_processor.specs.Stores.{KeepsOthers, first_stored};
 
