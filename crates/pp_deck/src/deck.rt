@@ -1,9 +1,6 @@
-//! Decks.
-
 ghost use Rattle.std.specs.Prelude.{ℕ, ◌≡◌, ◌≢◌, ◌≤◌, ◌<◌, Ok, Err, IfOk, IfErr, find, length, position};
-ghost use Rattle.pp_deck.specs.DeckText.{lines_of};
+ghost use Rattle.pp_deck.specs.{DeckText.lines_of, Reading.IsStated};
 ghost use Rattle.pp_deck.specs.DeckMeaning.{deck_meaning, has_fields, meaning_of_lines, is_foreign, line_of_byte};
-ghost use Rattle.pp_deck.specs.Reading.{IsStated};
 ghost use Rattle.pp_machine.specs.Central.{IsCentralSize};
 
 use crate::deck_line::central_size_in;
@@ -12,7 +9,6 @@ use crate::keyword::Keyword;
 use crate::lines::Lines;
 use crate::reading::Reading;
 use crate::{DeckCode, DeckFault};
-use pp_channel::Memory;
 use pp_machine::{Machine, PROCESSORS, Profile};
 use std::alloc::Allocator;
 
@@ -54,25 +50,19 @@ pub fn read_deck<A: Allocator + Copy>(
         → result ≡ Err (record { line = line_of_byte text.now i; code = DeckCode.NotAscii }) }
 {
     if text.len() > LONGEST_TEXT {
-        return Err(DeckFault {
-            line: 0,
-            code: DeckCode::TooLong,
-        });
+        return Err(fault(0, DeckCode::TooLong));
     }
     if let Some(i) = first_foreign(text) {
-        return Err(DeckFault {
-            line: line_of_byte(text, i),
-            code: DeckCode::NotAscii,
-        });
+        return Err(fault(line_of_byte(text, i), DeckCode::NotAscii));
     }
     deck_of_lines(alloc, profile, text)
 }
 
-/// No line is at fault if memory was refused.
-const OUT_OF_MEMORY: DeckFault = DeckFault {
-    line: 0,
-    code: DeckCode::Memory,
-};
+fn fault(line: u32, code: DeckCode) -> DeckFault
+    ensures { result ≡ record { line = line; code = code } }
+{
+    DeckFault { line, code }
+}
 
 /// The place of the first byte that is not ASCII.
 fn first_foreign(text: &[u8]) -> Option<usize>
@@ -127,7 +117,7 @@ fn deck_of_lines<A: Allocator + Copy>(
     let stated = stated_size(text);
     let size = stated.unwrap_or(DEFAULT_SIZE);
     let Ok(mut reading) = Reading::new(alloc, profile, size) else {
-        return Err(OUT_OF_MEMORY);
+        return Err(fault(0, DeckCode::Memory));
     };
     let mut lines = Lines::of(text);
     let mut number = 0;
@@ -136,16 +126,10 @@ fn deck_of_lines<A: Allocator + Copy>(
         number += 1;
         if let Some(first) = fields.next_field() {
             if let Err(flaw) = reading.read_line(is_after_fields, &stated, first, &mut fields) {
-                return Err(DeckFault {
-                    line: number,
-                    code: flaw.code(),
-                });
+                return Err(fault(number, flaw.code()));
             }
             is_after_fields = true;
         }
     }
-    match reading.wait_unnamed() {
-        Ok(()) => Ok(reading.into_deck()),
-        Err(Memory) => Err(OUT_OF_MEMORY),
-    }
+    reading.into_deck().or(Err(fault(0, DeckCode::Memory)))
 }

@@ -1,5 +1,5 @@
-ghost use Rattle.std.specs.Prelude.{◌≡◌};
-ghost use Rattle.pp_deck.specs.FaultText.{code_number};
+ghost use Rattle.std.specs.Prelude.{Some};
+ghost use Rattle.pp_deck.specs.FaultText.{deck_fault_text};
 
 use std::error::Error;
 use std::fmt::{self, Display, Formatter, Write};
@@ -27,15 +27,6 @@ pub enum DeckCode {
     Memory = 9,
 }
 
-impl DeckCode {
-    /// Its number.
-    fn number(self) -> u8
-        ensures { result ≡ code_number self }
-    {
-        self as u8
-    }
-}
-
 /// Why a deck is refused, and the number of the faulty line, from 1 on. The line is 0 for `TooLong`
 /// and `Memory`.
 #[derive(Clone, Copy, Debug, PartialEq, Eq)]
@@ -46,13 +37,10 @@ pub struct DeckFault {
 
 /// As `deck fault 4 at line 3`.
 impl Display for DeckFault {
-    ghost use Rattle.std.specs.Prelude.{Some};
-    ghost use Rattle.pp_deck.specs.FaultText.{deck_fault_text};
-
     ghost output = { λ fault. Some (deck_fault_text fault) };
 
     fn fmt<W: Write>(&self, f: &mut Formatter<W>) -> fmt::Result {
-        let code = self.code.number();
+        let code = self.code as u8;
         let line = u64::from(self.line);
         write!(f, "deck fault {code} at line {line}")
     }

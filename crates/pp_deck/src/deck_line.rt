@@ -1,12 +1,9 @@
-//! What the fields of a line set.
-
 ghost use Rattle.std.specs.Prelude.{ℕ, ◌≡◌, ◌≢◌, ◌<◌, ◌≤◌, ◌^◌, ◌∷◌, [], length, Ok, Err, Result, IfOk, IfErr, OnOk};
 ghost use Rattle.pp_word.specs.Address.{place_count};
 ghost use Rattle.pp_machine.specs.Central.{IsCentralSize};
 ghost use Rattle.pp_deck.specs.DeckLine.{Line, number_then, words_in, start, start_from, central_size, central_line};
 ghost use Rattle.pp_deck.specs.DeckText.{Field, Fields};
-ghost use Rattle.pp_deck.specs.OctalNumber.{number};
-ghost use Rattle.pp_deck.specs.declared.flaw.Flaw.{Flaw};
+ghost use Rattle.pp_deck.specs.{OctalNumber.number, declared.flaw.Flaw.Flaw};
 ghost use Rattle.pp_deck.specs.Reading.{loaded_from, with_central_words, on_read, Leaves};
 
 use crate::Fields;

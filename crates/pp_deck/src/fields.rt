@@ -1,6 +1,6 @@
-ghost use Rattle.std.specs.Prelude.{◌≡◌, ◌∷◌, [], not, IfSome, IfNone, position};
+ghost use Rattle.std.specs.Prelude.{◌≡◌, ℕ, List, ◌∷◌, [], not, IfSome, IfNone, position};
 ghost use Rattle.std.specs.List.{position_or_len};
-ghost use Rattle.pp_deck.specs.DeckText.{is_blank};
+ghost use Rattle.pp_deck.specs.DeckText.{fields_in, fields_of, is_blank};
 
 use std::marker::Model;
 
@@ -12,17 +12,12 @@ pub struct Fields<'a> {
 }
 
 impl<'a> Model for Fields<'a> {
-    ghost use Rattle.std.specs.Prelude.{ℕ, List};
-    ghost use Rattle.pp_deck.specs.DeckText.{fields_in};
-
     ghost Value = { List (List ℕ) };
 
     ghost view = { λ fields. fields_in fields.text.now };
 }
 
 impl<'a> Fields<'a> {
-    ghost use Rattle.pp_deck.specs.DeckText.{fields_of};
-
     /// The fields of a line.
     pub fn of(line: &'a [u8]) -> Fields<'a>
         ensures { result ≡ fields_of line.now }

@@ -24,9 +24,7 @@ impl<A: Allocator> Deck<A> {
 fn is_in_use<A: Allocator>(deck: &Deck<A>, n: PpNo) -> bool
     ensures { result ≡ is_in_use (record { machine = deck.now.machine; named = deck.now.named }) n }
 {
-    match ChannelNo::new(n.get()) {
-        // Dead start had it wait on the channel of its own number.
-        Some(c) => deck.named[n.index()] || deck.machine.opened(c),
-        None => unreachable!(),
-    }
+    // Dead start had it wait on the channel of its own number.
+    let channel = ChannelNo::new(n.get());
+    deck.named[n.index()] || channel.is_some_and(|c| deck.machine.opened(c))
 }

@@ -1,4 +1,5 @@
 ghost use Rattle.std.specs.Prelude.{◌≡◌};
+ghost use Rattle.pp_deck.specs.DeckLine.{keyword_of};
 
 /// What the first field of a line announces.
 #[derive(Clone, Copy)]
@@ -20,8 +21,6 @@ pub(crate) enum Keyword {
 }
 
 impl Keyword {
-    ghost use Rattle.pp_deck.specs.DeckLine.{keyword_of};
-
     /// What this first field announces.
     #[tactic(auto, unfolding(crate::specs::DeckLine::keyword_of))]
     pub(crate) fn of(field: &[u8]) -> Keyword

@@ -3,10 +3,9 @@
 
 ghost use Rattle.std.specs.Prelude.{ℕ, ◌≡◌, List, length, Ok};
 ghost use Rattle.pp_deck.specs.DeckLaw.{KeepsDeckLaw, NamesWithin};
-ghost use Rattle.pp_deck.specs.DeckLine.{Line};
+ghost use Rattle.pp_deck.specs.{DeckLine.Line, DeckText.lines_of};
 ghost use Rattle.pp_deck.specs.DeckMeaning.{LoadedDeck, deck_meaning, parsed_deck, size_of};
 ghost use Rattle.pp_deck.specs.Reading.{after_lines, progress_of};
-ghost use Rattle.pp_deck.specs.DeckText.{lines_of};
 ghost use Rattle.pp_machine.specs.Headline.{HoldsOnEachChannel};
 ghost use Rattle.pp_numbers.specs.declared.profile.Profile.{Profile};
 

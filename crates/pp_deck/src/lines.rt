@@ -1,4 +1,6 @@
-ghost use Rattle.std.specs.Prelude.{◌≡◌, ◌∷◌, [], IfSome, IfNone, position};
+ghost use Rattle.std.specs.Prelude.{◌≡◌, ℕ, List, ◌∷◌, [], IfSome, IfNone, position};
+ghost use Rattle.std.specs.Option.{option_map_or};
+ghost use Rattle.pp_deck.specs.DeckText.{lines_of};
 
 use crate::Fields;
 use std::marker::Model;
@@ -12,18 +14,12 @@ pub(crate) struct Lines<'a> {
 }
 
 impl<'a> Model for Lines<'a> {
-    ghost use Rattle.std.specs.Prelude.{ℕ, List, []};
-    ghost use Rattle.std.specs.Option.{option_map_or};
-    ghost use Rattle.pp_deck.specs.DeckText.{lines_of};
-
     ghost Value = { List (List (List ℕ)) };
 
     ghost view = { λ lines. option_map_or (λ text. lines_of text.now) lines.text [] };
 }
 
 impl<'a> Lines<'a> {
-    ghost use Rattle.pp_deck.specs.DeckText.{lines_of};
-
     /// The lines of a text.
     pub(crate) fn of(text: &'a [u8]) -> Lines<'a>
         ensures { result ≡ lines_of text.now }

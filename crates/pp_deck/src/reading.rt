@@ -1,9 +1,8 @@
-ghost use Rattle.std.specs.Prelude.{◌≡◌, ◌≤◌, ◌∷◌, ◌^◌, length, is_some, false, Err, IfOk, IsErrOf, OnOk, ◌↔◌, if◌then◌else◌};
-ghost use Rattle.pp_machine.specs.Central.{IsCentralSize};
+ghost use Rattle.std.specs.Prelude.{◌≡◌, ◌≤◌, ◌∷◌, ◌^◌, length, is_some, false, Err, IfOk, IsErrOf, ◌↔◌, if◌then◌else◌};
+ghost use Rattle.pp_machine.specs.{Central.IsCentralSize, DeadStart.IsBeforeFirstTurn};
 ghost use Rattle.pp_deck.specs.DeckLine.{section_line, start_line, words_line, central_line, central_size, central_words_line, keyword_of, line_after};
-ghost use Rattle.pp_machine.specs.DeadStart.{IsBeforeFirstTurn};
 ghost use Rattle.pp_deck.specs.DeckMeaning.{unnamed_in, with_dead_start};
-ghost use Rattle.pp_deck.specs.Reading.{before_lines, after_line, deck_so_far, on_read, Leaves};
+ghost use Rattle.pp_deck.specs.Reading.{Progress, before_lines, after_line, deck_so_far, on_read, Leaves};
 
 use crate::deck_line::{end_line, next_number, set_central_words, set_words, start_a};
 use crate::flaw::Flaw;
@@ -26,8 +25,6 @@ pub(crate) struct Reading<A: Allocator> {
 }
 
 impl<A: Allocator> Model for Reading<A> {
-    ghost use Rattle.pp_deck.specs.Reading.{Progress};
-
     ghost Value = { Progress };
 
     ghost view = { λ r. record {
@@ -56,29 +53,22 @@ impl<A: Allocator> Reading<A> {
         })
     }
 
-    /// Once all lines are read: at dead start the processors that the deck does not name wait.
-    pub(crate) fn wait_unnamed(&mut self) -> Result<(), Memory>
+    /// The deck, once all lines are read: at dead start the processors that it does not name wait.
+    pub(crate) fn into_deck(mut self) -> Result<Deck<A>, Memory>
     where
         A: Clone,
-        requires { IsBeforeFirstTurn self.old.machine }
-        ensures { OnOk result (deck_so_far self.new
-            ≡ with_dead_start self.old.asks_dead_start (deck_so_far self.old)) }
+        requires { IsBeforeFirstTurn self.machine }
+        ensures { IfOk result (λ deck. record { machine = deck.machine; named = deck.named }
+            ≡ with_dead_start self.asks_dead_start (deck_so_far self)) }
     {
         if self.asks_dead_start {
             let waiting = unnamed(self.machine.profile(), &self.named);
             self.machine.dead_start(&waiting)?;
         }
-        Ok(())
-    }
-
-    /// The deck that was read.
-    pub(crate) fn into_deck(self) -> Deck<A>
-        ensures { record { machine = result.machine; named = result.named } ≡ deck_so_far self }
-    {
-        Deck {
+        Ok(Deck {
             machine: self.machine,
             named: self.named,
-        }
+        })
     }
 
     /// Reads a line with this first field and these after it. `is_after_fields` says whether a
@@ -103,10 +93,7 @@ impl<A: Allocator> Reading<A> {
     {
         match Keyword::of(first) {
             Keyword::Central if is_after_fields => Err(Flaw::UnknownLine),
-            Keyword::Central => match stated {
-                Ok(_) => Ok(()),
-                Err(flaw) => Err(*flaw),
-            },
+            Keyword::Central => stated.and(Ok(())),
             Keyword::CentralWords => {
                 let address = Word18::truncated(next_number(fields, 6)? as u32);
                 set_central_words(&mut self.machine, address, fields)

@@ -1,4 +1,4 @@
-ghost use Rattle.std.specs.Prelude.{◌≡◌, ◌<◌, ◌++◌, true, IfOk, OnOk, OnErr};
+ghost use Rattle.std.specs.Prelude.{◌≡◌, ◌<◌, ◌≤◌, ◌+◌, ◌++◌, true, vec_len, vec_capacity, IfOk, OnOk, OnErr};
 ghost use Rattle.pp_line.specs.LineLog.{LogState, empty_log, event_entry, look_entry, appended, looked, ends_in_look_at};
 
 use crate::Entry;
@@ -17,9 +17,6 @@ pub struct LineLog<A: Allocator> {
 }
 
 impl<A: Allocator> Model for LineLog<A> {
-    ghost use Rattle.std.specs.Prelude.{◌+◌, ◌≤◌, vec_len, vec_capacity};
-    ghost use Rattle.pp_line.specs.LineLog.{LogState};
-
     ghost Value = { LogState };
 
     ghost view = { λ log. record {
@@ -36,9 +33,8 @@ impl<A: Allocator> LineLog<A> {
     pub fn new(alloc: A, room: u32) -> Result<LineLog<A>, Memory>
         ensures { IfOk result (λ log. log ≡ empty_log room) }
     {
-        let entries = Vec::with_capacity(alloc, room as usize)?;
         Ok(LineLog {
-            entries,
+            entries: Vec::with_capacity(alloc, room as usize)?,
             room,
             kept: true,
         })
@@ -87,10 +83,7 @@ impl<A: Allocator> LineLog<A> {
         let Some(last) = self.entries.last() else {
             return false;
         };
-        match last.what {
-            Seen::Saw(_) => !self.kept && last.channel.get() == channel.get(),
-            Seen::Did(_) => false,
-        }
+        matches!(last.what, Seen::Saw(_)) && !self.kept && last.channel.get() == channel.get()
     }
 
     /// Adds the entries of another log at the end.

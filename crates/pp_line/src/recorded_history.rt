@@ -1,5 +1,3 @@
-//! The channels of logs that record their whole histories.
-
 ghost use Rattle.std.specs.Prelude.{◌≡◌, ℕ, ◌<◌, ◌++◌, List, [], length, IfOk, slice_index_or, slice_set};
 ghost use Rattle.std.specs.List.{flat_map, fold};
 ghost use Rattle.pp_numbers.specs.ChannelNo.{channel_count};
@@ -19,9 +17,6 @@ struct EventsByNumber<A: Allocator> {
 }
 
 impl<A: Allocator> Model for EventsByNumber<A> {
-    ghost use Rattle.std.specs.Prelude.{List};
-    ghost use Rattle.pp_channel.specs.declared.event.Event.{Event};
-
     ghost Value = { List Event };
 
     ghost view = { λ e. e.events.items };
@@ -55,7 +50,11 @@ pub fn recorded_channels<T, A: Allocator + Copy>(
         → IsRecordedBy (log.now ++ flat_map (λ other. other.1.items) others.now) seen.now histories
         → channels ≡ histories) }
 {
-    let mut histories = recorded_histories(alloc, log, others, seen)?;
+    let mut histories = unrecorded_histories(alloc, seen)?;
+    put_log(&mut histories, log);
+    for other in others {
+        put_log(&mut histories, other.1.as_slice());
+    }
     let mut channels = array::from_fn(|_| Channel::new(alloc));
     for place in 0..CHANNELS {
         let history = &mut histories[place];
@@ -70,25 +69,6 @@ fn put_channel<A: Allocator>(channels: &mut [Channel<A>], place: usize, channel:
     ensures { channels.new ≡ slice_set channels.old place channel }
 {
     channels[place] = channel;
-}
-
-/// The histories of all channels in order, by one pass over the logs.
-fn recorded_histories<T, A: Allocator + Copy>(
-    alloc: A,
-    log: &[Entry],
-    others: &[(T, Vec<Entry, A>)],
-    seen: &[u64; CHANNELS],
-) -> Result<Vec<EventsByNumber<A>, A>, Memory>
-    ensures { IfOk result (λ recorded. (histories : List (List Event))
-        → IsRecordedBy (log.now ++ flat_map (λ other. other.1.items) others.now) seen.now histories
-        → recorded.items ≡ histories) }
-{
-    let mut recorded = unrecorded_histories(alloc, seen)?;
-    put_log(&mut recorded, log);
-    for other in others {
-        put_log(&mut recorded, other.1.as_slice());
-    }
-    Ok(recorded)
 }
 
 /// Puts each event of a log at its number, in the history of its channel.
@@ -123,8 +103,7 @@ fn put_entry<A: Allocator>(histories: &mut Vec<EventsByNumber<A>, A>, entry: &En
     requires { length histories.old.items ≡ channel_count }
     ensures { histories.new.items ≡ with_entry histories.old.items entry.now }
 {
-    match entry.what {
-        Seen::Did(event) => histories[entry.channel.index()].put(entry.number, event),
-        Seen::Saw(_) => {}
+    if let Seen::Did(event) = entry.what {
+        histories[entry.channel.index()].put(entry.number, event);
     }
 }

@@ -1,4 +1,7 @@
-//! The rule of the shared words, and the kinds of step on them.
+ghost use Rattle.std.specs.Prelude.{[]};
+ghost use Rattle.pp_line.specs.SharedWords.{Rule, central_in};
+ghost use Rattle.pp_line.specs.LineSteps.{OnChannel, OnCentral, IsLoad, IsRead, IsShareCheck, IsWrite, exchanges};
+ghost use Rattle.pp_line.specs.LineView.{first_view, parent_view, child_view, joined_view, blank_view};
 
 use crate::Entry;
 use crate::access::Access;
@@ -46,9 +49,6 @@ pub struct Opening<A: Allocator> {
 pub struct ChannelRule;
 
 impl<A: Allocator> TableRule<Event, LineView, Opening<A>> for ChannelRule {
-    ghost use Rattle.pp_line.specs.SharedWords.{Rule, central_in};
-    ghost use Rattle.pp_line.specs.LineView.{first_view};
-
     ghost holds = { λ opening. Rule opening.whole (central_in opening.words.items) };
 
     ghost first = { λ opening. first_view opening.whole (central_in opening.words.items) };
@@ -58,8 +58,6 @@ impl<A: Allocator> TableRule<Event, LineView, Opening<A>> for ChannelRule {
 pub struct Load;
 
 impl Play<Event, LineView> for Load {
-    ghost use Rattle.pp_line.specs.LineSteps.{OnChannel, IsLoad};
-
     ghost then = { OnChannel IsLoad };
 }
 
@@ -67,8 +65,6 @@ impl Play<Event, LineView> for Load {
 pub struct Exchange;
 
 impl Play<Event, LineView> for Exchange {
-    ghost use Rattle.pp_line.specs.LineSteps.{exchanges};
-
     ghost then = { exchanges };
 }
 
@@ -76,8 +72,6 @@ impl Play<Event, LineView> for Exchange {
 pub struct CheckShares;
 
 impl Play<Event, LineView> for CheckShares {
-    ghost use Rattle.pp_line.specs.LineSteps.{OnChannel, IsShareCheck};
-
     ghost then = { OnChannel IsShareCheck };
 }
 
@@ -85,8 +79,6 @@ impl Play<Event, LineView> for CheckShares {
 pub struct Read;
 
 impl Play<Event, LineView> for Read {
-    ghost use Rattle.pp_line.specs.LineSteps.{OnCentral, IsRead};
-
     ghost then = { OnCentral IsRead };
 }
 
@@ -94,8 +86,6 @@ impl Play<Event, LineView> for Read {
 pub struct Write;
 
 impl Play<Event, LineView> for Write {
-    ghost use Rattle.pp_line.specs.LineSteps.{OnCentral, IsWrite};
-
     ghost then = { OnCentral IsWrite };
 }
 
@@ -103,17 +93,12 @@ impl Play<Event, LineView> for Write {
 pub struct Share;
 
 impl Split<LineView> for Share {
-    ghost use Rattle.pp_line.specs.LineView.{parent_view, child_view};
-
     ghost left = { parent_view };
 
     ghost right = { child_view };
 }
 
 impl Join<LineView> for Share {
-    ghost use Rattle.std.specs.Prelude.{[]};
-    ghost use Rattle.pp_line.specs.LineView.{blank_view, joined_view};
-
     ghost both = { joined_view };
 
     ghost spent = { blank_view 0 0 [] [] };

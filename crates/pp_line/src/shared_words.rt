@@ -1,5 +1,3 @@
-//! The words that lines share, and a line's seat at them.
-
 ghost use Rattle.std.specs.Prelude.{◌≡◌, ◌+◌, ◌-◌, ◌<◌, ◌≤◌, ◌^◌, ◌↔◌, ℕ, [], List, ◌∷◌, ◌++◌, length, replicate, slice_index, IfOk, IfSome, IfNone, IsTrue, MatchBool, OnErr};
 ghost use Rattle.std.specs.Arc.{arc_value};
 ghost use Rattle.pp_line.specs.Types.{Event, LineView};

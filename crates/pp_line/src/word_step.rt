@@ -1,5 +1,3 @@
-//! One step of a channel word.
-
 ghost use Rattle.std.specs.Prelude.{◌≡◌, ◌<◌, ◌≤◌, ℕ, List, None};
 ghost use Rattle.pp_line.specs.Types.{Event, Reply};
 ghost use Rattle.pp_line.specs.ChannelWord.{history_word, number_in, flags_in, greatest_number, step_from, state_in, waiting_in, word_with, StepsFrom};
@@ -87,11 +85,7 @@ fn waiting_in(word: u64) -> Option<Word12>
     ensures { result ≡ waiting_in word }
 {
     let Flags { active, full } = flags_in(word);
-    if active && full {
-        Some(Word12::truncated((word % FULL) as u32))
-    } else {
-        None
-    }
+    (active && full).then_some(Word12::truncated((word % FULL) as u32))
 }
 
 /// The word after an event.

@@ -1,5 +1,3 @@
-//! The refusal of a channel that has had too many events.
-
 use thiserror::Error;
 
 /// The channel has had as many events as its word can count, 2^50 - 1.

@@ -1,5 +1,3 @@
-//! Runs the workers at once; those at rest need no thread.
-
 ghost use Rattle.std.specs.Prelude.{◌≡◌, ◌+◌, ◌*◌, ◌++◌, ◌∷◌, [], List, take, length, vec_len, IfOk};
 ghost use Rattle.std.specs.List.{AllZip};
 ghost use denote.Param.Send.{IsSync, IsSend, Frees};
@@ -17,8 +15,7 @@ use pp_machine::{Machine, Pp, PpNo, PpState};
 use std::alloc::Allocator;
 use std::snapshot::Snapshot;
 use std::sync::Wait;
-use std::thread;
-use std::thread::{Promise, PromisedHandle, Scope, Threads};
+use std::thread::{self, Promise, PromisedHandle, Scope, Threads};
 
 /// Workers that have ended, in order, each beside its line, which has its log.
 pub type Crew<A> = Vec<(Ended<A>, Line<A>), A>;
@@ -32,8 +29,6 @@ struct EndsAs<A: Allocator> {
 }
 
 impl<A: Allocator> Promise<(Ended<A>, Line<A>)> for EndsAs<A> {
-    ghost use Rattle.pp_runner.specs.Crew.{IsEnded};
-
     ghost kept_by = { λ p ended. IsEnded p.load.value p.run.value.size p.run.value.limits.steps
         p.line.value ended.0 ended.1 };
 }

@@ -1,5 +1,3 @@
-//! Gates that workers pass.
-
 use pp_machine::PpNo;
 
 /// What each worker passes before each try of a step.

@@ -1,6 +1,5 @@
-//! Central memory behind locks, which threads may share; no run uses it.
-
-ghost use Rattle.std.specs.Prelude.{◌≡◌, ◌<◌, ◌≤◌, ◌+◌, ◌*◌, ◌↔◌, ℕ, length, IsNone, IsTrue, IfOk, IfSome, slice_index, slice_set};
+ghost use Rattle.std.specs.Prelude.{◌≡◌, ◌<◌, ◌≤◌, ◌+◌, ◌*◌, ◌↔◌, ℕ, List, length, vec_len, IsNone, IsTrue, IfOk, IfSome, slice_index, slice_set};
+ghost use Rattle.pp_machine.specs.Central.{IsCentralSize};
 ghost use Rattle.pp_runner.specs.Banks.{StandsAt};
 
 use pp_channel::Memory;
@@ -29,8 +28,6 @@ struct Bank<A: Allocator> {
 }
 
 impl<A: Allocator> Model for Bank<A> {
-    ghost use Rattle.std.specs.Prelude.{◌≡◌, ℕ, List, length};
-
     ghost Value = { List ℕ };
 
     ghost view = { λ b. b.words.items };
@@ -73,8 +70,8 @@ impl<A: Allocator> Bank<A> {
     }
 }
 
-/// Central memory in banks, a lock each. Contracts see only its size: other threads may change its
-/// words at any time.
+/// Central memory in banks, a lock each, which no run uses. Contracts see only its size: other
+/// threads may change its words at any time.
 #[derive(Drop)]
 pub struct LockedCentral<A: Allocator> {
     banks: Vec<Mutex<Bank<A>>, A>,
@@ -82,9 +79,6 @@ pub struct LockedCentral<A: Allocator> {
 }
 
 impl<A: Allocator> Model for LockedCentral<A> {
-    ghost use Rattle.std.specs.Prelude.{ℕ, ◌≡◌, vec_len};
-    ghost use Rattle.pp_machine.specs.Central.{IsCentralSize};
-
     ghost Value = { ℕ };
 
     ghost view = { λ c. c.size };
@@ -115,11 +109,8 @@ impl<A: Allocator> LockedCentral<A> {
         ensures exists { IsNone result ↔ (self.now ≤ a) }
         ensures stands { IfSome result (λ found. StandsAt a found.0 found.1) }
     {
-        if a.get() >= self.size {
-            return None;
-        }
         let address = a.get() as usize;
-        Some((address % BANKS, address / BANKS))
+        (a.get() < self.size).then_some((address % BANKS, address / BANKS))
     }
 
     /// The word at an address, or nothing at or past the size.

@@ -1,5 +1,3 @@
-//! The line that opens channels before the workers begin.
-
 ghost use Rattle.std.specs.Prelude.{◌≤◌, IfOk};
 ghost use Rattle.pp_runner.specs.Crew.{HasOpened};
 

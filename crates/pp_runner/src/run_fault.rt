@@ -1,5 +1,5 @@
 use pp_channel::Memory;
-use std::alloc::{AllocError, AllocFailed};
+use std::alloc::AllocFailed;
 use std::thread::SpawnError;
 use thiserror::Error;
 
@@ -13,12 +13,6 @@ pub enum RunFault {
 
 impl From<Memory> for RunFault {
     fn from(_refused: Memory) -> RunFault {
-        RunFault::Memory
-    }
-}
-
-impl From<AllocError> for RunFault {
-    fn from(_refused: AllocError) -> RunFault {
         RunFault::Memory
     }
 }

@@ -1,5 +1,3 @@
-//! How long a held worker spins before it yields its core.
-
 ghost use Rattle.std.specs.Prelude.{◌≡◌, ◌⊎◌, ◌<◌, ◌≤◌, ◌+◌, ◌*◌, ◌/◌, max, min};
 ghost use Rattle.pp_runner.specs.declared.spinning.TheConstants.{LEAST, LONG_WAIT, MOST};
 

@@ -1,10 +1,7 @@
-//! A run of a machine's processors, each in a thread of its own.
-
 ghost use Rattle.std.specs.Prelude.{◌≡◌, ◌+◌, [], All, vec_len, IfOk};
 ghost use Rattle.pp_line.specs.LineState.{IsSplitFrom};
 ghost use Rattle.pp_numbers.specs.Profile.{processors_in};
-ghost use Rattle.pp_runner.specs.Crew.{HasOpened};
-ghost use Rattle.pp_runner.specs.Report.{IsReportOf};
+ghost use Rattle.pp_runner.specs.{Crew.HasOpened, Report.IsReportOf};
 
 use crate::crew::run_crew;
 use crate::opening::opening_line;

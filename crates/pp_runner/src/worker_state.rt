@@ -1,5 +1,3 @@
-//! A worker, from its load to its end.
-
 ghost use Rattle.std.specs.Prelude.{◌≡◌, ◌<◌, ◌≤◌, ◌+◌, ◌-◌, ◌*◌, ◌^◌, ℕ, List, length, vec_len, vec_capacity, IfOk, IfSome, IfNone, OnErr};
 ghost use Rattle.pp_line.specs.LineLog.{seen_on};
 ghost use Rattle.pp_runner.specs.Types.{Answer, Entry};

@@ -1,5 +1,3 @@
-//! Lines of a family that are closed together.
-
 ghost use Rattle.std.specs.Prelude.{◌≡◌, ◌∷◌, All, IfOk};
 ghost use Rattle.std.specs.List.{AllZip};
 ghost use Rattle.pp_line.specs.LineState.{all_joined, lines_of, IsLogBeside, SeesAtLeast, AreClosed, AreInOneOrder};
@@ -47,8 +45,7 @@ impl<A: Allocator + Copy> Line<A> {
             mut words,
             log,
             mut seen,
-            shares: _,
-            whole: _,
+            ..
         } = self;
         let mut logs = Vec::with_capacity(alloc, others.len())?;
         for (value, other) in others {

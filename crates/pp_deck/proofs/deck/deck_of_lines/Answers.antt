@@ -1,6 +1,9 @@
-use Rattle.std.proofs.Common.{Ok, ap, arith, sym, ◌∙◌}
+use Rattle.std.proofs.Common.{◌≡◌, Result, Ok, Err, ap, arith, sym, ◌∙◌}
+use Rattle.std.specs.Prelude.{◌≢◌}
+use Rattle.std.specs.Result.{IfErr, result_or}
 use Rattle.pp_deck.specs.DeckText.{lines_of}
 use Rattle.pp_deck.specs.Reading.{before_lines}
+use Rattle.pp_deck.specs.declared.deck_fault.{DeckCode.TheVariants.Memory, DeckFault.DeckFault}
 use Rattle.pp_deck.proofs.FieldLemmas.{next_line, no_line, length-lines_of}
 use Rattle.pp_deck.proofs.ReadingLemmas.{read_none, read_blank, read_fields, read_flaw, read_all, before_first_turn, central_length}
 use Rattle.pp_deck.proofs.StatedLemmas.{size_is, stated_here}
@@ -28,7 +31,7 @@ read_line-requires-clause-stated g c = λ none central.
 pub returns-in-Err-clause-fault : goal.returns-in-Err-clause-fault
 returns-in-Err-clause-fault g c =
     let next = next_line _ _ _ _ _ c.loop-fields.invariant.left c.in-Some.ensures.taken in
-    λ _. rw c.code.ensures (read_flaw c.args.profile _ _ _ _ _ _ c.in-Err.flaw c.loop-fields.invariant.read next.within (next.here ∙ c.in-Some-next_field.ensures.taken) c.in-Err.ensures)
+    λ _. rw (c.fault-in-Err.ensures, c.code.ensures) (read_flaw c.args.profile _ _ _ _ _ _ c.in-Err.flaw c.loop-fields.invariant.read next.within (next.here ∙ c.in-Some-next_field.ensures.taken) c.in-Err.ensures)
 
 pub loop-fields-preserved-in-Some-next_field : goal.loop-fields-preserved-in-Some-next_field
 loop-fields-preserved-in-Some-next_field g c =
@@ -48,10 +51,17 @@ loop-fields-preserved g c =
       read = read_blank c.args.profile _ _ _ _ c.loop-fields.invariant.read next.within (next.here ∙ c.in_default-next_field.ensures.none);
     }
 
-pub wait_unnamed-requires : goal.wait_unnamed-requires
-wait_unnamed-requires g c = before_first_turn c.args.profile _ _ _ _ c.loop-fields.invariant.read
+pub into_deck-requires : goal.into_deck-requires
+into_deck-requires g c = before_first_turn c.args.profile _ _ _ _ c.loop-fields.invariant.read
 
-pub returns-in-Ok-wait_unnamed-clause-ok : goal.returns-in-Ok-wait_unnamed-clause-ok
-returns-in-Ok-wait_unnamed-clause-ok g c =
-    read_all c.args.profile _ _ _ _ c.loop-fields.invariant.read (no_line _ _ _ c.loop-fields.invariant.within c.loop-fields.invariant.left c.in_default-next_line.ensures.none)
-    ∙ ap Ok (sym c.in-Ok-wait_unnamed.ensures ∙ sym c.into_deck.ensures)
+pub returns-clause-ok : goal.returns-clause-ok
+returns-clause-ok g c =
+    let all = read_all c.args.profile _ _ _ _ c.loop-fields.invariant.read (no_line _ _ _ c.loop-fields.invariant.within c.loop-fields.invariant.left c.in_default-next_line.ensures.none) in
+    grind (arith, all)
+
+not_memory : {A E : Type 0} (r : Result A E) (fault : DeckFault) (P : DeckFault → Type 0) → fault.code ≡ Memory → IfErr (result_or r (Err fault)) (λ fault. fault.code ≢ Memory → P fault)
+not_memory (Ok x) fault P is = tt
+not_memory (Err e) fault P is = λ other. absurd (other is)
+
+pub returns-clause-fault : goal.returns-clause-fault
+returns-clause-fault g c = rw c.or.ensures (not_memory c.into_deck.result c.fault-2.result _ (ap (λ (fault : DeckFault). fault.code) c.fault-2.ensures))

@@ -1,9 +1,15 @@
-use Rattle.std.proofs.Common.{◌≡◌, ℕ, ◌<◌, ◌≤◌, ◌++◌, List, [], length, get_or}
-use Rattle.std.specs.List.{flat_map}
+use Rattle.std.proofs.Common.{◌≡◌, ℕ, ◌<◌, ◌≤◌, ◌++◌, List, [], length, get_or, take}
+use Rattle.std.specs.List.{flat_map, fold}
 use Rattle.pp_channel.specs.declared.event.Event.{Event}
 use Rattle.pp_numbers.specs.ChannelNo.{channel_count}
-use Rattle.pp_line.specs.Merge.{IsRecordedBy}
+use Rattle.pp_line.specs.Merge.{IsRecordedBy, with_entry}
 use Rattle.pp_line.proofs.recorded_history.recorded_channels.Given as goal
+
+abbrev pub invariant-loop-other : goal.invariant-loop-other
+invariant-loop-other g l = record {
+  each : length l.histories.items ≡ channel_count;
+  filled : l.histories.items ≡ fold with_entry l.initial.histories.items (flat_map (λ other. other.1.items) (take l.other-index l.others));
+}
 
 abbrev pub invariant-loop-place : goal.invariant-loop-place
 invariant-loop-place g l = record {

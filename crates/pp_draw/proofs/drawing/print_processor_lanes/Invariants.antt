@@ -1,8 +1,0 @@
-use Rattle.pp_numbers.specs.PpNo.{processor_number}
-use Rattle.pp_text.specs.PrintedText.{each_below}
-use Rattle.pp_text.specs.TextWriter.{Prints}
-use Rattle.pp_draw.specs.DrawingText.{processor_lane}
-use Rattle.pp_draw.proofs.drawing.print_processor_lanes.Given as goal
-
-abbrev pub invariant-loop-place : goal.invariant-loop-place
-invariant-loop-place g l = Prints g.W.Write.contents l.fn.text l.text (each_below l.place (λ place. processor_lane l.window l.shown l.machine l.steps.earlier l.steps.shown.items (processor_number place)))
