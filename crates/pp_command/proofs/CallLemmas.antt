@@ -1,10 +1,11 @@
 -- The options of a command, and the values given to them.
 use Rattle.std.proofs.Common.{◌≡◌, ◌∙◌, inl, inr, subst, ℕ, ◌+◌, ◌<◌, List, [], ◌∷◌, Option, Some, None, add-one, ap, drop, drop-cons, length, map, option_map, refl, slice_index_or, sym, take}
-use Rattle.std.specs.Prelude.{◌-◌, slice_get}
+use Rattle.std.specs.Prelude.{◌-◌, ◌&&◌, ◌||◌, Bool, false, is_some, not, slice_get}
+use Rattle.std.specs.List.{list_all}
 use Rattle.std.proofs.lemmas.List.{take_rest}
 use Rattle.std.specs.Option.{option_map_or}
 use Rattle.clap.specs.Words.{Rule, Text}
-use Rattle.pp_command.specs.CallWords.{Given, IsRefusal, IsReportedAs, Reading, given_by, given_from, reading_of_call, reading_of_words, reading_without_command, whole, with_given, with_word}
+use Rattle.pp_command.specs.CallWords.{Given, IsRefusal, IsReportedAs, Reading, given_by, given_from, has_required, reading_of_call, reading_of_words, reading_without_command, value_among, whole, with_given, with_word}
 use Rattle.pp_command.specs.CallWords.Reading.{given, help, refused}
 use Rattle.std.specs.Borrow.{Bor}
 use Rattle.pp_command.specs.CommandLine.{command_named, command_of_form, rule_of_form}
@@ -19,16 +20,17 @@ id_of_form form = by form.value
     by (ValueForm.Number range) = refl
     by (ValueForm.Text name text) = refl
 
--- a value and the name before it, as a list of values has them
-abbrev pub pair_of : Bor Text × Bor Text → Text × Text
-pair_of pair = (pair.0.now, pair.1.now)
+pub has_value : (r : Option (Bor Text)) (o : Option Text) → option_map (λ value. value.now) r ≡ o → is_some r ≡ is_some o
+has_value None o is = ap is_some is
+has_value (Some value) o is = ap is_some is
 
-pub same_name : (pair : Bor Text × Bor Text) → (pair_of pair).0 ≡ pair.0.now
-same_name pair = refl
+pub required_of : (values : List (Text × Text)) (options : List OptionForm) → list_all (λ form. not form.required || is_some (value_among values form.name.now)) options ≡ has_required (map rule_of_form options) values
+required_of values [] = refl
+required_of values (form ∷ options) = rw (id_of_form form, required_of values options) refl
 
--- the name of a command is that of its form
-pub name_of_help : (found : CommandHelp) → (command_of_form found.form.now).name ≡ found.form.now.name.now
-name_of_help found = refl
+pub none_waiting : {X : Type 0} (of : X → Text) (o : Option X) (b : Bool) → is_some o ≡ false → b ≡ (not (is_some (option_map of o)) && b)
+none_waiting of None b is = refl
+none_waiting of (Some x) b is = absurd cc
 
 -- what comes to a request or to nothing since something else does is refused for the same reason
 pub refused_alike : {X Y : Type 0} (a : Reading X) (b : Reading Y) (fault : CallFault) → (a ≡ help → b ≡ help) → (a ≡ refused → b ≡ refused) → IsRefusal a fault → IsRefusal b fault

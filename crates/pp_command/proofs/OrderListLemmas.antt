@@ -1,9 +1,9 @@
 -- Lists of steps, item by item.
-use Rattle.std.proofs.Common.{◌≡◌, ℕ, zero, suc, ◌+◌, ◌<◌, ◌≤◌, Bool, cond, List, [], ◌∷◌, ◌++◌, append-nil, length, replicate, Option, Some, None, refl, sym, ap, ◌∙◌, arith}
+use Rattle.std.proofs.Common.{◌≡◌, ℕ, zero, suc, ◌+◌, ◌-◌, ◌<◌, ◌≤◌, Bool, cond, List, [], ◌∷◌, ◌++◌, append-nil, length, replicate, Option, Some, None, refl, sym, ap, ◌∙◌, arith}
 use Rattle.std.specs.Prelude.{drop, nat_le, position, take}
 use Rattle.std.specs.Option.{option_and_then, option_map}
 use Rattle.std.proofs.lemmas.Bool.{le-leb, lt-leb}
-use Rattle.std.proofs.lemmas.List.{append_assoc, length-append}
+use Rattle.std.proofs.lemmas.List.{append_assoc, length-append, take_all}
 use Rattle.pp_numbers.specs.declared.profile.Profile.{Profile}
 use Rattle.pp_numbers.specs.Profile.{has_processor}
 use Rattle.pp_word.specs.Numeral.{numeral}
@@ -63,6 +63,12 @@ of_item profile item items steps own is = ap (λ (o : Option (List ℕ)). option
 abbrev pub bytes_in : Option (List ℕ) → ℕ
 bytes_in None = 0
 bytes_in (Some text) = suc (length text)
+
+-- more room, filled with one processor
+pub filled : (order : List ℕ) (n k len end : ℕ) → len ≡ length order → end ≡ len + k → take end order ++ replicate (end - len) n ≡ order ++ replicate k n
+filled order n k len end is more =
+    let few : end - len ≡ k = omega (arith, more) in
+    rw (take_all end order (omega (arith, is, more)), few) refl
 
 -- with the steps of the next item
 pub one_item_more : (profile : Profile) (text steps item own : List ℕ) (items : List (List ℕ)) → ListsSoFar profile text steps (item ∷ items) → item_steps profile item ≡ Some own → length steps + length own ≤ 999999

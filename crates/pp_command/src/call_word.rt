@@ -1,7 +1,5 @@
-//! What a word of a call looks like.
-
 ghost use Rattle.std.specs.Prelude.{◌≡◌, option_map};
-ghost use Rattle.clap.specs.Lexer.{long_of, name_and_value, strip_byte};
+ghost use Rattle.clap.specs.Lexer.{long_of, strip_byte};
 ghost use Rattle.pp_command.specs.CallWords.{asks_for_help, asks_for_version, is_option};
 
 /// What follows a first hyphen.
@@ -20,16 +18,9 @@ pub(crate) fn long_of(word: &str) -> Option<(&str, Option<&str>)>
     if rest.is_empty() {
         return None;
     }
-    Some(name_and_value(rest))
-}
-
-/// What stands before the first `=`, and what stands after it, if there is one.
-fn name_and_value(text: &str) -> (&str, Option<&str>)
-    ensures { (result.0.now, option_map (λ value. value.now) result.1) ≡ name_and_value text.now }
-{
-    match text.split_once('=') {
-        Some((name, value)) => (name, Some(value)),
-        None => (text, None),
+    match rest.split_once('=') {
+        Some((name, value)) => Some((name, Some(value))),
+        None => Some((rest, None)),
     }
 }
 
@@ -37,23 +28,16 @@ fn name_and_value(text: &str) -> (&str, Option<&str>)
 pub(crate) fn is_option(word: &str) -> bool
     ensures { result ≡ is_option word.now }
 {
-    if long_of(word).is_some() {
-        return true;
-    }
-    match after_hyphen(word) {
-        Some(rest) => !rest.is_empty() && after_hyphen(rest).is_none(),
-        None => false,
-    }
+    long_of(word).is_some()
+        || after_hyphen(word).is_some_and(|rest| !rest.is_empty() && after_hyphen(rest).is_none())
 }
 
-/// Whether a word asks for help: `--help`, or `-h` and whatever follows.
 pub(crate) fn asks_for_help(word: &str) -> bool
     ensures { result ≡ asks_for_help word.now }
 {
     word == "--help" || word.as_bytes().starts_with(b"-h")
 }
 
-/// Whether a word asks for the version: `--version`, or `-V` and whatever follows.
 pub(crate) fn asks_for_version(word: &str) -> bool
     ensures { result ≡ asks_for_version word.now }
 {

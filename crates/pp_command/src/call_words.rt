@@ -1,7 +1,5 @@
-//! Reading the words of a call.
-
 ghost use Rattle.std.specs.Prelude.{◌≡◌, Some, bytes_eq, drop, find, map, slice_get, option_map, IfErr, IfOk, OnOk};
-ghost use Rattle.pp_command.specs.CallWords.{AsksForNone, CallFor, IsAskRefused, IsCallRefused, IsRefusal, IsReportedAs, is_flag, is_topic, is_whole, option_named, reading_of_topics, reading_of_words, reading_without_command, value_among, with_end, with_option, with_plain_word, with_value, with_word};
+ghost use Rattle.pp_command.specs.CallWords.{AsksForNone, CallFor, IsAskRefused, IsCallRefused, IsRefusal, IsReportedAs, is_flag, is_topic, is_whole, option_named, reading_of_topics, reading_of_words, reading_without_command, value_among, with_option, with_plain_word, with_value, with_word};
 ghost use Rattle.pp_command.specs.CallWords.Reading.{given};
 ghost use Rattle.pp_command.specs.CommandLine.{command_named, command_of_form, rule_of_form};
 
@@ -22,7 +20,7 @@ pub(crate) struct CallWords<'a, A: Allocator> {
     /// Values, each after the name of its option.
     pub(crate) values: Vec<(&'static str, &'a str), A>,
     /// The option whose value is the next word.
-    pub(crate) waiting: Option<&'static str>,
+    pub(crate) waiting: Option<&'static OptionForm>,
     /// Whether `--` has ended the options.
     pub(crate) ended: bool,
 }
@@ -35,7 +33,7 @@ impl<'a, A: Allocator> Model for CallWords<'a, A> {
 
     ghost view = { λ words. record {
       values = map (λ pair. (pair.0.now, pair.1.now)) words.values.items;
-      waiting = option_map (λ id. id.now) words.waiting;
+      waiting = option_map (λ option. option.now.name.now) words.waiting;
       ended = words.ended;
     } };
 }
@@ -45,12 +43,8 @@ impl<'a, A: Allocator> CallWords<'a, A> {
     pub(crate) fn given(&self, id: &str) -> Option<&'a str>
         ensures { option_map (λ value. value.now) result ≡ value_among self.now.values id.now }
     {
-        for pair in &self.values {
-            if pair.0 == id {
-                return Some(pair.1);
-            }
-        }
-        None
+        let pair = self.values.iter().find(|pair| pair.0 == id)?;
+        Some(pair.1)
     }
 
     /// Takes the value of an option that has none yet.
@@ -88,7 +82,7 @@ impl<'a, A: Allocator> CallWords<'a, A> {
             (ValueForm::Flag(_), Some(_)) => Err(CallFault::Refused),
             (_, Some(value)) => self.take_value(option.name, value),
             (_, None) => {
-                self.waiting = Some(option.name);
+                self.waiting = Some(option);
                 Ok(())
             }
         }
@@ -107,19 +101,6 @@ impl<'a, A: Allocator> CallWords<'a, A> {
         self.take_value(id, word)
     }
 
-    /// Takes `--`: what follows is no option.
-    fn end_options(&mut self) -> Result<(), CallFault>
-        ensures taken { OnOk result (with_end self.old ≡ given self.new) }
-        ensures refused { IfErr result (IsRefusal (with_end self.old)) }
-    {
-        if self.waiting.is_some() {
-            return Err(CallFault::Refused);
-        }
-        self.ended = true;
-        Ok(())
-    }
-
-    /// Takes a word.
     #[tactic(auto, unfolding(crate::specs::CallWords::with_word))]
     fn take_word(&mut self, options: &'static [OptionForm], word: &'a str) -> Result<(), CallFault>
         ensures taken { OnOk result (with_word (map rule_of_form options.entry.now) word.entry.now
@@ -131,10 +112,14 @@ impl<'a, A: Allocator> CallWords<'a, A> {
             return self.take_value("file", word);
         }
         if word == "--" {
-            return self.end_options();
+            if self.waiting.is_some() {
+                return Err(CallFault::Refused);
+            }
+            self.ended = true;
+            return Ok(());
         }
-        if let Some(id) = self.waiting {
-            return self.take_plain_word(id, word);
+        if let Some(option) = self.waiting {
+            return self.take_plain_word(option.name, word);
         }
         if asks_for_help(word) {
             return Err(CallFault::Help);
@@ -152,15 +137,8 @@ impl<'a, A: Allocator> CallWords<'a, A> {
     fn is_whole(&self, options: &'static [OptionForm]) -> bool
         ensures { result ≡ is_whole (map rule_of_form options.entry.now) self.now }
     {
-        if self.waiting.is_some() {
-            return false;
-        }
-        for option in options {
-            if option.required && self.given(option.name).is_none() {
-                return false;
-            }
-        }
-        true
+        self.waiting.is_none()
+            && options.iter().all(|option| !option.required || self.given(option.name).is_some())
     }
 }
 
@@ -172,7 +150,6 @@ impl<'a, A: Allocator> Values for CallWords<'a, A> {
     }
 }
 
-/// The option of these that has this name.
 pub(crate) fn option_named(
     options: &'static [OptionForm],
     name: &str,
@@ -180,12 +157,7 @@ pub(crate) fn option_named(
     ensures { option_map (λ option. rule_of_form option.now) result
         ≡ option_named (map rule_of_form options.entry.now) name.now }
 {
-    for option in options {
-        if option.name == name {
-            return Some(option);
-        }
-    }
-    None
+    options.iter().find(|option| option.name == name)
 }
 
 /// What words come to, and the text for it; or that memory was refused.
@@ -241,21 +213,14 @@ fn values_of_words<'a, A: Allocator + Copy>(
     Ok(given)
 }
 
-/// The command of this name, among these.
 fn command_among(helps: &[CommandHelp], name: &str) -> Option<CommandHelp>
     ensures { option_map (λ help. command_of_form help.form.now) result
         ≡ find (λ command. bytes_eq command.name name.now)
         (map (λ help. command_of_form help.form.now) helps.now) }
 {
-    for help in helps {
-        if help.form.name == name {
-            return Some(*help);
-        }
-    }
-    None
+    helps.iter().find(|help| help.form.name == name).copied()
 }
 
-/// The command of this name.
 #[tactic(auto, unfolding(crate::specs::CommandLine::command_named))]
 pub(crate) fn command_named(name: &str) -> Option<CommandHelp>
     ensures { option_map (λ help. command_of_form help.form.now) result ≡ command_named name.now }
@@ -280,11 +245,8 @@ fn without_command<A: Allocator + Copy>(alloc: A, words: &[&str], name: &str) ->
         return on_topics(alloc, &words[1..]);
     }
     if asks_for_help(name) {
-        return reported(
-            alloc,
-            CallFault::Help,
-            program_help(alloc, name == "--help"),
-        );
+        let text = program_help(alloc, name == "--help");
+        return reported(alloc, CallFault::Help, text);
     }
     if asks_for_version(name) {
         return reported(alloc, CallFault::Help, version_text(alloc));
@@ -344,10 +306,7 @@ pub fn read_call<'a, A: Allocator + Copy>(
     let Some(help) = command_named(name) else {
         return Err(without_command(alloc, words, name));
     };
-    let values = match values_of_words(alloc, &help, &words[1..]) {
-        Ok(values) => values,
-        Err(refusal) => return Err(refusal),
-    };
+    let values = values_of_words(alloc, &help, &words[1..])?;
     let Ok(found) = asked_of(alloc, help.form.kind, &values) else {
         return Err(reported(alloc, CallFault::Memory, Ok(String::new(alloc))));
     };

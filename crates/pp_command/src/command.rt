@@ -1,10 +1,7 @@
-//! The command line that the program takes, by clap.
-
-ghost use Rattle.std.specs.Prelude.{◌≡◌, false, fold, map, IfOk};
-ghost use Rattle.clap.specs.Words.{app_of, rule_of, with_rule};
+ghost use Rattle.std.specs.Prelude.{◌≡◌, false, map, IfOk};
+ghost use Rattle.clap.specs.Words.{app_of, rule_of};
 ghost use Rattle.clap.specs.declared.builder.command.Command.TheViews.{out-Command as fields_of};
-ghost use Rattle.pp_command.specs.CommandLine.{ReadsAlike, bare, with_commands};
-ghost use Rattle.pp_command.specs.CommandLine.{app_of_command, command_of_form, file_argument, rule_of_form};
+ghost use Rattle.pp_command.specs.CommandLine.{ReadsAlike, app_of_command, command_of_form, file_argument, rule_of_form, with_commands};
 
 use crate::call_words::command_named;
 use crate::command_kind::CommandKind;
@@ -16,7 +13,6 @@ use std::alloc::{AllocError, Global};
 /// The version of the program, and the toolchain with which it is proved and built.
 pub(crate) const VERSION: &str = "1.0 (rattle-kit-13f logic dac8208d650f15bf)";
 
-/// An option.
 #[derive(Clone, Copy)]
 pub(crate) struct OptionForm {
     pub(crate) name: &'static str,
@@ -56,21 +52,18 @@ pub(crate) struct CommandHelp {
     pub(crate) long_about: &'static str,
 }
 
-/// An option of this form.
 fn option_of<'a>(alloc: Global, form: &OptionForm) -> Arg<'a>
     ensures rule { rule_of result ≡ rule_of_form form.now }
     ensures local { result.global ≡ false }
 {
     let option = Arg::new(alloc, form.name)
         .long(form.name)
-        .required(form.required);
+        .required(form.required)
+        .help(form.help());
     match form.value {
-        ValueForm::Flag(help) => option.action(ArgAction::SetTrue).help(help),
-        ValueForm::Number(range) => option
-            .action(ArgAction::Set)
-            .value_name("N")
-            .help(range.help),
-        ValueForm::Text(name, help) => option.action(ArgAction::Set).value_name(name).help(help),
+        ValueForm::Flag(_) => option.action(ArgAction::SetTrue),
+        ValueForm::Number(_) => option.action(ArgAction::Set).value_name("N"),
+        ValueForm::Text(name, _) => option.action(ArgAction::Set).value_name(name),
     }
 }
 
@@ -85,38 +78,23 @@ fn file_argument<'a>(alloc: Global) -> Arg<'a>
         .help(FILE_HELP)
 }
 
-/// A command with these options as well, and a file.
-fn with_arguments<'a>(
-    alloc: Global,
-    mut command: Command<'a>,
-    options: &[OptionForm],
-) -> Result<Command<'a>, AllocError>
-    requires { (fields_of command).has_globals ≡ false }
-    ensures app { IfOk result (λ c. app_of c ≡ with_rule
-        (fold with_rule (app_of command.entry) (map rule_of_form options.now)) file_argument) }
-    ensures local { IfOk result (λ c. (fields_of c).has_globals ≡ false) }
-{
-    for form in options {
-        command = command.arg(option_of(alloc, form))?;
-    }
-    command.arg(file_argument(alloc))
-}
-
-/// A command of this form.
+/// A command of this form, with its options and a file.
 fn command_of<'a>(alloc: Global, help: &CommandHelp) -> Result<Command<'a>, AllocError>
     ensures app { IfOk result (λ c. app_of c
         ≡ app_of_command (command_of_form help.now.form.now)) }
     ensures local { IfOk result (λ c. (fields_of c).has_globals ≡ false) }
 {
     let form = help.form;
-    let command = Command::new(alloc, form.name)
+    let mut command = Command::new(alloc, form.name)
         .about(form.about)
         .long_about(help.long_about)
         .after_help(form.example);
-    with_arguments(alloc, command, form.options)
+    for option in form.options {
+        command = command.arg(option_of(alloc, option))?;
+    }
+    command.arg(file_argument(alloc))
 }
 
-/// An app with these commands as well.
 fn with_commands<'a>(
     alloc: Global,
     mut app: Command<'a>,

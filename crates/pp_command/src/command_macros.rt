@@ -58,6 +58,13 @@ macro_rules! option {
     };
 }
 
+/// These options, and those that every run has.
+macro_rules! with_run_options {
+    ($($option:expr),* $(,)?) => {
+        &[$($option,)* UNTIL_OPTION, TIMES_OPTION, ORDER_OPTION, PROCESSORS_OPTION]
+    };
+}
+
 /// A command with its help.
 macro_rules! command {
     (
@@ -87,3 +94,4 @@ pub(crate) use four_example;
 pub(crate) use handoff_example;
 pub(crate) use option;
 pub(crate) use with_faults;
+pub(crate) use with_run_options;

@@ -1,5 +1,3 @@
-//! Reading the words of a command line.
-
 ghost use Rattle.std.specs.Prelude.{◌≡◌, ◌↔◌, ℕ, [], List, Option, IsTrue, map, option_map, IfOk, IfErr, IfNone, IfSome, OnOk};
 ghost use Rattle.pp_command.specs.CommandLine.{AskFor, AsksForMore, Finds, IsAskedOf, IsFaultBy, IsOfARun, IsOfEveryOrder, IsRefused, IsTestedBy, IsWorkOf, MixesForms, Name, ReadsFile, refusals};
 ghost use Rattle.pp_command.specs.declared.work.Work.{Work};
@@ -79,7 +77,6 @@ pub(crate) fn mixes_forms<V: Values>(kind: CommandKind, values: &V) -> bool
     matches!(kind, CommandKind::Test) && !is_of_a_run(values) && !is_of_every_order(values)
 }
 
-/// Whether options are those of a test of a run.
 fn is_of_a_run<V: Values>(values: &V) -> bool
     ensures { IsTrue result ↔ IsOfARun (V.value values.now) }
 {
@@ -88,7 +85,6 @@ fn is_of_a_run<V: Values>(values: &V) -> bool
         && values.value_of("turns").is_some()
 }
 
-/// Whether options are those of a test of every order.
 fn is_of_every_order<V: Values>(values: &V) -> bool
     ensures { IsTrue result ↔ IsOfEveryOrder (V.value values.now) }
 {

@@ -1,14 +1,10 @@
-//! The commands: for each its name, its help and its options.
-
 use crate::command::ValueForm::{Flag, Number, Text};
 use crate::command::{CommandForm, CommandHelp, OptionForm};
 use crate::command_kind::CommandKind;
-use crate::command_macros::{command, example, four_example, handoff_example, option, with_faults};
-use crate::number_range::{DRAWN_FROM, FROM, PATIENCE, STATES, STEPS, TO, TURNS};
-use crate::run_options::{
-    FIRST_OPTION, ORDER_OPTION, PROCESSORS_OPTION, RUN_OPTIONS, TIMES_OPTION, TURNS_OPTION,
-    UNTIL_OPTION,
+use crate::command_macros::{
+    command, example, four_example, handoff_example, option, with_faults, with_run_options,
 };
+use crate::number_range::{DRAWN_FROM, FROM, PATIENCE, STATES, STEPS, TIMES, TO, TURNS};
 
 pub(crate) const ABOUT: &str =
     "Simulates the peripheral processors and data channels of a Control Data 6600";
@@ -50,6 +46,25 @@ pub(crate) const EXAMPLE: &str = handoff_example!("barrel --turns 40");
 
 /// What help says of the word that names a file.
 pub(crate) const FILE_HELP: &str = "The file to read; standard input if not given, or -";
+
+const TURNS_OPTION: OptionForm = option!(required: true, "turns", Number(TURNS));
+
+const UNTIL_OPTION: OptionForm = option!(required: false, "until", Text("COND",
+    "End after the first step that meets this, as 'PP00 P=0105', 'CM 20' or 'CH05 DCN'"));
+
+const TIMES_OPTION: OptionForm = option!(required: false, "times", Number(TIMES));
+
+const ORDER_OPTION: OptionForm = option!(required: false, "order", Text("LIST",
+    "The first steps, as 0:3,1,11:20 (processors octal, counts decimal); then come the turns"));
+
+const PROCESSORS_OPTION: OptionForm = option!(required: false, "processors", Text("N",
+    "How many processors the machine has, 10 or 20 (decimal); 10 if not given"));
+
+const FIRST_OPTION: OptionForm = option!(required: false, "first", Text("N",
+    "The first address to print (octal; 0 if not given)"));
+
+/// The options of a run that has no others.
+const RUN_OPTIONS: &[OptionForm] = with_run_options![TURNS_OPTION];
 
 /// The commands, in the order in which help lists them.
 pub(crate) const COMMANDS: [CommandHelp; 16] = [
@@ -164,7 +179,7 @@ line, at the first of them: HELD, the channel with its flags, and how many there
 --ch, --from or --to only the steps chosen are printed, and counted. What goes wrong is one line on
 standard error."),
         example: four_example!("steps --turns 40 --pp 0"),
-        options: &[
+        options: with_run_options![
             TURNS_OPTION,
             option!(required: false, "pp", Text("N,N,..",
                 "Print the steps of these processors only (octal)")),
@@ -174,10 +189,6 @@ standard error."),
             option!(required: false, "to", Number(TO)),
             option!(required: false, "where", Text("COND",
                 "Print the steps that meet this condition only, each on a line of its own")),
-            UNTIL_OPTION,
-            TIMES_OPTION,
-            ORDER_OPTION,
-            PROCESSORS_OPTION,
         ],
     },
     command! {
@@ -227,16 +238,12 @@ from a multiple of 10 on (octal), of which one lies within the bounds and one ha
 0: the first place, the eight words, and the same in display code, two characters a word (00 and 55
 are spaces). What goes wrong is one line on standard error.",
         example: four_example!("memory --turns 40 --pp 0"),
-        options: &[
+        options: with_run_options![
             TURNS_OPTION,
             option!(required: true, "pp", Text("N", "The processor (octal)")),
             FIRST_OPTION,
             option!(required: false, "last", Text("N",
                 "The last address to print (octal; 7777 if not given)")),
-            UNTIL_OPTION,
-            TIMES_OPTION,
-            ORDER_OPTION,
-            PROCESSORS_OPTION,
         ],
     },
     command! {
@@ -251,15 +258,11 @@ the bounds that is not 0: the address, the word, and the same in display code, t
 and 55 are spaces). What goes wrong is one line on standard error.",
         example: example!("central --turns 40", "word.deck",
             "  CM 10 00010002000300040005\n  PP 0"),
-        options: &[
+        options: with_run_options![
             TURNS_OPTION,
             FIRST_OPTION,
             option!(required: false, "last", Text("N",
                 "The last address to print (octal; 377777 if not given)")),
-            UNTIL_OPTION,
-            TIMES_OPTION,
-            ORDER_OPTION,
-            PROCESSORS_OPTION,
         ],
     },
     command! {
@@ -279,13 +282,9 @@ start, how many of its turns MOVED it, were HELD, and found it at REST. With --w
 session is followed by the words put, and that of an idle stretch by its function codes, eight a
 line. Turns and counts are decimal, words octal. What goes wrong is one line on standard error.",
         example: handoff_example!("sessions --turns 40"),
-        options: &[
+        options: with_run_options![
             TURNS_OPTION,
             option!(required: false, "words", Flag("Print the words and function codes as well")),
-            UNTIL_OPTION,
-            TIMES_OPTION,
-            ORDER_OPTION,
-            PROCESSORS_OPTION,
         ],
     },
     command! {
@@ -362,16 +361,11 @@ endings may be missing, and the exit status is then 1, too.",
   0100 1405 1603 3450 0300
   START 0100
   *= PP 0 0050 0010"),
-        options: &[
+        options: with_run_options![
             option!(required: false, "turns", Number(TURNS)),
             option!(required: false, "every-order", Flag(
-                "Test each ending over every order of steps, in place of a run"
-            )),
+                "Test each ending over every order of steps, in place of a run")),
             option!(required: false, "states", Number(STATES)),
-            UNTIL_OPTION,
-            TIMES_OPTION,
-            ORDER_OPTION,
-            PROCESSORS_OPTION,
         ],
     },
     command! {
@@ -390,14 +384,10 @@ from left to right. What goes wrong is one line on standard error.
 A picture has at most 2000 turns, none after those of --turns. Of a longer run, give the first turn
 to draw and the one before which the picture ends: --turns 999999 --from 5000 --to 6000.",
         example: handoff_example!("draw --turns 40"),
-        options: &[
+        options: with_run_options![
             TURNS_OPTION,
             option!(required: false, "from", Number(DRAWN_FROM)),
             option!(required: false, "to", Number(TO)),
-            UNTIL_OPTION,
-            TIMES_OPTION,
-            ORDER_OPTION,
-            PROCESSORS_OPTION,
         ],
     },
     command! {

@@ -17,7 +17,6 @@ mod option_values;
 mod order_list;
 mod processor_list;
 mod refusal_text;
-mod run_options;
 mod similar;
 mod text_of;
 mod usage;

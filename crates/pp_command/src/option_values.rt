@@ -1,5 +1,3 @@
-//! The values of options.
-
 ghost use Rattle.std.specs.Prelude.{◌≡◌, ◌-◌, ◌≤◌, ◌↔◌, IsTrue, codes, option_map, IfOk, IfSome, IsSome};
 ghost use Rattle.pp_numbers.specs.Limits.{AreLimits};
 ghost use Rattle.pp_command.specs.CommandLine.{Finds, ReadsAddress, ReadsBounds, ReadsChosen, ReadsCondition, ReadsNumber, ReadsOrder, ReadsProcessor, ReadsProcessors, ReadsProfile, ReadsTurn, ReadsFlag, ReadsStates, ReadsTimes, ReadsTurns, ReadsUntil, ReadsWindow, most_drawn};
@@ -11,7 +9,6 @@ use pp_condition::{Condition, Until, condition_in};
 use pp_numbers::{Bounds, CHANNELS, Limits, MOST_TURNS, PROCESSORS, PpNo, Profile, Window};
 use std::alloc::{AllocError, Allocator};
 
-/// The number in an option's value.
 pub(crate) fn number_of<V: Values>(values: &V, id: &str) -> Option<u32>
     ensures { Finds (ReadsNumber (V.value values.now id.now)) result }
 {
@@ -42,10 +39,7 @@ pub(crate) fn limits_of(steps: u32, patience: u32) -> Option<Limits>
     if !STEPS.contains(steps) || !PATIENCE.contains(patience) {
         return None;
     }
-    match Limits::new(steps, patience) {
-        Some(limits) => Some(limits),
-        None => unreachable!(),
-    }
+    Some(Limits::new(steps, patience).unwrap())
 }
 
 /// The number of turns that the options say, if it is in range.
@@ -111,8 +105,7 @@ pub(crate) fn order_of<V: Values, A: Allocator>(
     let Some(profile) = profile_of(values) else {
         return Ok(None);
     };
-    let first = listed_order(alloc, profile, text.as_bytes())?;
-    Ok(first)
+    listed_order(alloc, profile, text.as_bytes())
 }
 
 /// The condition in an option's value, of the steps of a machine of this profile, if it is given;
@@ -137,10 +130,7 @@ pub(crate) fn until_of<V: Values>(values: &V) -> Option<Option<Until>>
         (V.value values.now (codes "until")) (V.value values.now (codes "times"))) result }
 {
     let Some(text) = values.value_of("until") else {
-        return match values.value_of("times") {
-            Some(_) => None,
-            None => Some(None),
-        };
+        return values.value_of("times").is_none().then_some(None);
     };
     let condition = condition_in(profile_of(values)?, text.as_bytes())?;
     let times = times_of(values)?;
@@ -152,10 +142,10 @@ fn times_of<V: Values>(values: &V) -> Option<u32>
     ensures { Finds (ReadsTimes (V.value values.now (codes "times"))) result }
 {
     match values.value_of("times") {
-        Some(text) => {
-            let times = text.parse::<u32>().ok()?;
-            TIMES.contains(times).then_some(times)
-        }
+        Some(text) => text
+            .parse::<u32>()
+            .ok()
+            .filter(|times| TIMES.contains(*times)),
         None => Some(1),
     }
 }
@@ -198,10 +188,7 @@ pub(crate) fn window_of<V: Values>(values: &V) -> Option<Window>
     let turns = turns_of(values)?;
     let to = turn_of(values, "to", turns)?;
     let from = turn_of(values, "from", 0)?;
-    if to < from || turns < to {
-        return None;
-    }
-    Some(Window { from, to })
+    (from <= to && to <= turns).then_some(Window { from, to })
 }
 
 /// Whether turns are no more than a picture has.

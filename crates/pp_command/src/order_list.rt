@@ -1,6 +1,4 @@
-//! Orders of steps.
-
-ghost use Rattle.std.specs.Prelude.{◌≡◌, ◌<◌, ◌∷◌, ◌++◌, IfOk, IfSome, OnOk, length, option_map, replicate};
+ghost use Rattle.std.specs.Prelude.{◌≡◌, ◌<◌, ◌∷◌, IfOk, IfSome, length, option_map, replicate};
 ghost use Rattle.pp_numbers.specs.Profile.{has_processor};
 ghost use Rattle.pp_command.specs.NumberList.{numbered, numbers_in, numbers_of};
 ghost use Rattle.pp_command.specs.OrderList.{item_steps, listed_steps, steps_of};
@@ -32,7 +30,7 @@ pub fn listed_order<A: Allocator>(
         if item.steps > TURNS.most as usize - order.len() {
             return Ok(None);
         }
-        push_steps(&mut order, &item)?;
+        order.resize(order.len() + item.steps, item.processor)?;
         rest = behind;
     }
     Ok(Some(order))
@@ -70,37 +68,12 @@ fn item_of(profile: Profile, text: &[u8]) -> Option<Item>
 
 /// So many steps of the processor with this number, if there is one.
 #[tactic(auto, using(crate::proofs::OrderListLemmas::no_count, // no number, no count, or both
-crate::proofs::OrderListLemmas::count_of_none, crate::proofs::OrderListLemmas::counted))]
+crate::proofs::OrderListLemmas::count_of_none, crate::proofs::OrderListLemmas::counted), unfolding(crate::specs::NumberList::numbered))]
 fn item_by(profile: Profile, number: &[u8], steps: Option<u64>) -> Option<Item>
     ensures { option_map (λ item. replicate item.steps item.processor) result
         ≡ steps_of (numbered (has_processor profile) number.now) steps }
 {
-    let processor = numbered(profile, number)?;
-    let steps = steps?;
-    if steps == 0 {
-        return None;
-    }
-    Some(Item {
-        processor,
-        steps: steps as usize,
-    })
-}
-
-/// The processor with this number, if there is one.
-#[tactic(auto, unfolding(crate::specs::NumberList::numbered))]
-fn numbered(profile: Profile, number: &[u8]) -> Option<PpNo>
-    ensures { result ≡ numbered (has_processor profile) number.now }
-{
-    profile.processor(numeral(8, 2, number)? as u8)
-}
-
-/// Adds the steps of an item.
-fn push_steps<A: Allocator>(order: &mut Vec<PpNo, A>, item: &Item) -> Result<(), AllocError>
-    ensures { OnOk result (order.new.items
-        ≡ order.old.items ++ replicate item.now.steps item.now.processor) }
-{
-    for _ in 0..item.steps {
-        order.push(item.processor)?;
-    }
-    Ok(())
+    let processor = profile.processor(numeral(8, 2, number)? as u8)?;
+    let steps = steps? as usize;
+    (steps > 0).then_some(Item { processor, steps })
 }

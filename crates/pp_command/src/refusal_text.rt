@@ -1,12 +1,12 @@
 //! What is said of words that are refused, as clap says it.
 
 use crate::call_word::long_of;
-use crate::call_words::{CallWords, command_named, is_topic, option_named};
+use crate::call_words::{CallWords, command_named, is_topic};
 use crate::command::CommandForm;
 use crate::commands::COMMANDS;
 use crate::help_text::HELP_USAGE;
 use crate::similar::{similar_commands, similar_option};
-use crate::usage::{push_option, push_usage};
+use crate::usage::push_usage;
 use crate::why::{Why, is_plain, why_refused};
 use std::alloc::{AllocError, Allocator};
 
@@ -22,17 +22,53 @@ pub(crate) fn command_refusal<'a, A: Allocator + Copy>(
     place: usize,
 ) -> Result<String<A>, AllocError> {
     let why = why_refused(given, form.options, words.get(place..).unwrap_or(&[]));
-    let mut used = used_options(alloc, form, given, why, words, place)?;
+    let mut used = used_options(alloc, given, why, words, place)?;
     let mut text = String::from_str(alloc, "error: ")?;
-    if let Why::Unknown(name) = why {
-        push_unknown(alloc, &mut text, form, name, &mut used)?;
-    } else {
-        push_why(&mut text, form, given, why)?;
+    match why {
+        Why::Unknown(name) => {
+            write!(text, "unexpected argument '--{name}' found\n\n  tip: ")?;
+            if let Some(similar) = similar_option(alloc, name, form.options, &["help"])? {
+                write!(text, "a similar argument exists: '--{similar}'")?;
+                used.push(similar)?;
+            } else {
+                write!(text, "to pass '--{name}' as a value, use '-- --{name}'")?;
+            }
+        }
+        Why::UnknownLetter(letter) => write!(
+            text,
+            "unexpected argument '-{letter}' found\n\n  \
+             tip: to pass '-{letter}' as a value, use '-- -{letter}'"
+        )?,
+        Why::Value(option, value) => write!(
+            text,
+            "unexpected value '{value}' for '{option}' found; no more were expected"
+        )?,
+        Why::NoValue(option) => {
+            write!(
+                text,
+                "a value is required for '{option}' but none was supplied{TRY_HELP}"
+            )?;
+            return Ok(text);
+        }
+        Why::Twice(option) => {
+            write!(
+                text,
+                "the argument '{option}' cannot be used multiple times"
+            )?;
+        }
+        Why::Surplus(word) => write!(text, "unexpected argument '{word}' found")?,
+        Why::Missing => {
+            text.push_str("the following required arguments were not provided:")?;
+            for option in form.options {
+                if option.required && given.given(option.name).is_none() {
+                    write!(text, "\n  {option}")?;
+                    used.push(option.name)?;
+                }
+            }
+        }
     }
-    if !matches!(why, Why::NoValue(_)) {
-        text.push_str("\n\n")?;
-        push_usage(&mut text, form, used.as_slice())?;
-    }
+    text.push_str("\n\n")?;
+    push_usage(&mut text, form, used.as_slice())?;
     text.push_str(TRY_HELP)?;
     Ok(text)
 }
@@ -40,13 +76,11 @@ pub(crate) fn command_refusal<'a, A: Allocator + Copy>(
 /// The options that the usage names beside those that a command needs.
 fn used_options<'a, A: Allocator>(
     alloc: A,
-    form: &'static CommandForm,
     given: &CallWords<'a, A>,
     why: Why<'a>,
     words: &[&'a str],
     place: usize,
 ) -> Result<Vec<&'static str, A>, AllocError> {
-    let word_before = place.checked_sub(1).and_then(|before| words.get(before));
     let mut used = Vec::new(alloc);
     for pair in &given.values {
         used.push(pair.0)?;
@@ -54,96 +88,20 @@ fn used_options<'a, A: Allocator>(
     match why {
         // A second value of an option takes away the first.
         Why::Unknown(_) if words.get(place).is_some_and(|word| is_plain(word)) => {
-            used.retain(|name| Some(*name) != given.waiting);
+            used.retain(|name| given.waiting.map(|option| option.name) != Some(*name));
         }
         // A value that is a word of its own counts once the next word has been read.
-        Why::Value(name, _) => {
+        Why::Value(option, _) => {
+            let word_before = place.checked_sub(1).and_then(|before| words.get(before));
             if given.waiting.is_none() && word_before.is_some_and(|word| is_plain(word)) {
                 used.pop();
             }
-            used.push(name)?;
+            used.push(option.name)?;
         }
-        Why::Unknown(_) => {}
-        Why::Missing => {
-            for option in form.options {
-                if option.required {
-                    used.push(option.name)?;
-                }
-            }
-        }
+        Why::Unknown(_) | Why::Missing => {}
         _ => used.clear(),
     }
     Ok(used)
-}
-
-/// Says that a command has no option of this name, and which one is like it.
-fn push_unknown<A: Allocator + Copy>(
-    alloc: A,
-    text: &mut String<A>,
-    form: &'static CommandForm,
-    name: &str,
-    used: &mut Vec<&'static str, A>,
-) -> Result<(), AllocError> {
-    write!(text, "unexpected argument '--{name}' found\n\n  tip: ")?;
-    let Some(similar) = similar_option(alloc, name, form.options, &["help"])? else {
-        return write!(text, "to pass '--{name}' as a value, use '-- --{name}'");
-    };
-    used.push(similar)?;
-    write!(text, "a similar argument exists: '--{similar}'")
-}
-
-fn push_why<'a, A: Allocator>(
-    text: &mut String<A>,
-    form: &'static CommandForm,
-    given: &CallWords<'a, A>,
-    why: Why<'a>,
-) -> Result<(), AllocError> {
-    match why {
-        Why::Unknown(_) => Ok(()),
-        Why::UnknownLetter(letter) => write!(
-            text,
-            "unexpected argument '-{letter}' found\n\n  \
-             tip: to pass '-{letter}' as a value, use '-- -{letter}'"
-        ),
-        Why::Value(name, value) => {
-            write!(text, "unexpected value '{value}' for '")?;
-            push_named(text, form, name)?;
-            text.push_str("' found; no more were expected")
-        }
-        Why::NoValue(name) => {
-            text.push_str("a value is required for '")?;
-            push_named(text, form, name)?;
-            text.push_str("' but none was supplied")
-        }
-        Why::Twice(name) => {
-            text.push_str("the argument '")?;
-            push_named(text, form, name)?;
-            text.push_str("' cannot be used multiple times")
-        }
-        Why::Surplus(word) => write!(text, "unexpected argument '{word}' found"),
-        Why::Missing => {
-            text.push_str("the following required arguments were not provided:")?;
-            for option in form.options {
-                if option.required && given.given(option.name).is_none() {
-                    text.push_str("\n  ")?;
-                    push_option(text, option)?;
-                }
-            }
-            Ok(())
-        }
-    }
-}
-
-/// Adds the option of this name, or the one that asks for help.
-fn push_named<A: Allocator>(
-    text: &mut String<A>,
-    form: &'static CommandForm,
-    name: &str,
-) -> Result<(), AllocError> {
-    match option_named(form.options, name) {
-        Some(option) => push_option(text, option),
-        None => write!(text, "--{name}"),
-    }
 }
 
 /// What is said of words that begin with no command, and ask for nothing.
@@ -153,20 +111,24 @@ pub(crate) fn program_refusal<A: Allocator + Copy>(
 ) -> Result<String<A>, AllocError> {
     let mut text = String::from_str(alloc, "error: ")?;
     let mut used = None;
-    let after_dashes = words.get(1).copied();
-    match words.first().copied() {
-        Some("--") => match after_dashes {
-            Some(word) if is_topic(word) => write!(
-                text,
-                "unexpected argument '{word}' found\n\n  \
-                 tip: subcommand '{word}' exists; to use it, remove the '--' before it"
-            )?,
-            Some(word) => push_unknown_command(alloc, &mut text, word)?,
-            None => push_missing_command(&mut text)?,
-        },
-        Some(word) if is_plain(word) => push_unknown_command(alloc, &mut text, word)?,
-        Some(word) => used = push_unknown_request(alloc, &mut text, word, words)?,
-        None => push_missing_command(&mut text)?,
+    match (words.first().copied(), words.get(1).copied()) {
+        (Some("--"), Some(word)) if is_topic(word) => write!(
+            text,
+            "unexpected argument '{word}' found\n\n  \
+             tip: subcommand '{word}' exists; to use it, remove the '--' before it"
+        )?,
+        (Some("--"), Some(word)) => push_unknown_command(alloc, &mut text, word)?,
+        (Some("--"), None) | (None, _) => {
+            text.push_str(
+                "'ppsim' requires a subcommand but one was not provided\n  [subcommands: ",
+            )?;
+            for help in &COMMANDS {
+                write!(text, "{}, ", help.form.name)?;
+            }
+            text.push_str("help]")?;
+        }
+        (Some(word), _) if is_plain(word) => push_unknown_command(alloc, &mut text, word)?,
+        (Some(word), _) => used = push_unknown_request(alloc, &mut text, word, words)?,
     }
     text.push_str("\n\nUsage: ppsim ")?;
     if let Some(name) = used {
@@ -174,14 +136,6 @@ pub(crate) fn program_refusal<A: Allocator + Copy>(
     }
     write!(text, "<COMMAND>{TRY_HELP}")?;
     Ok(text)
-}
-
-fn push_missing_command<A: Allocator>(text: &mut String<A>) -> Result<(), AllocError> {
-    text.push_str("'ppsim' requires a subcommand but one was not provided\n  [subcommands: ")?;
-    for help in &COMMANDS {
-        write!(text, "{}, ", help.form.name)?;
-    }
-    text.push_str("help]")
 }
 
 /// Says that there is no such command, and which are like it.
@@ -192,16 +146,12 @@ fn push_unknown_command<A: Allocator + Copy>(
 ) -> Result<(), AllocError> {
     write!(text, "unrecognized subcommand '{word}'")?;
     let similar = similar_commands(alloc, word)?;
-    if similar.is_empty() {
-        return Ok(());
-    }
-    text.push_str(if similar.len() == 1 {
-        "\n\n  tip: a similar subcommand exists: "
-    } else {
-        "\n\n  tip: some similar subcommands exist: "
-    })?;
     for (place, found) in similar.iter().enumerate() {
-        text.push_str(if place == 0 { "'" } else { ", '" })?;
+        text.push_str(match (place, similar.len()) {
+            (0, 1) => "\n\n  tip: a similar subcommand exists: '",
+            (0, _) => "\n\n  tip: some similar subcommands exist: '",
+            _ => ", '",
+        })?;
         write!(text, "{}'", found.1)?;
     }
     Ok(())
@@ -231,8 +181,7 @@ fn push_unknown_request<A: Allocator + Copy>(
         }
     }
     write!(text, "unexpected argument '--{name}' found")?;
-    let similar = similar_option(alloc, name, &[], &["help", "version"])?;
-    if let Some(similar) = similar {
+    if let Some(similar) = similar_option(alloc, name, &[], &["help", "version"])? {
         write!(text, "\n\n  tip: a similar argument exists: '--{similar}'")?;
         return Ok(Some(similar));
     }
@@ -240,7 +189,7 @@ fn push_unknown_request<A: Allocator + Copy>(
         if let Some(help) = command_named(word) {
             if let Some(option) = similar_option(alloc, name, help.form.options, &[])? {
                 write!(text, "\n\n  tip: '{word} --{option}' exists")?;
-                return Ok(None);
+                break;
             }
         }
     }

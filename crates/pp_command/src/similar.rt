@@ -13,17 +13,9 @@ fn add_name<A: Allocator + Copy>(
     name: &'static str,
 ) -> Result<(), AllocError> {
     let closeness = jaro(alloc, word, name)?;
-    if closeness <= 0.7 {
-        return Ok(());
-    }
-    let mut place = 0usize;
-    for other in names.iter() {
-        if other.0 <= closeness {
-            place = place.saturating_add(1);
-        }
-    }
-    if place <= names.len() {
-        names.insert(place, (closeness, name))?;
+    if closeness > 0.7 {
+        let place = names.iter().position(|other| closeness < other.0);
+        names.insert(place.unwrap_or(names.len()), (closeness, name))?;
     }
     Ok(())
 }

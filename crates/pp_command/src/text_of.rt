@@ -1,5 +1,3 @@
-//! Which text of a deck is asked for, and how a command line asks for it.
-
 ghost use Rattle.pp_command.specs.CommandLine.{AsksForText, Finds};
 
 use crate::command_kind::CommandKind;
@@ -41,9 +39,8 @@ impl TextOf {
         ensures { result ≡ with_turns turns self.now }
     {
         match self {
-            TextOf::List => TextOf::List,
-            TextOf::Orders(states) => TextOf::Orders(*states),
             TextOf::Run { view, .. } => TextOf::Run { turns, view: *view },
+            _ => *self,
         }
     }
 }
@@ -57,11 +54,9 @@ pub(crate) fn text_of<V: Values>(kind: CommandKind, values: &V, profile: Profile
         CommandKind::Orders => Some(TextOf::Orders(states_of(values)?)),
         CommandKind::Draw => {
             let window = window_of(values)?;
+            let turns = window.to;
             let view = View::Draw { from: window.from };
-            fits_a_picture(window).then_some(TextOf::Run {
-                turns: window.to,
-                view,
-            })
+            fits_a_picture(window).then_some(TextOf::Run { turns, view })
         }
         _ => {
             let turns = turns_of(values)?;

@@ -1,18 +1,23 @@
 //! How to call the program, as its help and its refusals print it.
 
+use crate::call_words::option_named;
 use crate::command::{CommandForm, OptionForm, ValueForm};
 use std::alloc::{AllocError, Allocator};
+use std::fmt::{self, Display, Formatter, Write};
 
-impl OptionForm {
-    /// What help calls its value, if it takes one.
-    pub(crate) fn value_name(&self) -> Option<&'static str> {
+/// As it stands on a command line: `--turns <N>`.
+impl Display for OptionForm {
+    fn fmt<W: Write>(&self, f: &mut Formatter<W>) -> fmt::Result {
+        let name = self.name;
         match self.value {
-            ValueForm::Flag(_) => None,
-            ValueForm::Number(_) => Some("N"),
-            ValueForm::Text(name, _) => Some(name),
+            ValueForm::Flag(_) => write!(f, "--{name}"),
+            ValueForm::Number(_) => write!(f, "--{name} <N>"),
+            ValueForm::Text(value, _) => write!(f, "--{name} <{value}>"),
         }
     }
+}
 
+impl OptionForm {
     pub(crate) fn help(&self) -> &'static str {
         match self.value {
             ValueForm::Flag(help) | ValueForm::Text(_, help) => help,
@@ -21,23 +26,11 @@ impl OptionForm {
     }
 }
 
-/// Adds an option as it stands on a command line, as `--turns <N>`.
-pub(crate) fn push_option<A: Allocator>(
-    text: &mut String<A>,
-    option: &OptionForm,
-) -> Result<(), AllocError> {
-    write!(text, "--{}", option.name)?;
-    match option.value_name() {
-        Some(value) => write!(text, " <{value}>"),
-        None => Ok(()),
-    }
-}
-
 /// Adds how to call a command: with what it needs, and the options among these names; with all it
 /// takes, if there are none.
 pub(crate) fn push_usage<A: Allocator>(
     text: &mut String<A>,
-    form: &CommandForm,
+    form: &'static CommandForm,
     used: &[&str],
 ) -> Result<(), AllocError> {
     write!(text, "Usage: ppsim {}", form.name)?;
@@ -46,13 +39,17 @@ pub(crate) fn push_usage<A: Allocator>(
     }
     for option in form.options {
         if option.required {
-            text.push_str(" ")?;
-            push_option(text, option)?;
+            write!(text, " {option}")?;
         }
     }
     for (place, name) in used.iter().enumerate() {
-        if !used[..place].contains(name) {
-            push_used(text, form, name)?;
+        if used[..place].contains(name) {
+            continue;
+        }
+        match option_named(form.options, name) {
+            Some(option) if !option.required => write!(text, " {option}")?,
+            None if *name == "help" => text.push_str(" --help")?,
+            _ => {}
         }
     }
     text.push_str(if used.contains(&"file") {
@@ -60,22 +57,4 @@ pub(crate) fn push_usage<A: Allocator>(
     } else {
         " [FILE]"
     })
-}
-
-/// Adds the option of this name, if it is one that may be left out.
-fn push_used<A: Allocator>(
-    text: &mut String<A>,
-    form: &CommandForm,
-    name: &str,
-) -> Result<(), AllocError> {
-    if name == "help" {
-        return text.push_str(" --help");
-    }
-    for option in form.options {
-        if option.name == name && !option.required {
-            text.push_str(" ")?;
-            push_option(text, option)?;
-        }
-    }
-    Ok(())
 }

@@ -1,5 +1,3 @@
-//! The values of options.
-
 ghost use Rattle.std.specs.Prelude.{◌≡◌, Option, option_map};
 ghost use Rattle.clap.specs.Words.{Text};
 ghost use Rattle.pp_command.specs.CommandLine.{value_in};

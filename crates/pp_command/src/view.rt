@@ -1,7 +1,5 @@
-//! The views of a run, and how a command line asks for each.
-
 ghost use Rattle.std.specs.Prelude.{◌≢◌};
-ghost use Rattle.pp_command.specs.CommandLine.{AsksForView, Finds, ReadsSteps};
+ghost use Rattle.pp_command.specs.CommandLine.{AsksForView, Finds};
 ghost use Rattle.pp_command.specs.declared.command_kind.CommandKind.TheVariants.{Draw};
 
 use crate::Values;
@@ -88,26 +86,13 @@ pub(crate) fn view_of<V: Values>(
             bounds: bounds_of(values, PLACES)?,
         }),
         CommandKind::Central => Some(View::Central(bounds_of(values, MOST_CENTRAL_WORDS)?)),
-        CommandKind::Steps => Some(View::Steps(chosen_steps(values, profile, turns)?)),
-        CommandKind::Threads
-        | CommandKind::List
-        | CommandKind::Lint
-        | CommandKind::Orders
-        | CommandKind::Test
-        | CommandKind::Draw
-        | CommandKind::Check => None,
+        CommandKind::Steps => Some(View::Steps(ChosenSteps {
+            processors: processors_of(values, profile)?,
+            channels: channels_of(values, "ch")?,
+            from: turn_of(values, "from", 0)?,
+            to: turn_of(values, "to", turns)?,
+            condition: condition_of(values, "where", profile)?,
+        })),
+        _ => None,
     }
-}
-
-/// The steps of a run of this many turns that the options choose, if their values are in range.
-fn chosen_steps<V: Values>(values: &V, profile: Profile, turns: u32) -> Option<ChosenSteps>
-    ensures { Finds (ReadsSteps profile turns (V.value values.now)) result }
-{
-    Some(ChosenSteps {
-        processors: processors_of(values, profile)?,
-        channels: channels_of(values, "ch")?,
-        from: turn_of(values, "from", 0)?,
-        to: turn_of(values, "to", turns)?,
-        condition: condition_of(values, "where", profile)?,
-    })
 }

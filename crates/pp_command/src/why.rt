@@ -3,9 +3,10 @@
 use crate::call_word::{after_hyphen, long_of};
 use crate::call_words::{CallWords, option_named};
 use crate::command::{OptionForm, ValueForm};
+use crate::help_text::help_option;
 use std::alloc::Allocator;
 
-/// Why the words after a command's name are refused. An option is given by its name.
+/// Why the words after a command's name are refused.
 #[derive(Clone, Copy)]
 pub(crate) enum Why<'a> {
     /// There is no option of this name.
@@ -13,11 +14,11 @@ pub(crate) enum Why<'a> {
     /// There is none of this one letter.
     UnknownLetter(char),
     /// An option that takes no value has this one.
-    Value(&'static str, &'a str),
+    Value(OptionForm, &'a str),
     /// An option lacks its value.
-    NoValue(&'static str),
+    NoValue(OptionForm),
     /// An option is given twice.
-    Twice(&'static str),
+    Twice(OptionForm),
     /// A word is one too many.
     Surplus(&'a str),
     /// An option is not given that has to be.
@@ -33,21 +34,18 @@ pub(crate) fn is_plain(word: &str) -> bool {
 fn why_never<'a>(options: &'static [OptionForm], word: &'a str) -> Option<Why<'a>> {
     if let Some((name, value)) = long_of(word) {
         if name == "help" {
-            return Some(Why::Value("help", value?));
+            return Some(Why::Value(help_option(false), value?));
         }
         let Some(option) = option_named(options, name) else {
             return Some(Why::Unknown(name));
         };
         return match option.value {
-            ValueForm::Flag(_) => Some(Why::Value(option.name, value?)),
+            ValueForm::Flag(_) => Some(Why::Value(*option, value?)),
             _ => None,
         };
     }
     let letter = after_hyphen(word)?.chars().next()?;
-    if letter == 'h' || letter == '-' {
-        return None;
-    }
-    Some(Why::UnknownLetter(letter))
+    (letter != 'h' && letter != '-').then_some(Why::UnknownLetter(letter))
 }
 
 /// Why the first of these words is refused after what was given, or why none of them may follow.
@@ -57,10 +55,9 @@ pub(crate) fn why_refused<'a, A: Allocator>(
     words: &[&'a str],
 ) -> Why<'a> {
     let Some((word, rest)) = words.split_first() else {
-        return match given.waiting {
-            Some(name) => Why::NoValue(name),
-            None => Why::Missing,
-        };
+        return given
+            .waiting
+            .map_or(Why::Missing, |option| Why::NoValue(*option));
     };
     if given.ended {
         return Why::Surplus(word);
@@ -69,14 +66,15 @@ pub(crate) fn why_refused<'a, A: Allocator>(
         return why;
     }
     match given.waiting {
-        Some(name) if is_plain(word) => why_later(given, options, rest).unwrap_or(Why::Twice(name)),
-        Some(name) if *word == "--" => surplus_of(given, rest).unwrap_or(Why::NoValue(name)),
-        Some(name) => Why::NoValue(name),
+        Some(option) if is_plain(word) => {
+            why_later(given, options, rest).unwrap_or(Why::Twice(*option))
+        }
+        Some(option) if *word == "--" => surplus_of(given, rest).unwrap_or(Why::NoValue(*option)),
+        Some(option) => Why::NoValue(*option),
         None if is_plain(word) => Why::Surplus(word),
-        None => match long_of(word).and_then(|parts| option_named(options, parts.0)) {
-            Some(option) => Why::Twice(option.name),
-            None => Why::Missing,
-        },
+        None => long_of(word)
+            .and_then(|parts| option_named(options, parts.0))
+            .map_or(Why::Missing, |option| Why::Twice(*option)),
     }
 }
 
@@ -87,13 +85,11 @@ fn why_later<'a, A: Allocator>(
     words: &[&'a str],
 ) -> Option<Why<'a>> {
     let (word, rest) = words.split_first()?;
-    if *word == "--" {
-        return surplus_of(given, rest);
+    match *word {
+        "--" => surplus_of(given, rest),
+        _ if is_plain(word) => surplus_of(given, words),
+        _ => why_never(options, word),
     }
-    if is_plain(word) {
-        return surplus_of(given, words);
-    }
-    why_never(options, word)
 }
 
 /// The first of these words, if it is plain, as one too many.

@@ -1,14 +1,12 @@
-use Rattle.std.proofs.Common.{arith}
+use Rattle.std.proofs.Common.{◌∙◌, ap, option_map, rules, tests}
+use Rattle.std.specs.Prelude.{bytes_eq}
+use Rattle.std.proofs.lemmas.Iterator.{YieldsList-from_slice}
+use Rattle.std.proofs.lemmas.Iterator.Search.{find_from_yields_List}
+use Rattle.clap.proofs.WalkLemmas.{find-map}
 use Rattle.pp_command.specs.CommandLine.{command_of_form}
-use Rattle.pp_command.proofs.CallLemmas.{name_of_help}
-use Rattle.pp_command.proofs.FindLemmas.{found, not_found, passed}
 use Rattle.pp_command.proofs.call_words.command_among.Goals as goal
 
-pub returns-then-eq : goal.returns-then-eq
-returns-then-eq c = found (λ help. command_of_form help.form.now) (λ help. help.form.now.name.now) (λ command. command.name) name_of_help c.args.name.now c.args.helps.now c.loop-help.help-index _ _ c.loop-help-test.true c.if-eq.true c.eq.ensures c.loop-help.invariant
-
-pub loop-help-preserved : goal.loop-help-preserved
-loop-help-preserved c = passed (λ help. command_of_form help.form.now) (λ help. help.form.now.name.now) (λ command. command.name) name_of_help c.args.name.now c.args.helps.now c.loop-help.help-index _ _ c.loop-help-test.true c.if-eq.false c.eq.ensures c.loop-help.invariant
-
 pub returns : goal.returns
-returns c = not_found (λ help. command_of_form help.form.now) (λ help. help.form.now.name.now) (λ command. command.name) name_of_help c.args.name.now c.args.helps.now c.loop-help.help-index (omega (arith, c.loop-help-test.false)) c.loop-help.invariant
+returns c =
+    ap (option_map (λ help. command_of_form help.form.now)) (c.copied.ensures ∙ find_from_yields_List (λ help. bytes_eq help.form.now.name.now c.args.name.now) _ _ c.find.result c.find.ensures.ran (YieldsList-from_slice c.args.helps.now cc) (λ x b q k. search (rules, tests)))
+    ∙ find-map (λ command. bytes_eq command.name c.args.name.now) (λ help. command_of_form help.form.now) c.args.helps.now

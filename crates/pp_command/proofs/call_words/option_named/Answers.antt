@@ -1,14 +1,13 @@
-use Rattle.std.proofs.Common.{arith}
+use Rattle.std.proofs.Common.{rules, tests}
+use Rattle.std.specs.Prelude.{bytes_eq}
+use Rattle.std.proofs.lemmas.Iterator.{YieldsList-from_slice}
+use Rattle.std.proofs.lemmas.Iterator.Search.{find_from_yields_List}
 use Rattle.pp_command.specs.CommandLine.{rule_of_form}
 use Rattle.pp_command.proofs.CallLemmas.{id_of_form}
-use Rattle.pp_command.proofs.FindLemmas.{found, not_found, passed}
+use Rattle.pp_command.proofs.FindLemmas.{found_as}
 use Rattle.pp_command.proofs.call_words.option_named.Goals as goal
 
-pub returns-then-eq : goal.returns-then-eq
-returns-then-eq c = found rule_of_form (λ form. form.name.now) (λ rule. rule.id) id_of_form c.args.name.now c.args.options.now c.loop-option.option-index _ _ c.loop-option-test.true c.if-eq.true c.eq.ensures c.loop-option.invariant
-
-pub loop-option-preserved : goal.loop-option-preserved
-loop-option-preserved c = passed rule_of_form (λ form. form.name.now) (λ rule. rule.id) id_of_form c.args.name.now c.args.options.now c.loop-option.option-index _ _ c.loop-option-test.true c.if-eq.false c.eq.ensures c.loop-option.invariant
-
 pub returns : goal.returns
-returns c = not_found rule_of_form (λ form. form.name.now) (λ rule. rule.id) id_of_form c.args.name.now c.args.options.now c.loop-option.option-index (omega (arith, c.loop-option-test.false)) c.loop-option.invariant
+returns c = found_as rule_of_form (λ rule. bytes_eq rule.id c.args.name.now) c.args.options.now c.find.result
+    (find_from_yields_List (λ form. bytes_eq (rule_of_form form).id c.args.name.now) _ _ c.find.result c.find.ensures.ran (YieldsList-from_slice c.args.options.now cc)
+    (λ x b q k. rw (id_of_form x.now) (search (rules, tests))))

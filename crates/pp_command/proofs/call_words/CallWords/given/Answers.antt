@@ -1,23 +1,19 @@
-use Rattle.std.proofs.Common.{arith, ap, ◌∙◌}
-use Rattle.std.specs.Option.{option_map}
+use Rattle.std.proofs.Common.{◌≡◌, ◌∙◌, ap, map, rules, tests}
+use Rattle.std.specs.Prelude.{bytes_eq}
+use Rattle.std.proofs.lemmas.Iterator.{YieldsList-from_slice}
+use Rattle.std.proofs.lemmas.Iterator.Search.{find_from_yields_List}
 use Rattle.pp_command.specs.CallWords.{value_among}
-use Rattle.pp_command.proofs.CallLemmas.{pair_of, same_name}
-use Rattle.pp_command.proofs.FindLemmas.{found, not_found, passed}
+use Rattle.pp_command.proofs.FindLemmas.{pair_of, value_found}
 use Rattle.pp_command.proofs.call_words.CallWords.given.Goals as goal
 
-pub returns-then-eq : goal.returns-then-eq
-returns-then-eq g c =
-    let inv = c.loop-pair.invariant in
-    ap (option_map (λ pair. pair.1)) (found pair_of (λ pair. pair.0.now) (λ pair. pair.0) same_name c.args.id.now c.deref-pair-items.result.now c.loop-pair.pair-index _ _ c.loop-pair-test.true c.if-eq.true c.eq.ensures inv.1)
-    ∙ ap (λ values. value_among values c.args.id.now) inv.0
-
-pub loop-pair-preserved : goal.loop-pair-preserved
-loop-pair-preserved g c =
-    let inv = c.loop-pair.invariant in
-    (inv.0, passed pair_of (λ pair. pair.0.now) (λ pair. pair.0) same_name c.args.id.now c.deref-pair-items.result.now c.loop-pair.pair-index _ _ c.loop-pair-test.true c.if-eq.false c.eq.ensures inv.1)
+pub returns-in_err-pair : goal.returns-in_err-pair
+returns-in_err-pair g c =
+    let values : map pair_of c.deref.result.now ≡ c.args.self.now.values = search rules in
+    let found = value_found c.deref.result.now c.args.id.now c.find.result (find_from_yields_List (λ pair. bytes_eq pair.0.now c.args.id.now) _ _ c.find.result c.find.ensures.ran (YieldsList-from_slice c.deref.result.now cc) (λ x b q k. search (rules, tests))) in
+    rw c.from_residual.ensures (rw c.in_err-pair.was at found ∙ ap (λ values. value_among values c.args.id.now) values)
 
 pub returns : goal.returns
 returns g c =
-    let inv = c.loop-pair.invariant in
-    ap (option_map (λ pair. pair.1)) (not_found pair_of (λ pair. pair.0.now) (λ pair. pair.0) same_name c.args.id.now c.deref-pair-items.result.now c.loop-pair.pair-index (omega (arith, c.loop-pair-test.false)) inv.1)
-    ∙ ap (λ values. value_among values c.args.id.now) inv.0
+    let values : map pair_of c.deref.result.now ≡ c.args.self.now.values = search rules in
+    let found = value_found c.deref.result.now c.args.id.now c.find.result (find_from_yields_List (λ pair. bytes_eq pair.0.now c.args.id.now) _ _ c.find.result c.find.ensures.ran (YieldsList-from_slice c.deref.result.now cc) (λ x b q k. search (rules, tests))) in
+    rw c.in_ok-pair.was at found ∙ ap (λ values. value_among values c.args.id.now) values
