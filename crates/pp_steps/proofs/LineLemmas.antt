@@ -1,6 +1,5 @@
 -- The line of a step, put together from its parts.
-use Rattle.std.proofs.Common.{get_or-set_same, ◌≡◌, ℕ, ◌/◌, ◌%◌, ◌^◌, ◌<◌, List, ◌++◌, codes, length, [], refl, sym, ap, subst, ◌∙◌, true, false, append_assoc}
-use Rattle.std.specs.Prelude.{Result, Ok, Err, MatchResult, IfOk, is_ok}
+use Rattle.std.proofs.Common.{get_or-set_same, ◌≡◌, ℕ, ◌/◌, ◌%◌, ◌^◌, ◌<◌, List, ◌++◌, codes, length, [], refl, true, false, append_assoc}
 use Rattle.pp_word.specs.Address.{next_place}
 use Rattle.pp_channel.specs.declared.chan_op.ChanOp.{ChanOp}
 use Rattle.pp_processor.specs.declared.need.Need.{Need}

@@ -4,6 +4,7 @@ use Rattle.pp_machine.specs.MachineState.{MachineState}
 use Rattle.pp_machine.specs.MachineStep.{stepped}
 use Rattle.pp_numbers.specs.PpNo.{processor_index}
 use Rattle.std.proofs.lemmas.List.{get_or_read, take_all}
+use Rattle.std.proofs.lemmas.Result.{err_from_is_err_and}
 use Rattle.pp_machine.specs.Run.{run}
 use Rattle.pp_machine.proofs.RunLemmas.{run_more}
 use Rattle.pp_run.specs.RunSteps.{RunStep}
@@ -11,6 +12,7 @@ use Rattle.pp_text.specs.TextWriter.{Prints}
 use Rattle.pp_text.proofs.PrintingLemmas.{prints_nothing, prints_then}
 use Rattle.pp_run.specs.BareMachine.{StandsFor, progress}
 use Rattle.pp_steps.specs.Choice.{chosen_steps, is_chosen}
+use Rattle.pp_steps.specs.declared.choice.Choice.{Choice}
 use Rattle.pp_steps.specs.Cursor.{each_cursor, line_at, no_cursor, past_step}
 use Rattle.pp_steps.specs.HeldSpells.{each_spells, no_spells}
 use Rattle.pp_steps.specs.declared.cursor.Cursor.{Cursor}
@@ -102,18 +104,29 @@ loop-n-preserved g c =
       );
     }
 
-pub returns : goal.returns
+-- the text of all steps chosen
+whole : (choice : Choice) (order : List ℕ) (m : MachineState) (t : ℕ) (text : List ℕ) → length order ≤ t
+    → IsSoFar (chosen_steps choice order m) (chosen_steps choice (take t order) m) (chosen_from choice order t m) text → text ≡ steps_text choice order m
 unfolding steps_text
-returns g c =
-    let order = c.args.order.now in
-    let m = c.args.machine.now in
-    let choice = c.args.choice.now in
-    let last : length order ≤ c.loop-n.n-index = omega (arith, c.loop-n-test.false, ap length c.processors-n-items.ensures.are) in
-    let (text, prints, so_far) = c.loop-n.invariant.printed in
+whole choice order m t text last so_far =
     let all = chosen_steps choice order m in
-    let past = chosen_steps choice (take c.loop-n.n-index order) m in
-    let made : past ≡ all = ap (λ ns. chosen_steps choice ns m) (take_all c.loop-n.n-index order last) in
-    let at_end = subst (λ (steps : List RunStep). IsSoFar all steps [] text) made (subst (λ (steps : List RunStep). IsSoFar all past steps text) (none_left choice order c.loop-n.n-index m last) so_far) in
-    let printed = subst (Prints _ _ _) (everything all all text at_end) prints in
+    let past = chosen_steps choice (take t order) m in
+    let made : past ≡ all = ap (λ ns. chosen_steps choice ns m) (take_all t order last) in
+    everything all all text (subst (λ (steps : List RunStep). IsSoFar all steps [] text) made (subst (λ (steps : List RunStep). IsSoFar all past steps text) (none_left choice order t m last) so_far))
+
+pub returns : goal.returns
+returns g c =
+    let last : length c.args.order.now ≤ c.loop-n.n-index = omega (arith, c.loop-n-test.false, ap length c.processors-n-items.ensures.are) in
+    let (text, prints, so_far) = c.loop-n.invariant.printed in
+    let printed = subst (Prints _ _ _) (whole c.args.choice.now c.args.order.now c.args.machine.now c.loop-n.n-index text last so_far) prints in
     let written = c.finish.ensures.written _ _ (printed.goes_on _ [] c.new-text.ensures.nothing) in
     search (rules, written)
+
+pub returns-in_err-finish : goal.returns-in_err-finish
+returns-in_err-finish g c =
+    let p = err_from_is_err_and c.from_residual-in_err-finish.result c.from_residual-in_err-finish.ensures.1 in
+    let last : length c.args.order.now ≤ c.loop-n.n-index = omega (arith, c.loop-n-test.false, ap length c.processors-n-items.ensures.are) in
+    let (text, prints, so_far) = c.loop-n.invariant.printed in
+    let printed = subst (Prints _ _ _) (whole c.args.choice.now c.args.order.now c.args.machine.now c.loop-n.n-index text last so_far) prints in
+    let written = c.finish.ensures.written _ _ (printed.goes_on _ [] c.new-text.ensures.nothing) in
+    rw (p.1, p.2) (search (rules, written))
