@@ -1,8 +1,7 @@
 ghost use Rattle.std.specs.Prelude.{ℕ, ◌≡◌, ◌+◌, ◌<◌, ◌≤◌, ◌↔◌, IfOk, IfErr, length, take};
 ghost use Rattle.pp_deck.specs.DeckText.{lines_of};
 ghost use Rattle.pp_check.specs.LawfulTrace.{AreLawful, parsed_lines};
-ghost use Rattle.pp_check.specs.TraceFault.{IsFault};
-ghost use Rattle.pp_check.specs.Verdict.{verdict_of};
+ghost use Rattle.pp_check.specs.{TraceFault.IsFault, Verdict.verdict_of};
 
 use crate::judge::Judge;
 use crate::{TraceFault, Verdict};

@@ -3,8 +3,7 @@ ghost use Rattle.pp_numbers.specs.ChannelNo.{names_channel};
 ghost use Rattle.pp_deck.specs.DeckText.{fields_of};
 ghost use Rattle.pp_check.specs.Judge.{Happens, IsRead, Keeps, KeepsEvents, KeepsSome, tally_of};
 ghost use Rattle.pp_check.specs.LawfulTrace.{Fits, event_on};
-ghost use Rattle.pp_check.specs.TraceLine.{parsed_line};
-ghost use Rattle.pp_check.specs.Verdict.{verdict_of};
+ghost use Rattle.pp_check.specs.{TraceLine.parsed_line, Verdict.verdict_of};
 ghost use Rattle.pp_check.specs.declared.trace_line.TraceLine.{TraceLine};
 
 use crate::channel_tally::ChannelTally;
@@ -82,7 +81,6 @@ impl Judge {
         }
     }
 
-    /// What is kept of a channel.
     fn tally_of(&self, channel: ChannelNo) -> ChannelTally
         ensures kept { result ≡ tally_of self.now.channels channel }
         ensures names { IsTrue (names_channel channel) }
@@ -90,7 +88,6 @@ impl Judge {
         self.channels[channel.index()]
     }
 
-    /// Applies an event to its channel.
     fn happen(&mut self, channel: ChannelNo, event: Event) -> Result<(), TraceFlaw>
         requires room { self.old.events < 2 ^ 63 }
         requires kept { KeepsSome self.old }
@@ -117,7 +114,6 @@ impl Judge {
         Ok(())
     }
 
-    /// What was counted.
     pub(crate) fn verdict(&self) -> Verdict
         requires room { self.now.events ≤ 2 ^ 63 }
         requires kept { KeepsSome self.now }

@@ -1,6 +1,7 @@
 ghost use Rattle.std.specs.Prelude.{◌++◌, Some};
 ghost use Rattle.std.specs.Fmt.{DisplaysOnOk};
 ghost use Rattle.pp_word.specs.Numeral.{short_decimal};
+ghost use Rattle.pp_check.specs.FaultText.{flaw_text, trace_fault_text};
 
 use crate::unlawful::write_unlawful;
 use pp_channel::{ChannelNo, ChannelState, Event};
@@ -27,9 +28,6 @@ pub enum TraceFlaw {
 
 /// As `turn 5 after turn 7` or `PUT 0002 on CH05, which is full`.
 impl Display for TraceFlaw {
-    ghost use Rattle.std.specs.Prelude.{Some};
-    ghost use Rattle.pp_check.specs.FaultText.{flaw_text};
-
     ghost output = { λ flaw. Some (flaw_text flaw) };
 
     fn fmt<W: Write>(&self, f: &mut Formatter<W>) -> fmt::Result {
@@ -73,9 +71,6 @@ pub struct TraceFault {
 
 /// As `line 3: not a line of a trace`.
 impl Display for TraceFault {
-    ghost use Rattle.std.specs.Prelude.{Some};
-    ghost use Rattle.pp_check.specs.FaultText.{trace_fault_text};
-
     ghost output = { λ fault. Some (trace_fault_text fault) };
 
     fn fmt<W: Write>(&self, f: &mut Formatter<W>) -> fmt::Result {

@@ -27,15 +27,12 @@ const COUNT_DIGITS: usize = 19;
 pub(crate) fn line_in(fields: &mut Fields) -> Option<TraceLine>
     ensures { result ≡ parsed_line fields.old }
 {
-    let Some(field) = fields.next_field() else {
-        return Some(TraceLine::Other);
-    };
-    if processor_in(field).is_some() {
-        return Some(TraceLine::Other);
-    }
-    match channel_in(field) {
-        Some(channel) => channel_line(channel, fields),
-        None => turn_line(field, fields),
+    match fields.next_field() {
+        Some(field) if processor_in(field).is_none() => match channel_in(field) {
+            Some(channel) => channel_line(channel, fields),
+            None => turn_line(field, fields),
+        },
+        _ => Some(TraceLine::Other),
     }
 }
 
@@ -101,21 +98,17 @@ fn active_in(fields: &mut Fields) -> Option<ChannelState>
 {
     match fields.next_field()? {
         b"EMPTY" => are_over(fields).then_some(ChannelState::EMPTY),
-        b"FULL" => {
-            let word = last_word(fields)?;
-            Some(ChannelState {
-                flags: Flags {
-                    active: true,
-                    full: true,
-                },
-                register: Some(word),
-            })
-        }
+        b"FULL" => Some(ChannelState {
+            flags: Flags {
+                active: true,
+                full: true,
+            },
+            register: Some(last_word(fields)?),
+        }),
         _ => None,
     }
 }
 
-/// Whether no field is left.
 fn are_over(fields: &mut Fields) -> bool
     ensures { result ≡ are_over fields.old }
 {
@@ -127,8 +120,7 @@ fn are_over(fields: &mut Fields) -> bool
 fn last_word(fields: &mut Fields) -> Option<Word12>
     ensures { result ≡ last_word fields.old }
 {
-    let field = fields.next_field()?;
-    let word = numeral(8, 4, field)?;
+    let word = numeral(8, 4, fields.next_field()?)?;
     are_over(fields).then_some(Word12::truncated(word as u32))
 }
 

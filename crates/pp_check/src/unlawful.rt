@@ -1,5 +1,3 @@
-//! Events that may not come, as they are reported.
-
 ghost use Rattle.std.specs.Prelude.{◌≡◌, Some};
 ghost use Rattle.std.specs.Fmt.{DisplaysOnOk};
 ghost use Rattle.pp_check.specs.FaultText.{obstacle_text, passing_text, unlawful_text};
