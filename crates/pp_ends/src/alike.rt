@@ -1,5 +1,3 @@
-//! Whether machines stand alike.
-
 ghost use Rattle.std.specs.Prelude.{◌≡◌, ◌↔◌, IsNone, IsSome, IsTrue, false};
 ghost use Rattle.pp_run.specs.BareMachine.{StandsFor};
 ghost use Rattle.pp_machine.specs.MachineState.{MachineState};
@@ -26,13 +24,11 @@ pub(crate) fn stand_alike<A: Allocator>(
     if places_differ(one, other) || recent.differ(one, other) {
         return false;
     }
-    match difference(one, other) {
-        Some(spot) => {
-            recent.keep(spot);
-            false
-        }
-        None => true,
+    if let Some(spot) = difference(one, other) {
+        recent.keep(spot);
+        return false;
     }
+    true
 }
 
 /// Whether some processors differ in P or A.
@@ -42,10 +38,7 @@ fn places_differ<A: Allocator>(one: &BareMachine<A>, other: &BareMachine<A>) -> 
 {
     for place in 0..PROCESSORS {
         let n = PpNo::at(place);
-        if one.pp(n).p().get() != other.pp(n).p().get() {
-            return true;
-        }
-        if one.pp(n).a().get() != other.pp(n).a().get() {
+        if one.pp(n).p() != other.pp(n).p() || one.pp(n).a() != other.pp(n).a() {
             return true;
         }
     }

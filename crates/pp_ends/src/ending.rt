@@ -23,8 +23,7 @@ impl Ending {
         ensures { result ≡ ends_turn self turns }
     {
         match self {
-            Ending::AtRest { from } | Ending::Stuck { from } => from,
-            Ending::Repeats { from, every: _ } => from,
+            Ending::AtRest { from } | Ending::Stuck { from } | Ending::Repeats { from, .. } => from,
             Ending::GoingOn => turns,
         }
     }

@@ -1,11 +1,7 @@
-//! The text of how a run ends.
-
 ghost use Rattle.std.specs.Prelude.{◌≡◌, ◌++◌, codes};
 ghost use Rattle.pp_machine.specs.MachineState.{processor_of};
 ghost use Rattle.pp_word.specs.Numeral.{octal};
-ghost use Rattle.pp_text.specs.PrintedText.{processor_line};
-ghost use Rattle.pp_text.specs.Standing.{standing};
-ghost use Rattle.pp_text.specs.TextWriter.{Prints};
+ghost use Rattle.pp_text.specs.{PrintedText.processor_line, Standing.standing, TextWriter.Prints};
 ghost use Rattle.pp_text.specs.Written.{IsWritten};
 ghost use Rattle.pp_ends.specs.Loops.{loop_of};
 ghost use Rattle.pp_ends.specs.EndsText.{ending_text, ends_text, loop_text};
@@ -86,7 +82,9 @@ impl<'a, A: Allocator, W: Write> Lines<PpNo, W> for LoopingLines<'a, A> {
     fn print(&self, text: &mut TextWriter<W>, n: &PpNo) {
         text.print(&processor_heading(*n, self.machine.pp(*n)));
         print_standing(text, self.machine, *n, 0);
-        print_loop(text, loop_of(self.loops, *n));
+        if let Some(found) = loop_of(self.loops, *n) {
+            text.print(&loop_field(found));
+        }
         text.print(b"\n");
     }
 }
@@ -96,15 +94,6 @@ fn loop_of(loops: &[Option<Loop>; PROCESSORS], n: PpNo) -> &Option<Loop>
     ensures { result.now ≡ loop_of loops.now n }
 {
     &loops[n.index()]
-}
-
-/// Prints ` LOOPS 0100 TO 0101`, if there is a loop.
-fn print_loop<W: Write>(text: &mut TextWriter<W>, found: &Option<Loop>)
-    ensures { Prints W.contents text.old text.new (loop_text found.now) }
-{
-    if let Some(found) = found {
-        text.print(&loop_field(found));
-    }
 }
 
 /// ` LOOPS 0100 TO 0101`

@@ -3,10 +3,8 @@
 
 ghost use Rattle.std.specs.Prelude.{◌≡◌, ◌≢◌, ℕ, ◌+◌, ◌*◌, Bool, List, Option, length};
 ghost use Rattle.pp_numbers.specs.ChannelNo.{channel_count};
-ghost use Rattle.pp_machine.specs.Headline.{HoldsOnEachChannel};
+ghost use Rattle.pp_machine.specs.{Headline.HoldsOnEachChannel, MachineStep.stepped, Run.run};
 ghost use Rattle.pp_machine.specs.MachineState.{MachineState, processor_of};
-ghost use Rattle.pp_machine.specs.MachineStep.{stepped};
-ghost use Rattle.pp_machine.specs.Run.{run};
 ghost use Rattle.pp_run.specs.Determinacy.{IsQuiet, Waits};
 ghost use Rattle.pp_ends.specs.declared.{ending.Ending.Ending, loops.Loop.Loop};
 ghost use Rattle.pp_ends.specs.declared.ending.Ending.TheVariants.{GoingOn};

@@ -1,7 +1,5 @@
-//! Between which places processors loop.
-
 ghost use Rattle.std.specs.Prelude.{◌≡◌, ◌+◌, IfOk};
-ghost use Rattle.pp_ends.specs.Loops.{AreLoops, TellLoops, noted, widened};
+ghost use Rattle.pp_ends.specs.Loops.{AreLoops, noted, widened};
 
 use crate::Ending;
 use crate::quiet::step_moves;
@@ -29,23 +27,10 @@ pub fn find_loops<A: Allocator + Copy, B: Allocator>(
 ) -> Result<[Option<Loop>; PROCESSORS], Memory>
     ensures { IfOk result (λ loops. AreLoops loops ending machine.now) }
 {
-    match ending {
-        Ending::Repeats { from, every } => loops_in(alloc, machine, from, every),
-        Ending::AtRest { from: _ } | Ending::Stuck { from: _ } | Ending::GoingOn => {
-            Ok([None; PROCESSORS])
-        }
-    }
-}
-
-/// The loops in `every` turns from turn `from` on.
-fn loops_in<A: Allocator + Copy, B: Allocator>(
-    alloc: A,
-    machine: &Machine<B>,
-    from: u32,
-    every: u32,
-) -> Result<[Option<Loop>; PROCESSORS], Memory>
-    ensures { IfOk result (λ loops. TellLoops loops from (from + every) machine.now) }
-{
+    let mut loops = [None; PROCESSORS];
+    let Ending::Repeats { from, every } = ending else {
+        return Ok(loops);
+    };
     // No order has more steps than 32 bits count.
     let Some(end) = from.checked_add(every) else {
         return Err(Memory);
@@ -54,7 +39,6 @@ fn loops_in<A: Allocator + Copy, B: Allocator>(
     let order = order.processors();
     let mut bare = BareMachine::of(alloc, machine)?;
     let _still = run_to_last_move(&mut bare, &order[..from as usize]);
-    let mut loops = [None; PROCESSORS];
     for turn in from..end {
         let n = order[turn as usize];
         let p = bare.pp(n).p();
@@ -80,17 +64,9 @@ fn widened(found: Option<Loop>, p: Word12) -> Loop
 {
     match found {
         None => Loop { first: p, last: p },
-        Some(found) => Loop {
-            first: if p.get() < found.first.get() {
-                p
-            } else {
-                found.first
-            },
-            last: if found.last.get() < p.get() {
-                p
-            } else {
-                found.last
-            },
+        Some(Loop { first, last }) => Loop {
+            first: if p.get() < first.get() { p } else { first },
+            last: if last.get() < p.get() { p } else { last },
         },
     }
 }

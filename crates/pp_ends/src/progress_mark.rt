@@ -1,5 +1,3 @@
-//! What a step that moves changes of its processor.
-
 ghost use Rattle.std.specs.Prelude.{◌≡◌, ◌↔◌, IsTrue};
 ghost use Rattle.pp_processor.specs.Processor.{IsProcessor};
 ghost use Rattle.pp_ends.specs.ProgressMark.{next_in, mark_of};

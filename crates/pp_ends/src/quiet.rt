@@ -1,15 +1,12 @@
-//! Whether steps move.
-
 ghost use Rattle.std.specs.Prelude.{◌≡◌, ◌↔◌, IsTrue};
-ghost use Rattle.pp_run.specs.BareMachine.{StandsFor};
+ghost use Rattle.pp_run.specs.{BareMachine.StandsFor, Determinacy.IsQuiet};
 ghost use Rattle.pp_machine.specs.MachineState.{MachineState};
 ghost use Rattle.pp_machine.specs.MachineStep.{answer_to, stepped};
 ghost use Rattle.pp_processor.specs.Replay.{fits};
-ghost use Rattle.pp_run.specs.Determinacy.{IsQuiet};
 ghost use Rattle.pp_ends.specs.Endings.{TellsMove, TellsRunning};
 
 use crate::progress_mark::ProgressMark;
-use pp_machine::{Answer, Need, PROCESSORS, PpNo, PpState};
+use pp_machine::{Answer, Need, PROCESSORS, PpNo};
 use pp_run::BareMachine;
 use std::alloc::Allocator;
 
@@ -31,10 +28,7 @@ fn peek_answer<A: Allocator>(bare: &BareMachine<A>, need: &Need) -> Answer
 {
     match need {
         Need::Nothing | Need::Local => Answer::Local,
-        Need::Channel(c, op) => {
-            let mut state = bare.channel(*c);
-            Answer::Channel(state.act(*op))
-        }
+        Need::Channel(c, op) => Answer::Channel(bare.channel(*c).act(*op)),
         Need::Read(address) => Answer::Read(bare.central().read(*address)),
         Need::Write(address, _) => Answer::Wrote(address.get() < bare.central().size()),
     }
@@ -68,9 +62,8 @@ pub(crate) fn is_running<A: Allocator>(bare: &BareMachine<A>) -> bool
     ensures { (m : MachineState) → StandsFor bare.now m → TellsRunning result m }
 {
     for place in 0..PROCESSORS {
-        match bare.pp(PpNo::at(place)).state() {
-            PpState::Running => return true,
-            PpState::Stopped | PpState::Fault(_) => {}
+        if bare.pp(PpNo::at(place)).state().is_running() {
+            return true;
         }
     }
     false

@@ -1,5 +1,3 @@
-//! Where two machines have differed.
-
 ghost use Rattle.std.specs.Prelude.{IsTrue};
 ghost use Rattle.pp_run.specs.BareMachine.{StandsFor};
 ghost use Rattle.pp_machine.specs.MachineState.{MachineState};
@@ -30,9 +28,7 @@ impl Spot {
             → StandsFor other.now k → ¬ StandAlike m k }
     {
         match self {
-            Spot::Word(n, place) => {
-                one.pp(*n).get(*place).get() != other.pp(*n).get(*place).get()
-            }
+            Spot::Word(n, place) => one.pp(*n).get(*place) != other.pp(*n).get(*place),
             Spot::Central(address) => {
                 one.central().read(*address) != other.central().read(*address)
             }
@@ -61,12 +57,7 @@ impl RecentMismatches {
         ensures { IsTrue result → (m k : MachineState) → StandsFor one.now m
             → StandsFor other.now k → ¬ StandAlike m k }
     {
-        for spot in &self.spots {
-            if spot.differs(one, other) {
-                return true;
-            }
-        }
-        false
+        self.spots.iter().any(|spot| spot.differs(one, other))
     }
 
     /// Keeps one more in mind, in place of the oldest.

@@ -1,10 +1,7 @@
-//! Repetitions, found round by round.
-
 ghost use Rattle.std.specs.Prelude.{◌≡◌, ◌+◌, ◌<◌, ◌^◌, ◌≤◌, ℕ, IfOk};
 ghost use Rattle.pp_run.specs.BareMachine.{StandsFor};
 ghost use Rattle.pp_machine.specs.MachineState.{MachineState};
-ghost use Rattle.pp_numbers.specs.PpNo.{processor_count};
-ghost use Rattle.pp_numbers.specs.Profile.{processors_in};
+ghost use Rattle.pp_numbers.specs.{PpNo.processor_count, Profile.processors_in};
 ghost use Rattle.pp_ends.specs.Rounds.{PeriodWithin, StartWithin, after_rounds};
 
 use crate::alike::stand_alike;
@@ -59,31 +56,17 @@ pub(crate) fn find_period<A: Allocator + Copy, B: Allocator>(
 ) -> Result<Option<u32>, Memory>
     ensures { IfOk result (λ period. PeriodWithin period rounds machine.now) }
 {
+    let round = round_of(machine);
     let end = bare_after(alloc, machine, rounds)?;
     let mut later = end.copy(alloc)?;
-    Ok(period_from(machine, &end, &mut later, rounds))
-}
-
-/// The same, by two that stand for the machine after these rounds.
-fn period_from<A: Allocator, B: Allocator>(
-    machine: &Machine<B>,
-    end: &BareMachine<A>,
-    later: &mut BareMachine<A>,
-    rounds: u32,
-) -> Option<u32>
-    requires end { StandsFor end.now (after_rounds rounds machine.now) }
-    requires later { StandsFor later.old (after_rounds rounds machine.now) }
-    ensures { PeriodWithin result rounds machine.now }
-{
-    let round = round_of(machine);
     let mut recent = RecentMismatches::new();
     for passed in 0..rounds {
-        run_round(later, round);
-        if stand_alike(end, later, &mut recent) {
-            return Some(passed + 1);
+        run_round(&mut later, round);
+        if stand_alike(&end, &later, &mut recent) {
+            return Ok(Some(passed + 1));
         }
     }
-    None
+    Ok(None)
 }
 
 /// After how many rounds, up to the last, the machine first stands as a period later.
@@ -96,32 +79,16 @@ pub(crate) fn find_start<A: Allocator + Copy, B: Allocator>(
     requires { last + 1 < 2 ^ 32 }
     ensures { IfOk result (λ start. StartWithin start period last machine.now) }
 {
+    let round = round_of(machine);
     let mut early = bare_after(alloc, machine, 0)?;
     let mut late = bare_after(alloc, machine, period)?;
-    Ok(start_from(machine, &mut early, &mut late, period, last))
-}
-
-/// The same, by what stands for the machine before the first round and after a period.
-fn start_from<A: Allocator, B: Allocator>(
-    machine: &Machine<B>,
-    early: &mut BareMachine<A>,
-    late: &mut BareMachine<A>,
-    period: u32,
-    last: u32,
-) -> Option<u32>
-    requires last { last + 1 < 2 ^ 32 }
-    requires early { StandsFor early.old (after_rounds 0 machine.now) }
-    requires late { StandsFor late.old (after_rounds period machine.now) }
-    ensures { StartWithin result period last machine.now }
-{
-    let round = round_of(machine);
     let mut recent = RecentMismatches::new();
     for start in 0..last + 1 {
-        if stand_alike(early, late, &mut recent) {
-            return Some(start);
+        if stand_alike(&early, &late, &mut recent) {
+            return Ok(Some(start));
         }
-        run_round(early, round);
-        run_round(late, round);
+        run_round(&mut early, round);
+        run_round(&mut late, round);
     }
-    None
+    Ok(None)
 }

@@ -1,10 +1,6 @@
-//! How runs end.
-
 ghost use Rattle.std.specs.Prelude.{◌≡◌, ◌<◌, ◌^◌, ℕ, length, IfOk, IfSome, IsNone};
-ghost use Rattle.pp_run.specs.BareMachine.{StandsFor};
-ghost use Rattle.pp_machine.specs.MachineState.{MachineState};
-ghost use Rattle.pp_machine.specs.Run.{barrel};
-ghost use Rattle.pp_run.specs.Determinacy.{IsQuiet};
+ghost use Rattle.pp_run.specs.{BareMachine.StandsFor, Determinacy.IsQuiet};
+ghost use Rattle.pp_machine.specs.{MachineState.MachineState, Run.barrel};
 ghost use Rattle.pp_ends.specs.Endings.{IsEnding, IsStillFrom, after_turns};
 
 use crate::Ending;

@@ -121,9 +121,9 @@ central_line_pieces a first w is = grind (arith, codes, append_assoc, append-nil
 pub section_line_pieces : (n first : ℕ) → first ≡ n → (codes "PP " ++ short_octal 2 first) ++ 10 ∷ [] ≡ deck_line (section n)
 section_line_pieces n first is = ap (λ (x : ℕ). (codes "PP " ++ short_octal 2 x) ++ 10 ∷ []) is
 
-pub one_word_pieces : (place word m first second : ℕ) (a b : List ℕ) → a ≡ octal 4 first → b ≡ octal 4 second → first ≡ place → second ≡ word
-    → (((((a ++ 32 ∷ []) ++ b) ++ codes "           * ") ++ instruction_text place word m) ++ 10 ∷ []) ≡ text_line (one_word place word m)
-one_word_pieces place word m first second a b e f is_first is_second = rw (e, f, is_first, is_second) refl
+pub one_word_pieces : (place word m first second : ℕ) (a b d : List ℕ) → a ≡ octal 4 first → b ≡ octal 4 second → d ≡ codes "    " → first ≡ place → second ≡ word
+    → (((((((a ++ 32 ∷ []) ++ b) ++ 32 ∷ []) ++ d) ++ codes "      * ") ++ instruction_text place word m) ++ 10 ∷ []) ≡ text_line (one_word place word m)
+one_word_pieces place word m first second a b d e f h is_first is_second = rw (e, f, h, is_first, is_second) refl
 
 pub two_words_pieces : (place word m first second third : ℕ) (a b d : List ℕ) → a ≡ octal 4 first → b ≡ octal 4 second → d ≡ octal 4 third → first ≡ place → second ≡ word → third ≡ m
     → (((((((a ++ 32 ∷ []) ++ b) ++ 32 ∷ []) ++ d) ++ codes "      * ") ++ instruction_text place word m) ++ 10 ∷ []) ≡ text_line (two_words place word m)

@@ -1,5 +1,3 @@
-//! Lines of a deck.
-
 ghost use Rattle.std.specs.Prelude.{◌∷◌, [], ◌<◌, ◌^◌, length};
 ghost use Rattle.pp_deck.specs.DeckLine.{central_size, central_words, section};
 ghost use Rattle.pp_text.specs.TextWriter.{Prints};

@@ -1,7 +1,5 @@
-ghost use Rattle.std.specs.Prelude.{◌≡◌, slice_get, filter_map};
-ghost use Rattle.pp_numbers.specs.ChannelNo.{all_channels};
-ghost use Rattle.pp_numbers.specs.PpNo.{all_processors};
-ghost use Rattle.pp_listing.specs.Dump.{first_busy, busy_processor, busy_channel, in_processor};
+ghost use Rattle.std.specs.Prelude.{◌≡◌, Some};
+ghost use Rattle.pp_listing.specs.Dump.{first_busy, busy_text, in_processor};
 
 use pp_channel::{CHANNELS, ChannelNo};
 use pp_machine::{Machine, PROCESSORS, Pp, PpNo, PpState};
@@ -23,9 +21,6 @@ pub enum Busy {
 
 /// As `PP01 within a block`, `PP01 at fault` or `CH05 active`.
 impl Display for Busy {
-    ghost use Rattle.std.specs.Prelude.{Some};
-    ghost use Rattle.pp_listing.specs.Dump.{busy_text};
-
     ghost output = { λ busy. Some (busy_text busy) };
 
     fn fmt<W: Write>(&self, f: &mut Formatter<W>) -> fmt::Result {
@@ -43,27 +38,12 @@ impl Error for Busy {}
 pub(crate) fn first_busy<A: Allocator>(machine: &Machine<A>) -> Option<Busy>
     ensures { result ≡ first_busy machine.now }
 {
-    match first_processor(machine) {
-        Some(going_on) => Some(going_on),
-        None => first_channel(machine),
-    }
-}
-
-fn first_processor<A: Allocator>(machine: &Machine<A>) -> Option<Busy>
-    ensures { result ≡ slice_get (filter_map (busy_processor machine.now) all_processors) 0 }
-{
     for place in 0..PROCESSORS {
         let n = PpNo::at(place);
         if let Some(going_on) = in_processor(n, machine.pp(n)) {
             return Some(going_on);
         }
     }
-    None
-}
-
-fn first_channel<A: Allocator>(machine: &Machine<A>) -> Option<Busy>
-    ensures { result ≡ slice_get (filter_map (busy_channel machine.now) all_channels) 0 }
-{
     for place in 0..CHANNELS {
         let c = ChannelNo::at(place);
         if machine.channel(c).flags().active {

@@ -2,8 +2,7 @@ ghost use Rattle.std.specs.Prelude.{◌≡◌, ◌<◌, ◌^◌};
 ghost use Rattle.std.specs.List.{list_any, range_with_len};
 ghost use Rattle.pp_numbers.specs.ChannelNo.{channel_count, channel_number};
 ghost use Rattle.pp_machine.specs.MachineState.{is_opened};
-ghost use Rattle.pp_text.specs.TextWriter.{Prints};
-ghost use Rattle.pp_text.specs.Written.{IsWritten};
+ghost use Rattle.pp_text.specs.{TextWriter.Prints, Written.IsWritten};
 ghost use Rattle.pp_listing.specs.ListedLine.{text_of};
 ghost use Rattle.pp_listing.specs.Listing.{ReadsBackAs, central_word_line, central_word_lines, dead_start_line, listing};
 

@@ -1,10 +1,9 @@
-//! The instructions of a processor's words.
-
-ghost use Rattle.std.specs.Prelude.{◌≡◌, ◌&&◌, ◌∷◌, [], IfNone, IfSome, nat_lt};
+ghost use Rattle.std.specs.Prelude.{◌≡◌, ◌<◌, ◌&&◌, ◌∷◌, [], List, IfNone, IfSome, drop, length, nat_lt};
 ghost use Rattle.pp_word.specs.Address.{place_count};
+ghost use Rattle.pp_processor.specs.Processor.{word_at};
 ghost use Rattle.pp_text.specs.InstructionText.{is_long};
-ghost use Rattle.pp_listing.specs.ListedLine.{listed_line};
-ghost use Rattle.pp_listing.specs.Listing.{instructions_listed};
+ghost use Rattle.pp_listing.specs.ListedLine.{ListedLine, listed_line};
+ghost use Rattle.pp_listing.specs.Listing.{instruction_lines, instructions_listed};
 
 use pp_machine::Pp;
 use pp_word::{PLACES, Word12, decode, next};
@@ -30,12 +29,6 @@ pub struct ListedInstructions<'a> {
 }
 
 impl<'a> Model for ListedInstructions<'a> {
-    ghost use Rattle.std.specs.Prelude.{◌≡◌, ◌<◌, List, drop, length};
-    ghost use Rattle.pp_word.specs.Address.{place_count};
-    ghost use Rattle.pp_processor.specs.Processor.{word_at};
-    ghost use Rattle.pp_listing.specs.ListedLine.{ListedLine};
-    ghost use Rattle.pp_listing.specs.Listing.{instruction_lines};
-
     ghost Value = { List ListedLine };
 
     ghost view = { λ left. instruction_lines (word_at left.pp.now 0) left.place

@@ -1,7 +1,5 @@
-//! What is left of the order of a run.
-
 ghost use Rattle.std.specs.Prelude.{◌≡◌, IfOk};
-ghost use Rattle.pp_listing.specs.RestOfOrder.{order_left, turns_of_rounds};
+ghost use Rattle.pp_listing.specs.RestOfOrder.{order_left};
 
 use pp_channel::Memory;
 use pp_machine::{PpNo, Profile};
@@ -22,16 +20,10 @@ pub fn order_left<A: Allocator>(
     let made = first.len().min(steps as usize);
     let turns = steps - made as u32;
     let mut left = Vec::from_slice(alloc, &first[made..])?;
-    for turn in u64::from(turns)..turns_of_rounds(profile, turns) {
+    let round = profile.processors() as u64;
+    let end = (u64::from(turns) + (round - 1)) / round * round;
+    for turn in u64::from(turns)..end {
         left.push(in_turn(profile, turn))?;
     }
     Ok(left)
-}
-
-/// The turns of all rounds of the barrel that have begun after so many turns (decimal).
-fn turns_of_rounds(profile: Profile, turns: u32) -> u64
-    ensures { result ≡ turns_of_rounds profile turns }
-{
-    let round = profile.processors() as u64;
-    (u64::from(turns) + (round - 1)) / round * round
 }

@@ -1,5 +1,3 @@
-//! The text of central memory.
-
 ghost use Rattle.std.specs.Prelude.{◌<◌, length};
 ghost use Rattle.pp_text.specs.Written.{IsWritten};
 ghost use Rattle.pp_state.specs.CentralText.{central_text, shown_word};

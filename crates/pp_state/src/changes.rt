@@ -1,12 +1,9 @@
-//! The lines of what differs from the load.
-
 ghost use Rattle.std.specs.Prelude.{◌≡◌, ◌+◌, ◌∷◌, ◌<◌, ◌^◌, suc, true};
 ghost use Rattle.std.specs.List.{flat_map};
 ghost use Rattle.pp_word.specs.Address.{place_count};
 ghost use Rattle.pp_deck.specs.DeckLine.{section};
-ghost use Rattle.pp_text.specs.TextWriter.{Prints};
+ghost use Rattle.pp_text.specs.{Differences.differs, TextWriter.Prints};
 ghost use Rattle.pp_listing.specs.ListedLine.{after_blank, deck_line};
-ghost use Rattle.pp_text.specs.Differences.{differs};
 ghost use Rattle.pp_state.specs.Changes.{central_line, changed_central, changed_lines, has_changes, line_from, neighbours, position_on_line};
 
 use pp_listing::{print_central_line, print_section_line};

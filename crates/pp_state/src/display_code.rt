@@ -1,8 +1,6 @@
-//! Words in display code.
-
 ghost use Rattle.std.specs.Prelude.{◌≡◌, ◌<◌};
 ghost use Rattle.pp_text.specs.TextWriter.{Prints};
-ghost use Rattle.pp_state.specs.DisplayCode.{display_character, display_characters, displayed};
+ghost use Rattle.pp_state.specs.DisplayCode.{display_character, displayed};
 
 use pp_text::TextWriter;
 use std::io::Write;
@@ -29,17 +27,10 @@ pub(crate) fn displayed2(word: u64) -> [u8; 2]
 }
 
 /// The character of a code.
+#[tactic(auto, unfolding(crate::specs::DisplayCode::display_characters))]
 fn display_character(code: usize) -> u8
     requires { code < 0o100 }
     ensures { result ≡ display_character code }
 {
-    display_characters()[code]
-}
-
-/// The characters of the codes 00 to 77 (octal).
-#[tactic(auto, unfolding(crate::specs::DisplayCode::display_characters))]
-fn display_characters() -> [u8; 0o100]
-    ensures { result ≡ display_characters }
-{
-    *b" ABCDEFGHIJKLMNOPQRSTUVWXYZ0123456789+-*/()$= ,.#[]%\"_!&'?<>@\\^;"
+    b" ABCDEFGHIJKLMNOPQRSTUVWXYZ0123456789+-*/()$= ,.#[]%\"_!&'?<>@\\^;"[code]
 }

@@ -3,12 +3,10 @@
 
 ghost use Rattle.std.specs.Prelude.{◌≡◌, ◌≢◌, ◌<◌, ◌≤◌, ◌↔◌, ℕ, [], All, Bool, List, length, slice_index};
 ghost use Rattle.std.specs.List.{flat_map};
-ghost use Rattle.pp_numbers.specs.ChannelNo.{channel_count};
-ghost use Rattle.pp_machine.specs.Headline.{HoldsOnEachChannel};
+ghost use Rattle.pp_numbers.specs.{ChannelNo.channel_count, declared.bounds.Bounds.Bounds};
+ghost use Rattle.pp_machine.specs.{Headline.HoldsOnEachChannel, MachineStep.step_outcome};
 ghost use Rattle.pp_machine.specs.MachineState.{MachineState, processor_of};
-ghost use Rattle.pp_machine.specs.MachineStep.{step_outcome};
-ghost use Rattle.pp_processor.specs.NeedAndEffect.{need};
-ghost use Rattle.pp_processor.specs.declared.outcome.Outcome.TheVariants.{Held};
+ghost use Rattle.pp_processor.specs.{NeedAndEffect.need, declared.outcome.Outcome.TheVariants.Held};
 ghost use Rattle.pp_state.specs.Changes.{changed_central, changed_section};
 ghost use Rattle.pp_run.specs.declared.step_counts.StepCounts.{StepCounts};
 ghost use Rattle.pp_state.specs.ShownStanding.{AgreeOnState, FitsItsState};
@@ -19,10 +17,8 @@ ghost use Rattle.pp_word.specs.Address.{place_count};
 ghost use Rattle.pp_machine.specs.Central.{IsCentral};
 ghost use Rattle.pp_processor.specs.PpMemory.{IsMemory};
 ghost use Rattle.pp_processor.specs.Processor.{Processor, word_at};
-ghost use Rattle.pp_state.specs.CentralText.{central_text};
-ghost use Rattle.pp_state.specs.MemoryText.{memory_text};
+ghost use Rattle.pp_state.specs.{CentralText.central_text, MemoryText.memory_text};
 ghost use Rattle.pp_state.specs.MemoryReading.{central_word_read, word_read};
-ghost use Rattle.pp_numbers.specs.declared.bounds.Bounds.{Bounds};
 
 /// What the text of a machine says: it says ` HELD ` of a processor exactly where its next step
 /// needs an operation for which its channel is not ready, which is where that step is held; the

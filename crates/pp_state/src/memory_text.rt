@@ -1,12 +1,8 @@
-//! The text of a processor's memory.
-
 ghost use Rattle.std.specs.Prelude.{◌≡◌, ◌+◌, ◌*◌, ◌<◌, ◌≤◌, ◌++◌, codes};
-ghost use Rattle.pp_word.specs.Address.{place_count};
-ghost use Rattle.pp_word.specs.Numeral.{octal};
+ghost use Rattle.pp_word.specs.{Address.place_count, Numeral.octal};
 ghost use Rattle.pp_processor.specs.Processor.{word_at};
-ghost use Rattle.pp_text.specs.TextWriter.{Prints};
 ghost use Rattle.pp_text.specs.Written.{IsWritten};
-ghost use Rattle.pp_state.specs.MemoryText.{displayed_words, has_words, memory_text, octal_words, shown_line};
+ghost use Rattle.pp_state.specs.MemoryText.{displayed_words, has_words, memory_text, shown_line};
 
 use crate::display_code::displayed2;
 use pp_machine::Pp;
@@ -49,7 +45,7 @@ impl<'a, W: Write> Lines<u32, W> for MemoryLines<'a> {
         if self.bounds.meets(place, place + 7) && has_words(self.pp, place) {
             print_octal(text, 4, u64::from(place));
             text.print(b" ");
-            print_octal_words(text, self.pp, place);
+            print_each_below(text, WORDS_ON_A_LINE, &OctalWords { pp: self.pp, place });
             text.print(displayed_field(self.pp, place).trim_ascii_end());
             text.print(b"\n");
         }
@@ -70,15 +66,6 @@ fn word_at(pp: &Pp, place: u32) -> u64
     ensures { result ≡ word_at pp.now place }
 {
     u64::from(pp.get(Word12::truncated(place)).get())
-}
-
-/// Prints eight words in octal digits, with a space before each.
-#[tactic(auto, unfolding(crate::specs::MemoryText::octal_words))]
-fn print_octal_words<W: Write>(text: &mut TextWriter<W>, pp: &Pp, place: u32)
-    requires { place + 8 ≤ place_count }
-    ensures { Prints W.contents text.old text.new (octal_words pp.now place) }
-{
-    print_each_below(text, WORDS_ON_A_LINE, &OctalWords { pp, place });
 }
 
 /// Eight words from a place on in octal digits, by number, with a space before each.

@@ -1,17 +1,9 @@
-//! The whole text of how things stand.
-
 ghost use Rattle.std.specs.Prelude.{slice_index_or};
-ghost use Rattle.std.specs.List.{flat_map};
 ghost use Rattle.pp_machine.specs.MachineState.{MachineState, processor_of};
 ghost use Rattle.pp_numbers.specs.PpNo.{processor_index};
-ghost use Rattle.pp_text.specs.PrintedText.{processor_line};
-ghost use Rattle.pp_text.specs.Standing.{standing};
-ghost use Rattle.pp_text.specs.TextWriter.{Prints};
+ghost use Rattle.pp_text.specs.{PrintedText.processor_line, Standing.standing, TextWriter.Prints};
 ghost use Rattle.pp_text.specs.Written.{IsWritten};
-ghost use Rattle.pp_listing.specs.ListedLine.{deck_line};
-ghost use Rattle.pp_run.specs.BareMachine.{StandsFor};
-ghost use Rattle.pp_run.specs.StepCounts.{no_steps};
-ghost use Rattle.pp_state.specs.Changes.{changed_sections};
+ghost use Rattle.pp_run.specs.{BareMachine.StandsFor, StepCounts.no_steps};
 ghost use Rattle.pp_state.specs.StateText.{changes_text, state_text};
 
 use crate::changes::{has_changes, print_changed_central, print_section};
@@ -60,7 +52,12 @@ pub fn print_changes<A: Allocator, W: Write>(
     ensures { (load : MachineState) → StandsFor before.now load
         → Prints W.contents text.old text.new (changes_text load after.now) }
 {
-    print_memories(text, before, after);
+    for place in 0..PROCESSORS {
+        let n = PpNo::at(place);
+        if has_changes(before.pp(n), after.pp(n)) {
+            print_section(text, n, before.pp(n), after.pp(n));
+        }
+    }
     print_changed_central(text, before.central(), after.central());
     print_channels(text, after);
 }
@@ -81,23 +78,5 @@ impl<'a, A: Allocator, W: Write> Lines<PpNo, W> for StandingLines<'a, A> {
         text.print(&processor_heading(*n, self.after.pp(*n)));
         print_standing(text, self.after, *n, self.counts[n.index()].last_held);
         text.print(b"\n");
-    }
-}
-
-/// Prints the lines of all words of processors that differ from the load.
-fn print_memories<A: Allocator, W: Write>(
-    text: &mut TextWriter<W>,
-    before: &BareMachine<A>,
-    after: &Machine<A>,
-)
-    ensures { (load : MachineState) → StandsFor before.now load
-        → Prints W.contents text.old text.new
-        (flat_map deck_line (changed_sections load after.now)) }
-{
-    for place in 0..PROCESSORS {
-        let n = PpNo::at(place);
-        if has_changes(before.pp(n), after.pp(n)) {
-            print_section(text, n, before.pp(n), after.pp(n));
-        }
     }
 }

@@ -3,7 +3,7 @@ use Rattle.pp_run.specs.BareMachine.{StandsFor}
 use Rattle.pp_numbers.specs.PpNo.{processor_count}
 use Rattle.pp_ends.specs.Endings.{after_turns}
 use Rattle.pp_ends.specs.Loops.{TellLoops}
-use Rattle.pp_ends.proofs.loops.loops_in.Given as goal
+use Rattle.pp_ends.proofs.loops.find_loops.Given as goal
 
 abbrev pub invariant-loop-turn : goal.invariant-loop-turn
 invariant-loop-turn g l = record {

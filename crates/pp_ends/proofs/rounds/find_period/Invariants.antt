@@ -1,7 +1,7 @@
 use Rattle.std.proofs.Common.{ℕ, ◌+◌, ◌≤◌}
 use Rattle.pp_run.specs.BareMachine.{StandsFor}
 use Rattle.pp_ends.specs.Rounds.{AreAlikeAfter, after_rounds}
-use Rattle.pp_ends.proofs.rounds.period_from.Given as goal
+use Rattle.pp_ends.proofs.rounds.find_period.Given as goal
 
 abbrev pub invariant-loop-passed : goal.invariant-loop-passed
 invariant-loop-passed g l = record {

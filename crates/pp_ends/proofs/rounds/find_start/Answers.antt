@@ -1,14 +1,14 @@
 use Rattle.std.proofs.Common.{◌≡◌, ℕ, ◌+◌, subst, arith}
 use Rattle.pp_run.specs.BareMachine.{StandsFor}
 use Rattle.pp_ends.specs.Rounds.{after_rounds}
-use Rattle.pp_ends.proofs.rounds.start_from.Goals as goal
+use Rattle.pp_ends.proofs.rounds.find_start.Goals as goal
 
 pub loop-start-init : goal.loop-start-init
 loop-start-init g c = record {
-  early = c.requires.early;
+  early = c.in_ok-early.ensures;
   late =
       let same : c.args.period ≡ 0 + c.args.period = omega arith in
-      subst (λ (t : ℕ). StandsFor c.args.late.now (after_rounds t c.args.machine.now)) same c.requires.late;
+      subst (λ (t : ℕ). StandsFor c.in_ok-late.late (after_rounds t c.args.machine.now)) same c.in_ok-late.ensures;
   none = λ k low. absurd (omega (arith, low));
 }
 

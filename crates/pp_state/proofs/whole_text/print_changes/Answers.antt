@@ -3,15 +3,16 @@ use Rattle.std.specs.List.{flat_map}
 use Rattle.std.proofs.lemmas.List.Concat.{flat_map-append}
 use Rattle.pp_numbers.specs.Tables.{tabulate}
 use Rattle.pp_numbers.specs.PpNo.{all_processors, processor_count, processor_number}
-use Rattle.pp_text.proofs.PrintingLemmas.{prints_nothing, prints_on, walk_zero, walk_more}
+use Rattle.pp_text.proofs.PrintingLemmas.{◌▹◌, prints_nothing, prints_on, walk_zero, walk_more}
 use Rattle.pp_text.specs.TextWriter.{Prints}
 use Rattle.pp_machine.specs.MachineState.{processor_of}
 use Rattle.pp_processor.specs.Processor.{Processor}
 use Rattle.pp_deck.specs.DeckLine.{section as section_line}
 use Rattle.pp_listing.specs.ListedLine.{deck_line}
 use Rattle.pp_state.specs.Changes.{changed_lines, changed_section}
-use Rattle.pp_state.proofs.whole_text.print_memories.Goals as goal
-use Rattle.pp_state.proofs.whole_text.print_memories.Goals.{then-has_changes, else-has_changes}
+use Rattle.pp_state.specs.StateText.{changes_text}
+use Rattle.pp_state.proofs.whole_text.print_changes.Goals as goal
+use Rattle.pp_state.proofs.whole_text.print_changes.Goals.{then-has_changes, else-has_changes}
 
 pub loop-place-init : goal.loop-place-init
 loop-place-init g c = λ load stands. rw (walk_zero (changed_section load c.args.after.now) processor_number) (prints_nothing _ _)
@@ -32,5 +33,7 @@ loop-place-preserved g c = λ load stands.
     ∙ ap (flat_map deck_line) (walk_more section processor_number place))
 
 pub returns : goal.returns
-unfolding all_processors
-returns g c = λ load stands. let all : c.loop-place.place ≡ processor_count = omega arith in rw all at (c.loop-place.invariant load stands)
+unfolding all_processors changes_text
+returns g c = λ load stands.
+    let all : c.loop-place.place ≡ processor_count = omega arith in
+    (rw all at (c.loop-place.invariant load stands)) ▹ (rw (c.central.ensures load stands, c.central-2.ensures) at c.print_changed_central.ensures) ▹ c.print_channels.ensures.text

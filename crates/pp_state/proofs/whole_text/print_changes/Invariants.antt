@@ -6,7 +6,7 @@ use Rattle.pp_machine.specs.MachineState.{MachineState}
 use Rattle.pp_run.specs.BareMachine.{StandsFor}
 use Rattle.pp_listing.specs.ListedLine.{deck_line}
 use Rattle.pp_state.specs.Changes.{changed_section}
-use Rattle.pp_state.proofs.whole_text.print_memories.Given as goal
+use Rattle.pp_state.proofs.whole_text.print_changes.Given as goal
 
 abbrev pub invariant-loop-place : goal.invariant-loop-place
 invariant-loop-place g l = (load : MachineState) → StandsFor l.before load
