@@ -31,26 +31,22 @@ pub(crate) fn asks_for_more<V: Values>(kind: CommandKind, values: &V) -> bool
 fn work_of<V: Values>(kind: CommandKind, values: &V) -> Option<Work>
     ensures { Finds (IsWorkOf kind (V.value values.now)) result }
 {
+    if let CommandKind::Check = kind {
+        let opened = channels_of(values, "opened")?.unwrap_or([false; CHANNELS]);
+        return Some(Work::Check { opened });
+    }
+    let profile = profile_of(values)?;
     match kind {
         CommandKind::Threads => {
-            let profile = profile_of(values)?;
             let limits = limits_of(number_of(values, "steps")?, number_of(values, "patience")?)?;
             Some(Work::Threads { profile, limits })
         }
-        CommandKind::Lint => Some(Work::Lint {
-            profile: profile_of(values)?,
-        }),
+        CommandKind::Lint => Some(Work::Lint { profile }),
         CommandKind::Test => {
-            let profile = profile_of(values)?;
             let tested = tested_of(values)?;
             Some(Work::Test { profile, tested })
         }
-        CommandKind::Check => {
-            let opened = channels_of(values, "opened")?.unwrap_or([false; CHANNELS]);
-            Some(Work::Check { opened })
-        }
         _ => {
-            let profile = profile_of(values)?;
             let text = text_of(kind, values, profile)?;
             Some(Work::Deck { profile, text })
         }
@@ -107,16 +103,11 @@ pub(crate) fn asked_of<V: Values, A: Allocator>(
     ensures none { IfOk result (λ found. IfNone found ((work : Work) (first : List ℕ)
         (until : Option Until) → ¬ IsAskedOf kind (V.value values.now) work first until)) }
 {
-    let Some(work) = work_of(kind, values) else {
+    let (Some(work), Some(until)) = (work_of(kind, values), until_of(values)) else {
         return Ok(None);
     };
-    let Some(first) = order_of(alloc, values)? else {
-        return Ok(None);
-    };
-    let Some(until) = until_of(values) else {
-        return Ok(None);
-    };
-    Ok(Some(Asked { work, first, until }))
+    let first = order_of(alloc, values)?;
+    Ok(first.map(|first| Asked { work, first, until }))
 }
 
 /// The file to read, if the word for it names one.

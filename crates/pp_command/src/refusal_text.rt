@@ -159,26 +159,24 @@ fn push_unknown_command<A: Allocator + Copy>(
 
 /// Says that the program takes no such option before a command, and which one is like it; returns
 /// the one for the usage to name.
-fn push_unknown_request<A: Allocator + Copy>(
+fn push_unknown_request<'a, A: Allocator + Copy>(
     alloc: A,
     text: &mut String<A>,
-    word: &str,
+    word: &'a str,
     words: &[&str],
-) -> Result<Option<&'static str>, AllocError> {
+) -> Result<Option<&'a str>, AllocError> {
     let Some((name, value)) = long_of(word) else {
         let letter = word.chars().nth(1).unwrap_or('-');
         write!(text, "unexpected argument '-{letter}' found")?;
         return Ok(None);
     };
-    for request in ["help", "version"] {
-        if name == request {
-            let value = value.unwrap_or("");
-            write!(
-                text,
-                "unexpected value '{value}' for '--{name}' found; no more were expected"
-            )?;
-            return Ok(Some(request));
-        }
+    if name == "help" || name == "version" {
+        let value = value.unwrap_or("");
+        write!(
+            text,
+            "unexpected value '{value}' for '--{name}' found; no more were expected"
+        )?;
+        return Ok(Some(name));
     }
     write!(text, "unexpected argument '--{name}' found")?;
     if let Some(similar) = similar_option(alloc, name, &[], &["help", "version"])? {

@@ -52,9 +52,10 @@ pub(crate) fn push_usage<A: Allocator>(
             _ => {}
         }
     }
-    text.push_str(if used.contains(&"file") {
-        " <FILE>"
+    let file = if used.contains(&"file") {
+        "<FILE>"
     } else {
-        " [FILE]"
-    })
+        "[FILE]"
+    };
+    write!(text, " {file}")
 }
