@@ -2,8 +2,11 @@
 //! rounds that are quiet are made processor by processor, and processors at rest are passed over.
 
 ghost use Rattle.std.specs.Prelude.{◌≡◌, ◌*◌, ◌<◌, ◌≤◌, length, IfErr, OnOk};
-ghost use Rattle.pp_numbers.specs.PpNo.{processor_count};
-ghost use Rattle.pp_machine.specs.Rounds.{RestBetween, PassesOverRest};
+ghost use Rattle.pp_numbers.specs.{PpNo.processor_count, Profile.processors_in};
+ghost use Rattle.pp_numbers.specs.declared.profile.Profile.{Profile};
+ghost use Rattle.pp_machine.specs.{Headline.HoldsOnEachChannel, MachineState.MachineState};
+ghost use Rattle.pp_machine.specs.Rounds.{IsCut, PassesOverRest, RestBetween, whole_rounds};
+ghost use Rattle.pp_machine.specs.Run.{IsCutAtEvent, IsRunOf, run, barrel};
 
 use crate::quiet::run_ahead;
 use crate::{Cut, Machine, Pp};
@@ -16,8 +19,7 @@ const SHORTEST_WINDOW: u32 = 64;
 
 const LONGEST_WINDOW: u32 = 8192;
 
-/// The number of rounds after which the barrel looks again which processors are at rest (decimal):
-/// a look costs as much as several turns.
+/// Rounds (decimal) until the barrel looks again who is at rest: a look costs several turns.
 const LOOK_AFTER: u32 = 512;
 
 /// The fewest and the most rounds turn by turn after a window failed (decimal): twice as many each
@@ -29,13 +31,6 @@ const LONGEST_PAUSE: u32 = 8192;
 const LONG_QUIET: u32 = 2048;
 
 impl<A: Allocator> Machine<A> {
-    ghost use Rattle.pp_machine.specs.Headline.{HoldsOnEachChannel};
-    ghost use Rattle.pp_numbers.specs.Profile.{processors_in};
-    ghost use Rattle.pp_machine.specs.Rounds.{whole_rounds, IsCut};
-    ghost use Rattle.pp_numbers.specs.declared.profile.Profile.{Profile};
-    ghost use Rattle.pp_machine.specs.MachineState.{MachineState};
-    ghost use Rattle.pp_machine.specs.Run.{IsCutAtEvent, IsRunOf, run, barrel};
-
     /// Runs `turns` turns of the barrel from its first processor on, in rounds of ten or of twenty
     /// by its profile. Processors at rest are passed over.
     pub fn run_barrel(&mut self, turns: u32) -> Result<(), Cut>
@@ -102,28 +97,21 @@ impl<A: Allocator> Machine<A> {
         Ok(())
     }
 
-    /// Makes at most `most` whole rounds of the barrel, while they are quiet; returns their number.
+    /// Makes at most `max` whole rounds of the barrel, while they are quiet; returns their number.
     #[inline(never)]
-    fn run_quiet_rounds(&mut self, most: u32) -> u32
-        ensures most { result ≤ most }
+    fn run_quiet_rounds(&mut self, max: u32) -> u32
+        ensures most { result ≤ max }
         ensures ran { self.new ≡ run (whole_rounds self.old.profile result) self.old }
         ensures headline { HoldsOnEachChannel self.new }
     {
         let turns = self.turns;
         let round = self.round();
-        let rounds = run_ahead(
-            &mut self.processors,
-            &self.channels,
-            round as usize,
-            0,
-            most,
-        );
+        let rounds = run_ahead(&mut self.processors, &self.channels, round as usize, 0, max);
         self.turns = turns.saturating_add(u64::from(rounds) * u64::from(round));
         rounds
     }
 
     /// Makes `rounds` whole rounds of the barrel, turn by turn; processors at rest are passed over.
-    /// If memory is refused, returns how many steps were done.
     #[inline(never)]
     fn run_by_turns(&mut self, rounds: u32) -> Result<(), u64>
         requires { HoldsOnEachChannel self.old }
@@ -145,8 +133,7 @@ impl<A: Allocator> Machine<A> {
         Ok(())
     }
 
-    /// Makes `rounds` whole rounds of the barrel, or the first `turns` turns of one, past the
-    /// processors at rest that `next` gives. If memory is refused, returns how many steps it made.
+    /// Makes whole rounds of the barrel, or the first turns of one, past those that `next` skips.
     #[inline(never)]
     fn run_passing(
         &mut self,
@@ -171,8 +158,7 @@ impl<A: Allocator> Machine<A> {
         Ok(())
     }
 
-    /// Makes the first `turns` turns of a round of the barrel, and passes over the processors at
-    /// rest that `next` gives. If memory is refused, returns how many steps were done.
+    /// Makes the first `turns` turns of a round, past the processors at rest that `next` gives.
     #[tactic(auto, using(crate::proofs::RoundLemmas::rest_to))]
     fn run_round(&mut self, turns: usize, next: &[usize; PROCESSORS + 1]) -> Result<(), usize>
         requires round { turns ≤ processors_in self.old.profile }

@@ -1,5 +1,7 @@
-ghost use Rattle.std.specs.Prelude.{◌≡◌, ◌≢◌, ◌<◌, ◌↔◌, IsNone, IsSome, length, replicate, slice_set, IsTrue, IsErrOf, IfOk, OnOk, slice_get};
+ghost use Rattle.std.specs.Prelude.{◌≡◌, ◌≢◌, ◌<◌, ◌↔◌, ℕ, List, IsNone, IsSome, length, replicate, slice_set, IsTrue, IsErrOf, IfOk, OnOk, slice_get};
 ghost use Rattle.std.specs.Bool.{OnFalse};
+ghost use Rattle.pp_machine.specs.Central.{IsCentral, IsCentralSize};
+ghost use Rattle.pp_machine.specs.declared.central.CentralFault.{CentralFault};
 
 use pp_word::{MOST_CENTRAL_WORDS, Word18, Word60};
 use std::alloc::{AllocError, AllocFailed, Allocator};
@@ -18,10 +20,7 @@ pub enum CentralFault {
 }
 
 impl From<AllocError> for CentralFault {
-    ghost use Rattle.std.specs.Prelude.{◌≡◌};
-    ghost use Rattle.pp_machine.specs.declared.central.CentralFault.TheVariants.{Memory};
-
-    ghost from_gives = { λ _ fault. fault ≡ Memory };
+    ghost from_gives = { λ _ fault. fault ≡ CentralFault.Memory };
 
     fn from(_error: AllocError) -> CentralFault {
         CentralFault::Memory
@@ -29,10 +28,7 @@ impl From<AllocError> for CentralFault {
 }
 
 impl<T: Drop> From<AllocFailed<T>> for CentralFault {
-    ghost use Rattle.std.specs.Prelude.{◌≡◌};
-    ghost use Rattle.pp_machine.specs.declared.central.CentralFault.TheVariants.{Memory};
-
-    ghost from_gives = { λ _ fault. fault ≡ Memory };
+    ghost from_gives = { λ _ fault. fault ≡ CentralFault.Memory };
 
     fn from(_error: AllocFailed<T>) -> CentralFault {
         CentralFault::Memory
@@ -46,9 +42,6 @@ pub struct Central<A: Allocator> {
 }
 
 impl<A: Allocator> Model for Central<A> {
-    ghost use Rattle.std.specs.Prelude.{ℕ, List};
-    ghost use Rattle.pp_machine.specs.Central.{IsCentral};
-
     ghost Value = { List ℕ };
 
     ghost view = { λ c. c.words.items };
@@ -57,8 +50,6 @@ impl<A: Allocator> Model for Central<A> {
 }
 
 impl<A: Allocator> Central<A> {
-    ghost use Rattle.pp_machine.specs.Central.{IsCentral, IsCentralSize};
-
     /// Central memory of `size` words, all 0.
     pub fn new(alloc: A, size: u32) -> Result<Self, CentralFault>
         ensures zeros { IfOk result (λ c. c ≡ replicate size 0) }

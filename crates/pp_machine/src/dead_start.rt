@@ -1,8 +1,9 @@
-//! Dead start: processors that wait for their programs on channels of their own.
-
 ghost use Rattle.std.specs.Prelude.{◌≡◌, ◌≤◌, [], ◌∷◌, take, IsTrue, OnOk, OnErr};
 ghost use Rattle.pp_channel.specs.declared.event.Event.TheVariants.{Activate};
 ghost use Rattle.pp_numbers.specs.PpNo.{processor_count, names_processor};
+ghost use Rattle.pp_machine.specs.DeadStart.{IsBeforeFirstTurn, WaitsWithin, dead_started, with_waiting};
+ghost use Rattle.pp_machine.specs.Headline.{HoldsOnEachChannel};
+ghost use Rattle.pp_machine.specs.MachineState.{history_of, is_opened};
 
 use crate::Machine;
 use pp_channel::{ChanOp, Channel, ChannelNo, Memory};
@@ -10,10 +11,6 @@ use pp_numbers::{PROCESSORS, PpNo};
 use std::alloc::Allocator;
 
 impl<A: Allocator> Machine<A> {
-    ghost use Rattle.pp_machine.specs.DeadStart.{IsBeforeFirstTurn, WaitsWithin, dead_started, with_waiting};
-    ghost use Rattle.pp_machine.specs.Headline.{HoldsOnEachChannel};
-    ghost use Rattle.pp_machine.specs.MachineState.{history_of, is_opened};
-
     /// Whether dead start opened the channel.
     pub fn opened(&self, ch: ChannelNo) -> bool
         ensures { result ≡ is_opened ch self.now }
@@ -80,7 +77,6 @@ impl<A: Allocator> Machine<A> {
     }
 }
 
-/// The channel of the processor's own number.
 #[tactic(auto, using(pp_numbers::proofs::PpNoLemmas::channel_of_processor))]
 fn own_channel(n: PpNo) -> ChannelNo
     ensures value { result ≡ n }

@@ -1,11 +1,12 @@
 ghost use Rattle.std.specs.Prelude.{◌≡◌, ◌<◌, ℕ, ◌++◌, [], length, replicate, slice_index_or, slice_set, IfOk, OnOk, IsErrOf, IsTrue, ◌↔◌, vec_len};
 ghost use Rattle.std.specs.Bool.{OnFalse};
 ghost use Rattle.pp_numbers.specs.ChannelNo.{channel_count, channel_index, names_channel};
-ghost use Rattle.pp_channel.specs.History.{IsLawful};
-ghost use Rattle.pp_channel.specs.Law.{KeepsLaw};
-ghost use Rattle.pp_machine.specs.Headline.{HoldsOnChannel};
 ghost use Rattle.pp_numbers.specs.PpNo.{processor_count};
+ghost use Rattle.pp_channel.specs.{History.IsLawful, Law.KeepsLaw};
 ghost use Rattle.pp_processor.specs.Processor.{new_processor};
+ghost use Rattle.pp_machine.specs.Central.{IsCentralSize};
+ghost use Rattle.pp_machine.specs.Headline.{HoldsOnChannel, IsMachine, events_on, opening_history};
+ghost use Rattle.pp_machine.specs.MachineState.{MachineState, history_of, new_machine, processor_of};
 
 use crate::{Central, CentralFault, Pp, Trace};
 use pp_channel::{CHANNELS, Channel, ChannelNo, Memory};
@@ -27,9 +28,6 @@ pub struct Machine<A: Allocator> {
 }
 
 impl<A: Allocator> Model for Machine<A> {
-    ghost use Rattle.pp_machine.specs.MachineState.{MachineState};
-    ghost use Rattle.pp_machine.specs.Headline.{IsMachine};
-
     ghost Value = { MachineState };
 
     ghost view = { λ m. record {
@@ -56,9 +54,6 @@ impl<A: Allocator> Model for Machine<A> {
 impl<A: Allocator> Machine<A> {
     ghost use Rattle.std.specs.Borrow.{sem};
     ghost use Rattle.pp_machine.specs.Lending.{LendsProcessor};
-    ghost use Rattle.pp_machine.specs.Central.{IsCentralSize};
-    ghost use Rattle.pp_machine.specs.Headline.{events_on, opening_history, IsMachine};
-    ghost use Rattle.pp_machine.specs.MachineState.{history_of, new_machine, processor_of};
 
     /// A machine of this profile, with central memory of `size` words, all 0: its processors as
     /// `Pp::new(profile)`, its channels without history, no turn counted. Processors and channels
@@ -175,7 +170,6 @@ impl<A: Allocator> Machine<A> {
     }
 }
 
-/// Processors at rest, in the order of the barrel.
 fn new_processors<A: Allocator>(alloc: A, profile: Profile) -> Result<Vec<Pp, A>, AllocError>
     ensures { IfOk result (λ v. v.items ≡ replicate processor_count (new_processor profile)) }
 {
@@ -186,7 +180,6 @@ fn new_processors<A: Allocator>(alloc: A, profile: Profile) -> Result<Vec<Pp, A>
     Ok(processors)
 }
 
-/// Channels on which nothing has happened.
 fn new_channels<A: Allocator + Copy>(alloc: A) -> Result<Vec<Channel<A>, A>, AllocError>
     ensures items { IfOk result (λ v. v.items ≡ replicate channel_count []) }
     ensures headline { IfOk result (λ v. (k : ℕ) → k < channel_count

@@ -1,10 +1,9 @@
 //! Rounds of the barrel in which each step is quiet: it makes no event and uses no central word.
 
 ghost use Rattle.std.specs.Prelude.{◌≡◌, ◌-◌, ◌<◌, ◌≤◌, false, length, vec_len};
-ghost use Rattle.pp_numbers.specs.ChannelNo.{channel_count};
+ghost use Rattle.pp_numbers.specs.{ChannelNo.channel_count, PpNo.processor_count};
 ghost use Rattle.pp_machine.specs.MachineState.{MachineState};
 ghost use Rattle.pp_processor.specs.NeedAndEffect.{need};
-ghost use Rattle.pp_numbers.specs.PpNo.{processor_count};
 ghost use Rattle.pp_machine.specs.Quiet.{is_quiet, IsAhead, AreAhead};
 
 use crate::{Answer, Need, Outcome, Pp};

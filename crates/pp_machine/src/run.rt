@@ -1,7 +1,6 @@
 ghost use Rattle.std.specs.Prelude.{◌≡◌, ℕ, List, length, IfErr};
 ghost use Rattle.pp_numbers.specs.ChannelNo.{channel_count};
-ghost use Rattle.pp_machine.specs.Headline.{HoldsOnEachChannel};
-ghost use Rattle.pp_machine.specs.MachineState.{MachineState};
+ghost use Rattle.pp_machine.specs.{Headline.HoldsOnEachChannel, MachineState.MachineState};
 ghost use Rattle.pp_machine.specs.Run.{IsCutAtEvent, IsRunOf, run, run_order};
 
 use crate::{Cut, Machine};

@@ -1,8 +1,10 @@
 ghost use Rattle.std.specs.Prelude.{◌≡◌, if◌then◌else◌, IfOk, IsOk, IsNone, OnOk, OnErr};
-ghost use Rattle.pp_processor.specs.NextStep.{IsAtInstruction, IsNext};
-ghost use Rattle.pp_processor.specs.NeedAndEffect.{need};
 ghost use Rattle.pp_numbers.specs.Profile.{has_channel};
+ghost use Rattle.pp_processor.specs.NeedAndEffect.{need};
+ghost use Rattle.pp_processor.specs.NextStep.{IsAtInstruction, IsNext};
 ghost use Rattle.pp_processor.specs.Processor.{IsAtRest, IsAtFault, KeepsMemoryAndRegisters};
+ghost use Rattle.pp_machine.specs.{Headline.HoldsOnEachChannel, MachineState.processor_of};
+ghost use Rattle.pp_machine.specs.MachineStep.{IsStep, answer_to, counted, event_for, served, stepped, step_outcome};
 
 use crate::{Answer, Machine, Need, Outcome, PpState, Trace};
 use pp_channel::{ChanOp, ChannelNo, Memory, Reply};
@@ -11,10 +13,6 @@ use pp_word::{Opcode, Word6};
 use std::alloc::Allocator;
 
 impl<A: Allocator> Machine<A> {
-    ghost use Rattle.pp_machine.specs.Headline.{HoldsOnEachChannel};
-    ghost use Rattle.pp_machine.specs.MachineState.{processor_of};
-    ghost use Rattle.pp_machine.specs.MachineStep.{IsStep, answer_to, counted, event_for, served, stepped, step_outcome};
-
     /// One step of a processor; a step that makes no event takes no memory.
     #[tactic(auto, using(crate::proofs::MachineStepLemmas::steps))]
     pub fn step(&mut self, n: PpNo) -> Result<Outcome, Memory>
@@ -37,9 +35,8 @@ impl<A: Allocator> Machine<A> {
         self.step_external(n, &next, d)
     }
 
-    /// One step of a processor in the barrel, as `step` makes it, but that what needs nothing from
-    /// outside, and a test of flags, is tried first. The barrel has the only call, so that it is
-    /// compiled in place.
+    /// One step in the barrel, as `step` makes it, but what needs nothing from outside, and a test
+    /// of flags, is tried first. The barrel has the only call, so that it is compiled in place.
     #[tactic(auto, using(crate::proofs::MachineStepLemmas::steps_at_rest))]
     pub(crate) fn step_in_barrel(&mut self, n: PpNo) -> Result<Outcome, Memory>
         ensures step { IsStep n result self.old self.new }
