@@ -1,5 +1,3 @@
-//! A machine without its record.
-
 ghost use Rattle.std.specs.Prelude.{◌≡◌, vec_len};
 ghost use Rattle.pp_numbers.specs.PpNo.{processor_count};
 

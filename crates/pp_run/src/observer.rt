@@ -1,5 +1,4 @@
-ghost use Rattle.std.specs.Prelude.{ℕ, ⊤, ◌+◌, ◌<◌, ◌^◌, List, [], ◌∷◌, ◌++◌, length, OnErr, OnOk};
-ghost use Rattle.pp_machine.specs.MachineState.{MachineState};
+ghost use Rattle.std.specs.Prelude.{⊤, ◌+◌, ◌<◌, ◌^◌, List, [], ◌∷◌, ◌++◌, length, OnErr, OnOk};
 ghost use Rattle.pp_run.specs.RunSteps.{IsMade, RunStep};
 
 use pp_channel::Memory;

@@ -1,4 +1,4 @@
-ghost use Rattle.std.specs.Prelude.{◌≡◌, ◌<◌, ◌^◌, length, IfOk};
+ghost use Rattle.std.specs.Prelude.{◌≡◌, ◌<◌, ◌^◌, ℕ, List, length, IfOk};
 ghost use Rattle.pp_machine.specs.Run.{run_order};
 ghost use Rattle.pp_numbers.specs.PpNo.{processor_count, processor_index};
 ghost use Rattle.pp_numbers.specs.Profile.{processor_in_turn};
@@ -15,8 +15,6 @@ pub struct Order<A: Allocator> {
 }
 
 impl<A: Allocator> Model for Order<A> {
-    ghost use Rattle.std.specs.Prelude.{List, ℕ, ◌<◌, ◌^◌, length};
-
     ghost Value = { List ℕ };
 
     ghost view = { λ o. o.processors.items };

@@ -1,5 +1,3 @@
-//! Runs that count what their steps did.
-
 ghost use Rattle.std.specs.Prelude.{◌≡◌, ◌+◌, ◌<◌, ◌^◌, ◌++◌, ◌∷◌, [], List, length, IfErr, IfOk};
 ghost use Rattle.pp_machine.specs.Run.{IsCutAtEvent, IsRunOf};
 ghost use Rattle.pp_processor.specs.declared.outcome.Outcome.{Outcome};
@@ -44,9 +42,8 @@ impl StepCounts {
     }
 }
 
-/// Makes the steps of an order, as `Machine::run_turns` does, and says of each processor, in the
-/// order of the barrel, how many of its steps moved it, were held, and found it at rest, and how
-/// many of the last were held.
+/// Makes the steps of an order, as `Machine::run_turns` does, and counts those of each processor,
+/// in the order of the barrel.
 #[tactic(auto, unfolding(pp_numbers::specs::Tables::tabulate))]
 pub fn run_counting_steps<A: Allocator, B: Allocator>(
     machine: &mut Machine<A>,
@@ -62,7 +59,6 @@ pub fn run_counting_steps<A: Allocator, B: Allocator>(
     Ok(counts.0)
 }
 
-/// The counts of each processor.
 #[derive(Drop)]
 struct EachStepCounts([StepCounts; PROCESSORS]);
 
