@@ -1,5 +1,3 @@
-//! How channels and processors stand, from a turn on; and how that is shown.
-
 ghost use Rattle.std.specs.Prelude.{◌≡◌, ◌≤◌, length};
 ghost use Rattle.pp_text.specs.Piece.{piece_length};
 ghost use Rattle.pp_draw.specs.Condition.{face_of, continues};

@@ -1,16 +1,10 @@
-//! The drawing of a run: its rows of lanes, channels before processors, in a frame.
-
 ghost use Rattle.std.specs.Prelude.{◌≡◌, ◌+◌, ◌++◌, ◌≤◌, ℕ, List};
 ghost use Rattle.std.specs.List.{cons_option};
-ghost use Rattle.pp_numbers.specs.ChannelNo.{channel_count};
-ghost use Rattle.pp_numbers.specs.PpNo.{processor_count, processor_number};
-ghost use Rattle.pp_text.specs.PrintedText.{each_below};
-ghost use Rattle.pp_text.specs.TextWriter.{Prints};
-ghost use Rattle.pp_text.specs.Written.{IsWritten};
-ghost use Rattle.pp_draw.specs.Condition.{phase_for};
+ghost use Rattle.pp_numbers.specs.{ChannelNo.channel_count, PpNo.processor_count};
+ghost use Rattle.pp_text.specs.{TextWriter.Prints, Written.IsWritten};
+ghost use Rattle.pp_draw.specs.{Condition.phase_for, declared.condition.Phase.Phase};
 ghost use Rattle.pp_draw.specs.DrawingText.{channel_lane, drawing, is_used, lanes_above, processor_lane, used_among};
 ghost use Rattle.pp_draw.specs.Lane.{still_drawn};
-ghost use Rattle.pp_draw.specs.declared.condition.Phase.{Phase};
 
 use crate::frame::{
     band_width, print_foot, print_head, print_legend, print_style, print_text_tag, print_ticks,
@@ -26,8 +20,8 @@ use pp_text::{
 use std::alloc::Allocator;
 use std::io::Write;
 
-/// Writes an SVG of the turns of a window: a lane for each channel that a machine used, and one for
-/// each processor shown, by its steps in the window; and flushes the writer. The machine is as
+/// Writes an SVG of the turns of a window: a lane for each channel that a machine used, then one
+/// for each processor shown, by its steps in the window; and flushes the writer. The machine is as
 /// after the last turn of the window. The text goes out in pieces, and takes no memory. Where the
 /// writer fails, the rest of the text is lost.
 pub fn write_drawing<A: Allocator, B: Allocator, W: Write>(
@@ -49,26 +43,11 @@ pub fn write_drawing<A: Allocator, B: Allocator, W: Write>(
     for place in 0..CHANNELS {
         print_channel_lane(&mut text, window, machine, ChannelNo::at(place));
     }
-    print_processor_lanes(&mut text, window, shown, machine, steps);
+    for place in 0..PROCESSORS {
+        print_processor_lane(&mut text, window, shown, machine, steps, PpNo::at(place));
+    }
     print_foot(&mut text, rows);
     text.finish()
-}
-
-/// Prints the lanes of the processors shown.
-fn print_processor_lanes<A: Allocator, B: Allocator, W: Write>(
-    text: &mut TextWriter<W>,
-    window: Window,
-    shown: &[bool; PROCESSORS],
-    machine: &Machine<A>,
-    steps: &SeenSteps<B>,
-)
-    ensures { Prints W.contents text.old text.new (each_below processor_count
-        (λ place. processor_lane window shown.now machine.now steps.now.earlier
-        steps.now.shown.items (processor_number place))) }
-{
-    for place in 0..PROCESSORS {
-        print_processor_lane(text, window, shown, machine, steps, PpNo::at(place));
-    }
 }
 
 /// Whether something has happened on a channel.

@@ -1,5 +1,3 @@
-//! A lane that is printed phase by phase, and what is drawn of a phase.
-
 ghost use Rattle.std.specs.Prelude.{◌≡◌, ◌<◌, ◌^◌, ◌++◌, [], ◌∷◌, ℕ, List, None};
 ghost use Rattle.pp_text.specs.TextWriter.{Prints};
 ghost use Rattle.pp_draw.specs.Lane.{band_element, free_after, lane_head, part_class, part_elements, part_of, still_drawn};

@@ -1,5 +1,3 @@
-//! Runs that see how each step found its processor.
-
 ghost use Rattle.std.specs.Prelude.{◌≡◌, map, IfErr, IfOk, IsTrue};
 ghost use Rattle.std.specs.List.{filter};
 ghost use Rattle.pp_machine.specs.Run.{IsRunOf};
@@ -58,10 +56,8 @@ pub fn run_seeing_steps<A: Allocator, B: Allocator>(
         shown: Vec::new(alloc),
     };
     run_observed(machine, order, &mut seen)?;
-    Ok(SeenSteps {
-        earlier: seen.earlier,
-        shown: seen.shown,
-    })
+    let InWindow { earlier, shown, .. } = seen;
+    Ok(SeenSteps { earlier, shown })
 }
 
 /// The steps that are drawn in a window.

@@ -1,5 +1,3 @@
-//! The lines of stretches and of processors.
-
 ghost use Rattle.std.specs.Prelude.{slice_index_or};
 ghost use Rattle.pp_numbers.specs.PpNo.{processor_index};
 ghost use Rattle.pp_run.specs.StepCounts.{no_steps};
@@ -25,12 +23,13 @@ pub(crate) fn print_session<W: Write>(
 )
     ensures { Prints W.contents text.old text.new (session_line c number session.now) }
 {
+    let has_ended = session.has_ended;
     text.print(&channel_name(c));
     text.print(b" SESSION ");
     print_short_decimal(text, number);
     text.print(b" FROM ");
     print_moment(text, session.from);
-    if session.has_ended {
+    if has_ended {
         text.print(b" TO ");
         print_moment(text, session.to);
     } else {
@@ -41,11 +40,7 @@ pub(crate) fn print_session<W: Write>(
     text.print(b" TAKEN ");
     print_short_decimal(text, session.taken);
     if let Some(word) = session.untaken {
-        text.print(if session.has_ended {
-            b" LOST "
-        } else {
-            b" WAITING "
-        });
+        text.print(if has_ended { b" LOST " } else { b" WAITING " });
         text.print(&octal4(word.get()));
     }
     text.print(b"\n");

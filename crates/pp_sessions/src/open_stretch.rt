@@ -1,10 +1,7 @@
-//! The stretch of a channel that is not over yet.
-
 ghost use Rattle.std.specs.Prelude.{◌≡◌, ◌+◌, ◌≤◌, ◌^◌, ◌∷◌, ◌++◌, [], ℕ, Bool, List, length};
 ghost use Rattle.pp_text.specs.TextWriter.{Prints};
 ghost use Rattle.pp_sessions.specs.OpenStretch.{HasAtMost, TakesIn, open_at};
-ghost use Rattle.pp_sessions.specs.SessionsText.{line_and_words};
-ghost use Rattle.pp_sessions.specs.Stretches.{words_in};
+ghost use Rattle.pp_sessions.specs.{SessionsText.line_and_words, Stretches.words_in};
 ghost use Rattle.pp_sessions.specs.TimedEvents.{opening_events, timed_on};
 ghost use Rattle.pp_machine.specs.declared.trace.Trace.{Trace};
 
@@ -17,8 +14,8 @@ use pp_text::TextWriter;
 use std::alloc::Allocator;
 use std::io::Write;
 
-/// What the line of the stretch will say, if any event has come; and the number of the next
-/// session, which it is itself if it is one.
+/// What the line of the stretch that is not over yet will say, if any event has come; and the
+/// number of the next session, which it is itself if it is one.
 #[derive(Clone, Copy)]
 pub(crate) struct OpenStretch {
     pub(crate) number: u64,

@@ -1,4 +1,3 @@
-ghost use Rattle.pp_text.specs.TextWriter.{Prints};
 ghost use Rattle.pp_text.specs.Written.{IsWritten};
 ghost use Rattle.pp_sessions.specs.SessionsText.{channel_lines, sessions_text};
 
@@ -48,30 +47,19 @@ impl<'a, A: Allocator, W: Write> Lines<ChannelNo, W> for StretchLines<'a, A> {
     ghost text_of = { λ lines. channel_lines lines.with_words lines.machine.now };
 
     fn print(&self, text: &mut TextWriter<W>, c: &ChannelNo) {
-        print_channel(text, self.with_words, self.machine, *c);
-    }
-}
-
-/// Prints a line for each stretch of a channel.
-fn print_channel<A: Allocator, W: Write>(
-    text: &mut TextWriter<W>,
-    with_words: bool,
-    machine: &Machine<A>,
-    c: ChannelNo,
-)
-    ensures { Prints W.contents text.old text.new (channel_lines with_words machine.now c) }
-{
-    if machine.channel(c).history().is_empty() {
-        return;
-    }
-    let mut current = OpenStretch::opening(machine, c);
-    let entries = machine.events();
-    for index in 0..entries.len() {
-        let past = &entries[..index];
-        take_in_entry(text, c, with_words, &mut current, past, &entries[index]);
-    }
-    if let Some(last) = &current.tally {
-        let entries = &entries[current.start..];
-        print_stretch(text, c, with_words, current.number, last, entries);
+        if self.machine.channel(*c).history().is_empty() {
+            return;
+        }
+        let mut current = OpenStretch::opening(self.machine, *c);
+        let entries = self.machine.events();
+        for index in 0..entries.len() {
+            let past = &entries[..index];
+            let entry = &entries[index];
+            take_in_entry(text, *c, self.with_words, &mut current, past, entry);
+        }
+        if let Some(last) = &current.tally {
+            let entries = &entries[current.start..];
+            print_stretch(text, *c, self.with_words, current.number, last, entries);
+        }
     }
 }

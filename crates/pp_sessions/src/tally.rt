@@ -1,8 +1,6 @@
-//! What a line says of a stretch.
-
 ghost use Rattle.std.specs.Prelude.{◌≡◌, ◌+◌, ◌^◌, ◌||◌, [], ℕ};
 ghost use Rattle.pp_sessions.specs.OpenStretch.{CountsAtMost, with_event};
-ghost use Rattle.pp_sessions.specs.Stretches.{begins_session, ends_session, tally_of};
+ghost use Rattle.pp_sessions.specs.Stretches.{begins_session, tally_of};
 
 use pp_channel::Event;
 use pp_word::Word12;
@@ -69,7 +67,7 @@ impl Tally {
             Event::Activate | Event::Disconnect | Event::Function(_) => (0, 0, self.untaken),
         };
         Tally {
-            has_ended: ends_session(&event.event),
+            has_ended: matches!(event.event, Event::Disconnect),
             to: event.moment,
             events: self.events + 1,
             put: self.put + put,
@@ -91,10 +89,4 @@ fn begins_session(event: &Event) -> bool
     ensures { result ≡ begins_session event.now }
 {
     matches!(event, Event::Activate)
-}
-
-fn ends_session(event: &Event) -> bool
-    ensures { result ≡ ends_session event.now }
-{
-    matches!(event, Event::Disconnect)
 }

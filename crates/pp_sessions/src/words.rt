@@ -1,8 +1,7 @@
 ghost use Rattle.std.specs.Prelude.{◌≡◌, ◌<◌, ◌++◌, [], ◌∷◌, ℕ, List};
 ghost use Rattle.pp_text.specs.TextWriter.{Prints};
 ghost use Rattle.pp_sessions.specs.SessionsText.{one_word, words_from};
-ghost use Rattle.pp_sessions.specs.Stretches.{words_in};
-ghost use Rattle.pp_sessions.specs.TimedEvents.{timed_on};
+ghost use Rattle.pp_sessions.specs.{Stretches.words_in, TimedEvents.timed_on};
 
 use pp_channel::{ChannelNo, Event};
 use pp_machine::Trace;
