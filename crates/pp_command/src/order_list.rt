@@ -67,8 +67,9 @@ fn item_of(profile: Profile, text: &[u8]) -> Option<Item>
 }
 
 /// So many steps of the processor with this number, if there is one.
-#[tactic(auto, using(crate::proofs::OrderListLemmas::no_count, // no number, no count, or both
-crate::proofs::OrderListLemmas::count_of_none, crate::proofs::OrderListLemmas::counted), unfolding(crate::specs::NumberList::numbered))]
+#[tactic(auto, unfolding(crate::specs::NumberList::numbered), // its processor
+using(crate::proofs::OrderListLemmas::no_count, // no number, no count, or both
+crate::proofs::OrderListLemmas::count_of_none, crate::proofs::OrderListLemmas::counted))]
 fn item_by(profile: Profile, number: &[u8], steps: Option<u64>) -> Option<Item>
     ensures { option_map (λ item. replicate item.steps item.processor) result
         ≡ steps_of (numbered (has_processor profile) number.now) steps }

@@ -25,15 +25,7 @@ pub(crate) fn command_refusal<'a, A: Allocator + Copy>(
     let mut used = used_options(alloc, given, why, words, place)?;
     let mut text = String::from_str(alloc, "error: ")?;
     match why {
-        Why::Unknown(name) => {
-            write!(text, "unexpected argument '--{name}' found\n\n  tip: ")?;
-            if let Some(similar) = similar_option(alloc, name, form.options, &["help"])? {
-                write!(text, "a similar argument exists: '--{similar}'")?;
-                used.push(similar)?;
-            } else {
-                write!(text, "to pass '--{name}' as a value, use '-- --{name}'")?;
-            }
-        }
+        Why::Unknown(name) => push_unknown(alloc, &mut text, form, name, &mut used)?,
         Why::UnknownLetter(letter) => write!(
             text,
             "unexpected argument '-{letter}' found\n\n  \
@@ -71,6 +63,22 @@ pub(crate) fn command_refusal<'a, A: Allocator + Copy>(
     push_usage(&mut text, form, used.as_slice())?;
     text.push_str(TRY_HELP)?;
     Ok(text)
+}
+
+/// Says that a command has no option of this name, and which one is like it.
+fn push_unknown<A: Allocator + Copy>(
+    alloc: A,
+    text: &mut String<A>,
+    form: &'static CommandForm,
+    name: &str,
+    used: &mut Vec<&'static str, A>,
+) -> Result<(), AllocError> {
+    write!(text, "unexpected argument '--{name}' found\n\n  tip: ")?;
+    let Some(similar) = similar_option(alloc, name, form.options, &["help"])? else {
+        return write!(text, "to pass '--{name}' as a value, use '-- --{name}'");
+    };
+    used.push(similar)?;
+    write!(text, "a similar argument exists: '--{similar}'")
 }
 
 /// The options that the usage names beside those that a command needs.

@@ -20,7 +20,8 @@ use std::io::Write;
 /// Makes the steps of an order, and writes those that may race with others, the processors that are
 /// not settled at the end, the central words that one processor wrote and another used, and what
 /// they come to; and flushes the writer. If nothing is found, the run determines the result of
-/// every order; if nothing but processors that go on, each of its steps so far waits or is race-free.
+/// every order of steps; if nothing but processors that go on, each of its steps so far waits or is
+/// race-free.
 ///
 /// The lines go out as they come. Memory is asked for before the first of them, for as many events
 /// as a run without histories and trace makes first: none is asked for later, as tests show. No
