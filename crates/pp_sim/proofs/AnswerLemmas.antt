@@ -14,8 +14,9 @@ use Rattle.pp_deck.specs.declared.deck_fault.DeckFault.{DeckFault}
 use Rattle.pp_text.specs.Written.{IsReportWritten, IsWritten}
 use Rattle.pp_text.specs.declared.{report_fault.ReportFault.ReportFault, write_fault.WriteFault.WriteFault}
 use Rattle.pp_text.specs.declared.report_fault.ReportFault.TheVariants as report
+use Rattle.pp_lint.specs.LintText.{lint_text}
 use Rattle.pp_sim.specs.LintAnswer.{AnswersLint, IsLint}
-use Rattle.pp_sim.specs.TextAnswer.{AnswersDeckUnless, IsAnswerUnless, answer_to, answer_to_report, IsOfDeck, IsLoadFault, NothingPrevents, most_bytes}
+use Rattle.pp_sim.specs.TextAnswer.{AnswersDeckUnless, IsAnswerUnless, IsOfDeck, IsLoadFault, NothingPrevents, fault_by, most_bytes}
 use Rattle.pp_sim.specs.TextOf.{IsTextAfter, run_of}
 use Rattle.pp_condition.specs.declared.condition.Condition.{Condition}
 use Rattle.pp_steps.specs.Choice.{chosen_steps}
@@ -24,6 +25,16 @@ use Rattle.pp_steps.specs.declared.choice.Choice.{Choice}
 use Rattle.pp_listing.specs.declared.going_on.Busy.{Busy}
 use Rattle.pp_sim.specs.declared.text_fault.TextFault.{TextFault}
 use Rattle.pp_sim.specs.declared.text_fault.TextFault.TheVariants as fault
+
+-- the answer after a text was written, or after the writer failed
+abbrev pub answer_to : Result (Unit {0}) WriteFault → Result (Unit {0}) TextFault
+answer_to (Ok done) = Ok done
+answer_to (Err cause) = Err fault.Write
+
+-- the same of the text of a report
+abbrev pub answer_to_report : Result (Unit {0}) ReportFault → Result (Unit {0}) TextFault
+answer_to_report (Ok done) = Ok done
+answer_to_report (Err cause) = Err (fault_by cause)
 
 -- a text of the deck was written, or a first part of it
 pub answers_written : (profile : Profile) (Prevents : LoadedDeck → Busy → Type 0) (IsDeckText : LoadedDeck → List ℕ → Type 0) (bytes text : List ℕ) (written : Result (Unit {0}) WriteFault) (old new : Option (List ℕ))
@@ -37,6 +48,10 @@ pub answers_reported : (profile : Profile) (IsDeckText : LoadedDeck → List ℕ
 answers_reported profile IsDeckText bytes text (Ok done) old new is whole = (text, is (λ e. cc), whole)
 answers_reported profile IsDeckText bytes text (Err report.Write) old new is front = (text, is (λ e. cc), front)
 answers_reported profile IsDeckText bytes text (Err report.Memory) old new is kept = kept
+
+pub answers_report : (profile : Profile) (IsDeckText : LoadedDeck → List ℕ → Type 0) (bytes text : List ℕ) (written : Result (Unit {0}) ReportFault) (answer : Result (Unit {0}) TextFault) (old new : Option (List ℕ))
+    → answer ≡ answer_to_report written → (written ≢ Err report.Memory → IsOfDeck profile IsDeckText bytes text) → IsReportWritten text written old new → IsAnswerUnless profile NothingPrevents IsDeckText answer bytes old new
+answers_report profile IsDeckText bytes text written answer old new e is made = rw e (answers_reported profile IsDeckText bytes text written old new is made)
 
 -- the same of a text of the run of some turns
 pub answers_after : (profile : Profile) (first : List ℕ) (turns : ℕ) (text_after : List ℕ → LoadedDeck → List ℕ) (bytes text : List ℕ) (deck : LoadedDeck) (after : MachineState) (written : Result (Unit {0}) WriteFault) (old new : Option (List ℕ))
@@ -135,6 +150,12 @@ answered_lint profile before after old new front answer answered consumed le end
   unwritten = unwritten_lint profile answer front old new answered;
 }
 
+-- where the findings of a deck were not written
+pub lint_fault : (profile : Profile) (cause : ReportFault) (bytes : List ℕ) (old new : Option (List ℕ))
+    → IsReportWritten (lint_text profile bytes) (Err cause) old new → IsLint profile (Err (fault_by cause)) bytes old new
+lint_fault profile report.Write bytes old new front = front
+lint_fault profile report.Memory bytes old new kept = kept
+
 -- the same of the steps of a run that meet a condition
 pub answers_where : (profile : Profile) (IsDeckText : LoadedDeck → List ℕ → Type 0) (bytes : List ℕ) (deck : LoadedDeck) (choice : Choice) (condition : Condition) (order : List ℕ) (written : Result (Unit {0}) ReportFault) (old new : Option (List ℕ))
     → deck_meaning profile bytes ≡ Ok deck → ((text : List ℕ) → HasLinesWhere condition (chosen_steps choice order deck.machine) text → IsDeckText deck text)
@@ -142,3 +163,8 @@ pub answers_where : (profile : Profile) (IsDeckText : LoadedDeck → List ℕ �
 answers_where profile IsDeckText bytes deck choice condition order (Ok done) old new meant is (text, lines, whole) = (text, record { deck = deck; meant = meant; is = is text lines }, whole)
 answers_where profile IsDeckText bytes deck choice condition order (Err report.Write) old new meant is (text, lines, front) = (text, record { deck = deck; meant = meant; is = is text lines }, front)
 answers_where profile IsDeckText bytes deck choice condition order (Err report.Memory) old new meant is kept = kept
+
+pub answers_where_by : (profile : Profile) (IsDeckText : LoadedDeck → List ℕ → Type 0) (bytes : List ℕ) (deck : LoadedDeck) (choice : Choice) (condition : Condition) (order : List ℕ) (written : Result (Unit {0}) ReportFault) (answer : Result (Unit {0}) TextFault) (old new : Option (List ℕ))
+    → answer ≡ answer_to_report written → deck_meaning profile bytes ≡ Ok deck → ((text : List ℕ) → HasLinesWhere condition (chosen_steps choice order deck.machine) text → IsDeckText deck text)
+    → IsWrittenWhere choice condition order deck.machine written old new → IsAnswerUnless profile NothingPrevents IsDeckText answer bytes old new
+answers_where_by profile IsDeckText bytes deck choice condition order written answer old new e meant is made = rw e (answers_where profile IsDeckText bytes deck choice condition order written old new meant is made)

@@ -4,7 +4,6 @@ ghost use Rattle.std.specs.Prelude.{◌≡◌, map};
 ghost use Rattle.pp_runner.specs.Report.{ReportFitsInMemory};
 ghost use Rattle.pp_sim.specs.Program.{IsDone, IsDoneOnFile, IsPrinted, IsRun, IsReported, status_of};
 
-use crate::text_fault::answer_to;
 use crate::{TextFault, threads_text, work_text};
 use pp_command::{Asked, LineFault, Work, read_words};
 use pp_text::write_whole;
@@ -129,7 +128,10 @@ fn tell_line_fault<O: Write, E: Write>(
 fn show_help<O: Write, E: Write>(help: &[u8], output: &mut O, error: &mut E) -> u8
     ensures { IsPrinted help.now result (O.contents output.old) (O.contents output.new) }
 {
-    tell_answer(answer_to(write_whole(output, help)), error)
+    match write_whole(output, help) {
+        Ok(()) => DONE,
+        Err(_) => tell_answer(Err(TextFault::Write), error),
+    }
 }
 
 /// The status of what was done, or failed, which is reported on `error`.

@@ -1,5 +1,6 @@
-ghost use Rattle.std.specs.Prelude.{◌≡◌};
-ghost use Rattle.pp_sim.specs.TextAnswer.{answer_to, answer_to_report};
+ghost use Rattle.std.specs.Prelude.{◌≡◌, Some};
+ghost use Rattle.pp_sim.specs.{FaultText.fault_text, TextAnswer.fault_by};
+ghost use Rattle.pp_sim.specs.declared.text_fault.TextFault.{TextFault};
 
 use pp_channel::Memory;
 use pp_check::TraceFault;
@@ -20,8 +21,7 @@ pub enum TextFault {
     Deck(DeckFault),
     /// The run left a machine that a dump can't show, since this goes on in it.
     NotBetweenPrograms(Busy),
-    /// The text was written, and says what was found in the deck, or that its run is not as the
-    /// deck expects.
+    /// The text was written, and says what was found, or that the run is not as its deck expects.
     Findings,
     /// A trace is not lawful.
     Trace(TraceFault),
@@ -33,9 +33,6 @@ pub enum TextFault {
 
 /// As `deck fault 4 at line 3` or `out of memory`.
 impl Display for TextFault {
-    ghost use Rattle.std.specs.Prelude.{Some};
-    ghost use Rattle.pp_sim.specs.FaultText.{fault_text};
-
     ghost output = { λ fault. Some (fault_text fault) };
 
     fn fmt<W: fmt::Write>(&self, f: &mut Formatter<W>) -> fmt::Result {
@@ -54,10 +51,7 @@ impl Display for TextFault {
 impl Error for TextFault {}
 
 impl From<Cut> for TextFault {
-    ghost use Rattle.std.specs.Prelude.{◌≡◌};
-    ghost use Rattle.pp_sim.specs.declared.text_fault.TextFault.TheVariants.{Memory};
-
-    ghost from_gives = { λ _ fault. fault ≡ Memory };
+    ghost from_gives = { λ _ fault. fault ≡ TextFault.Memory };
 
     fn from(_cut: Cut) -> TextFault {
         TextFault::Memory
@@ -65,30 +59,28 @@ impl From<Cut> for TextFault {
 }
 
 impl From<Memory> for TextFault {
-    ghost use Rattle.std.specs.Prelude.{◌≡◌};
-    ghost use Rattle.pp_sim.specs.declared.text_fault.TextFault.TheVariants.{Memory};
-
-    ghost from_gives = { λ _ fault. fault ≡ Memory };
+    ghost from_gives = { λ _ fault. fault ≡ TextFault.Memory };
 
     fn from(_memory: Memory) -> TextFault {
         TextFault::Memory
     }
 }
 
-/// The answer after a text was written, or after the writer failed.
-pub(crate) fn answer_to(written: Result<(), WriteFault>) -> Result<(), TextFault>
-    ensures { result ≡ answer_to written }
-{
-    written.map_err(|_| TextFault::Write)
+impl From<WriteFault> for TextFault {
+    ghost from_gives = { λ _ fault. fault ≡ TextFault.Write };
+
+    fn from(_fault: WriteFault) -> TextFault {
+        TextFault::Write
+    }
 }
 
-/// The same of the text of a report.
-pub(crate) fn answer_to_report(written: Result<(), ReportFault>) -> Result<(), TextFault>
-    ensures { result ≡ answer_to_report written }
-{
-    match written {
-        Ok(()) => Ok(()),
-        Err(ReportFault::Memory) => Err(TextFault::Memory),
-        Err(ReportFault::Write) => Err(TextFault::Write),
+impl From<ReportFault> for TextFault {
+    ghost from_gives = { λ cause fault. fault ≡ fault_by cause };
+
+    fn from(fault: ReportFault) -> TextFault {
+        match fault {
+            ReportFault::Memory => TextFault::Memory,
+            ReportFault::Write => TextFault::Write,
+        }
     }
 }

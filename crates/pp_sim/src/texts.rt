@@ -16,7 +16,6 @@ ghost use Rattle.pp_sim.specs.TextOf.{IsDumpText, IsEndsText, IsRacesText, IsSte
 ghost use Rattle.pp_state.specs.StateText.{state_after};
 
 use crate::deck_bytes::DeckBytes;
-use crate::text_fault::{answer_to, answer_to_report};
 use crate::{Schedule, TextFault};
 use pp_command::{ChosenSteps, TextOf, View};
 use pp_condition::steps_until;
@@ -36,8 +35,7 @@ use pp_text::{write_text, write_whole};
 use std::alloc::Allocator;
 use std::io::Write;
 
-/// Writes this text of a deck that is loaded, of a run by this schedule: first it is found how many
-/// steps the run has.
+/// Writes this text of a deck that is loaded, of a run by this schedule, whose steps are counted.
 pub(crate) fn write_text_until<A: Allocator + Copy, W: Write>(
     alloc: A,
     deck: &DeckBytes,
@@ -78,7 +76,7 @@ fn write_text_of<A: Allocator + Copy, W: Write>(
         (W.contents writer.old) (W.contents writer.new) }
 {
     match text {
-        TextOf::List => answer_to(write_listing(writer, loaded)),
+        TextOf::List => Ok(write_listing(writer, loaded)?),
         TextOf::Orders(states) => write_endings(alloc, deck, loaded, writer, *states),
         TextOf::Run { turns, view } => write_view(alloc, loaded, writer, first, *turns, view),
     }
@@ -100,7 +98,7 @@ fn write_view<A: Allocator + Copy, W: Write>(
     match view {
         View::Barrel => {
             loaded.machine.run_in_order(first, turns)?;
-            answer_to(write_text(writer, &loaded.machine, &loaded.named))
+            Ok(write_text(writer, &loaded.machine, &loaded.named)?)
         }
         View::Dump => write_dump_after(alloc, loaded, writer, first, turns),
         View::State => write_state_after(alloc, loaded, writer, first, turns),
@@ -108,17 +106,17 @@ fn write_view<A: Allocator + Copy, W: Write>(
             let shown = loaded.in_use();
             let order = Order::of_run(alloc, first, loaded.machine.profile(), turns)?;
             let counts = run_counting_steps(&mut loaded.machine, &order)?;
-            answer_to(write_sessions(writer, &loaded.machine, &shown, &counts, *words))
+            Ok(write_sessions(writer, &loaded.machine, &shown, &counts, *words)?)
         }
         View::Races => write_raced(alloc, loaded, writer, first, turns),
         View::Ends => write_ends_after(alloc, loaded, writer, turns),
         View::Memory { processor, bounds } => {
             loaded.machine.run_in_order(first, turns)?;
-            answer_to(write_memory(writer, loaded.machine.pp(*processor), *bounds))
+            Ok(write_memory(writer, loaded.machine.pp(*processor), *bounds)?)
         }
         View::Central(bounds) => {
             loaded.machine.run_in_order(first, turns)?;
-            answer_to(write_central(writer, loaded.machine.central(), *bounds))
+            Ok(write_central(writer, loaded.machine.central(), *bounds)?)
         }
         View::Steps(chosen) => write_chosen_steps(alloc, loaded, writer, first, turns, chosen),
         View::Draw { from } => {
@@ -127,7 +125,7 @@ fn write_view<A: Allocator + Copy, W: Write>(
             let from = (*from).min(turns);
             let window = Window { from, to: turns };
             let steps = run_seeing_steps(alloc, &mut loaded.machine, &order, window)?;
-            answer_to(write_drawing(writer, &loaded.machine, &shown, &steps, window))
+            Ok(write_drawing(writer, &loaded.machine, &shown, &steps, window)?)
         }
     }
 }
@@ -171,7 +169,7 @@ fn write_state_after<A: Allocator + Copy, W: Write>(
     let before = BareMachine::of(alloc, &loaded.machine)?;
     let order = Order::of_run(alloc, first, loaded.machine.profile(), turns)?;
     let counts = run_counting_steps(&mut loaded.machine, &order)?;
-    answer_to(write_state(writer, &shown, &before, &loaded.machine, &counts))
+    Ok(write_state(writer, &shown, &before, &loaded.machine, &counts)?)
 }
 
 /// The machine runs to the turn that the ending names.
@@ -188,7 +186,7 @@ fn write_ends_after<A: Allocator + Copy, W: Write>(
     let ending = find_ending(alloc, &loaded.machine, turns)?;
     let loops = find_loops(alloc, &loaded.machine, ending)?;
     loaded.machine.run_barrel(ending.turn(turns))?;
-    answer_to(write_ends(writer, &shown, ending, turns, &loaded.machine, &loops))
+    Ok(write_ends(writer, &shown, ending, turns, &loaded.machine, &loops)?)
 }
 
 /// The deck is loaded once more for each ending, to make the steps that lead into it.
@@ -205,7 +203,7 @@ fn write_endings<A: Allocator + Copy, W: Write>(
         (W.contents writer.old) (W.contents writer.new) }
 {
     let text = text_of_endings(alloc, deck.profile, deck.bytes, loaded, states)?;
-    answer_to(write_whole(writer, text.as_slice()))
+    Ok(write_whole(writer, text.as_slice())?)
 }
 
 fn write_raced<A: Allocator + Copy, W: Write>(
@@ -220,7 +218,7 @@ fn write_raced<A: Allocator + Copy, W: Write>(
 {
     let order = Order::of_run(alloc, first, loaded.machine.profile(), turns)?;
     loaded.machine.is_sound();
-    answer_to_report(write_races(alloc, writer, &mut loaded.machine, &order))
+    Ok(write_races(alloc, writer, &mut loaded.machine, &order)?)
 }
 
 fn write_chosen_steps<A: Allocator + Copy, W: Write>(
@@ -245,8 +243,8 @@ fn write_chosen_steps<A: Allocator + Copy, W: Write>(
     let machine = &loaded.machine;
     match &chosen.condition {
         Some(condition) => {
-            answer_to_report(write_steps_where(alloc, writer, machine, &choice, condition, &order))
+            Ok(write_steps_where(alloc, writer, machine, &choice, condition, &order)?)
         }
-        None => answer_to_report(write_steps(alloc, writer, machine, &choice, &order)),
+        None => Ok(write_steps(alloc, writer, machine, &choice, &order)?),
     }
 }

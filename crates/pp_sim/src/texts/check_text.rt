@@ -2,7 +2,6 @@ ghost use Rattle.pp_sim.specs.CheckText.{AnswersTrace};
 
 use crate::TextFault;
 use crate::streams::read_all;
-use crate::text_fault::answer_to;
 use pp_channel::CHANNELS;
 use pp_check::{check_trace, write_verdict};
 use std::alloc::Allocator;
@@ -22,7 +21,7 @@ pub fn check_text<A: Allocator, R: Read, W: Write>(
 {
     let trace = read_all(alloc, reader)?;
     match check_trace(trace.as_slice(), opened) {
-        Ok(verdict) => answer_to(write_verdict(writer, &verdict)),
+        Ok(verdict) => Ok(write_verdict(writer, &verdict)?),
         Err(fault) => Err(TextFault::Trace(fault)),
     }
 }

@@ -53,12 +53,6 @@ pub fn barrel_text<A: Allocator + Copy, R: Read, W: Write>(
         until: None,
     };
     let view = View::Barrel;
-    deck_text(
-        alloc,
-        profile,
-        &schedule,
-        reader,
-        writer,
-        &TextOf::Run { turns, view },
-    )
+    let text = TextOf::Run { turns, view };
+    deck_text(alloc, profile, &schedule, reader, writer, &text)
 }

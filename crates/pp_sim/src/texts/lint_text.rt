@@ -4,12 +4,10 @@ use crate::TextFault;
 use crate::streams::read_front;
 use pp_lint::write_lint;
 use pp_machine::Profile;
-use pp_text::ReportFault;
 use std::alloc::Allocator;
 use std::io::{Read, Write};
 
-/// Reads a deck for a machine of this profile, and writes what is found in it: `Findings` if that
-/// is something.
+/// Reads a deck for a machine of this profile, and writes what is found in it: `Findings` if any.
 pub fn lint_text<A: Allocator + Copy, R: Read, W: Write>(
     alloc: A,
     profile: Profile,
@@ -21,10 +19,8 @@ pub fn lint_text<A: Allocator + Copy, R: Read, W: Write>(
         (W.contents writer.old) (W.contents writer.new) }
 {
     let front = read_front(alloc, reader)?;
-    match write_lint(alloc, writer, profile, front.as_slice()) {
-        Ok(true) => Err(TextFault::Findings),
-        Ok(false) => Ok(()),
-        Err(ReportFault::Memory) => Err(TextFault::Memory),
-        Err(ReportFault::Write) => Err(TextFault::Write),
+    match write_lint(alloc, writer, profile, front.as_slice())? {
+        true => Err(TextFault::Findings),
+        false => Ok(()),
     }
 }

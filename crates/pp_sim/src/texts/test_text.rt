@@ -78,10 +78,10 @@ fn write_test_of_endings<A: Allocator + Copy, W: Write>(
         (W.contents writer.old) (W.contents writer.new) }
 {
     let found = text_of_every_order(alloc, deck.profile, deck.bytes, loaded, states)?;
-    match write_whole(writer, found.text.as_slice()) {
-        Ok(()) if found.held => Ok(()),
-        Ok(()) => Err(TextFault::Findings),
-        Err(_) => Err(TextFault::Write),
+    write_whole(writer, found.text.as_slice())?;
+    match found.held {
+        true => Ok(()),
+        false => Err(TextFault::Findings),
     }
 }
 
@@ -102,18 +102,11 @@ fn write_test_of_run<A: Allocator + Copy, W: Write>(
         (W.contents writer.old) (W.contents writer.new) }
 {
     let turns = turns_of_run(alloc, loaded, schedule, turns)?;
-    let lines = lines_to_judge(
-        alloc,
-        deck.profile,
-        deck.bytes,
-        loaded,
-        schedule.first,
-        turns,
-    )?;
-    match write_verdict(writer, deck.bytes, lines.as_slice()) {
-        Ok(true) => Ok(()),
-        Ok(false) => Err(TextFault::Findings),
-        Err(_) => Err(TextFault::Write),
+    let first = schedule.first;
+    let lines = lines_to_judge(alloc, deck.profile, deck.bytes, loaded, first, turns)?;
+    match write_verdict(writer, deck.bytes, lines.as_slice())? {
+        true => Ok(()),
+        false => Err(TextFault::Findings),
     }
 }
 
@@ -132,6 +125,5 @@ fn turns_of_run<A: Allocator + Copy>(
         return Ok(turns);
     };
     let order = Order::of_run(alloc, schedule.first, loaded.machine.profile(), turns)?;
-    let end = steps_until(alloc, &loaded.machine, &order, until)?;
-    Ok(end)
+    Ok(steps_until(alloc, &loaded.machine, &order, until)?)
 }

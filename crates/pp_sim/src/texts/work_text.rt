@@ -9,8 +9,7 @@ use pp_command::{Asked, Work};
 use std::alloc::Allocator;
 use std::io::{Read, Write};
 
-/// Does a work that needs no threads: reads a deck or a trace, and writes the text that is asked
-/// for.
+/// Does a work that needs no threads: reads a deck or a trace, and writes the text asked for.
 pub fn work_text<A: Allocator + Copy, B: Allocator, R: Read, W: Write>(
     alloc: A,
     asked: &Asked<B>,
