@@ -33,9 +33,16 @@ impl Pp {
                 Some(channel) => self.start_block(self.a.get(), BlockKind::Output { channel }),
                 None => self.fault(NO_SUCH_CHANNEL),
             },
-            Opcode::AJM | Opcode::IJM | Opcode::FJM | Opcode::EJM => self.fault(NO_SUCH_CHANNEL),
-            Opcode::IAN | Opcode::OAN | Opcode::ACN => self.fault(NO_SUCH_CHANNEL),
-            Opcode::DCN | Opcode::FAN | Opcode::FNC => self.fault(NO_SUCH_CHANNEL),
+            Opcode::AJM
+            | Opcode::IJM
+            | Opcode::FJM
+            | Opcode::EJM
+            | Opcode::IAN
+            | Opcode::OAN
+            | Opcode::ACN
+            | Opcode::DCN
+            | Opcode::FAN
+            | Opcode::FNC => self.fault(NO_SUCH_CHANNEL),
             _ => self.run_internal(op, d),
         }
     }
