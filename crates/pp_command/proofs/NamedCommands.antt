@@ -1,4 +1,5 @@
 -- Where the first word names a command, a parse by that command alone makes what it makes of all.
+use mathlib.Core.List.{map-map}
 use Rattle.std.proofs.Common.{◌≡◌, ◌∙◌, ap, ap₂, sym, refl, Bool, true, false, List, [], ◌∷◌, ◌++◌, map, fold, append_assoc, append-nil, Option, Some, option_map, codes, is_some, if◌then◌else◌}
 use Rattle.std.specs.Prelude.{find, bytes_eq, slice_get, IfOk, Result, Ok, Err}
 use Rattle.std.specs.List.{list_all}
@@ -12,7 +13,8 @@ use Rattle.clap.specs.Kinds.{or_else}
 use Rattle.clap.specs.Walk.{Names, Walk, after_step, answers_to, finished, idle, nothing_held, settled, subcommand_met, subcommand_or_other, walk, walk_from, walked, walked_from, word_met}
 use Rattle.clap.proofs.OnLiterals.{clap_on_literals}
 use Rattle.clap.proofs.WalkLemmas.{both}
-use Rattle.pp_command.specs.CommandLine.{Command, ReadsAlike, app_of_command, bare, command_named, commands, file_argument, ppsim, with_commands}
+use Rattle.pp_command.specs.CommandLine.{Command, ReadsAlike, app_of_command, bare, command_named, command_of_form, commands, file_argument, ppsim, with_commands}
+use Rattle.pp_command.specs.declared.command.CommandHelp.{CommandHelp}
 
 -- ---- what a command's shape is
 
@@ -263,7 +265,8 @@ unfolding command_named
 made_one of (Ok x) app words name c is at second named = rw (is, at) (reads_by_one words name c second named)
 made_one of (Err e) app words name c is at second named = tt
 
-pub made_all : {X E : Type 0} (of : X → App) (made : Result X E) (app : App) (words : List Text)
-    → IfOk made (λ x. of x ≡ with_commands app (map app_of_command commands)) → app ≡ bare → IfOk made (λ x. ReadsAlike words (of x))
-made_all of (Ok x) app words is at = rw (is, at) (reads_by_all words)
-made_all of (Err e) app words is at = tt
+pub made_all : {X E : Type 0} (of : X → App) (made : Result X E) (app : App) (helps : List CommandHelp) (words : List Text)
+    → IfOk made (λ x. of x ≡ with_commands app (map (λ help. app_of_command (command_of_form help.form.now)) helps))
+    → map (λ help. command_of_form help.form.now) helps ≡ commands → app ≡ bare → IfOk made (λ x. ReadsAlike words (of x))
+made_all of (Ok x) app helps words is all at = rw (is, at, ← map-map app_of_command (λ help. command_of_form help.form.now) helps, all) (reads_by_all words)
+made_all of (Err e) app helps words is all at = tt

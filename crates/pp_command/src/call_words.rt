@@ -1,4 +1,4 @@
-ghost use Rattle.std.specs.Prelude.{◌≡◌, Some, bytes_eq, drop, find, map, slice_get, option_map, IfErr, IfOk, OnOk};
+ghost use Rattle.std.specs.Prelude.{◌≡◌, Some, drop, map, slice_get, option_map, IfErr, IfOk, OnOk};
 ghost use Rattle.pp_command.specs.CallWords.{AsksForNone, CallFor, IsAskRefused, IsCallRefused, IsRefusal, IsReportedAs, is_flag, is_topic, is_whole, option_named, reading_of_topics, reading_of_words, reading_without_command, value_among, with_option, with_plain_word, with_value, with_word};
 ghost use Rattle.pp_command.specs.CallWords.Reading.{given};
 ghost use Rattle.pp_command.specs.CommandLine.{command_named, command_of_form, rule_of_form};
@@ -7,7 +7,7 @@ use crate::call_word::{asks_for_help, asks_for_version, is_option, long_of};
 use crate::command::{CommandHelp, OptionForm, ValueForm};
 use crate::command_kind::CommandKind;
 use crate::command_words::{asked_of, asks_for_more, mixes_forms, named_file};
-use crate::commands::COMMANDS;
+use crate::commands::commands;
 use crate::help_text::{command_help, program_help, topic_help, version_text};
 use crate::refusal_text::{command_refusal, program_refusal, topic_refusal};
 use crate::{Asked, CallFault, CallRefusal, Values};
@@ -213,19 +213,13 @@ fn values_of_words<'a, A: Allocator + Copy>(
     Ok(given)
 }
 
-fn command_among(helps: &[CommandHelp], name: &str) -> Option<CommandHelp>
-    ensures { option_map (λ help. command_of_form help.form.now) result
-        ≡ find (λ command. bytes_eq command.name name.now)
-        (map (λ help. command_of_form help.form.now) helps.now) }
-{
-    helps.iter().find(|help| help.form.name == name).copied()
-}
-
-#[tactic(auto, unfolding(crate::specs::CommandLine::command_named))]
 pub(crate) fn command_named(name: &str) -> Option<CommandHelp>
     ensures { option_map (λ help. command_of_form help.form.now) result ≡ command_named name.now }
 {
-    command_among(&COMMANDS, name)
+    commands()
+        .iter()
+        .find(|help| help.form.name == name)
+        .copied()
 }
 
 /// Whether help has a page of this name.

@@ -5,7 +5,7 @@ ghost use Rattle.pp_command.specs.CommandLine.{ReadsAlike, app_of_command, comma
 
 use crate::call_words::command_named;
 use crate::command_kind::CommandKind;
-use crate::commands::{ABOUT, COMMANDS, EXAMPLE, FILE_HELP, MANUAL};
+use crate::commands::{ABOUT, EXAMPLE, FILE_HELP, MANUAL, commands};
 use crate::number_range::NumberRange;
 use clap::{Arg, ArgAction, Command};
 use std::alloc::{AllocError, Global};
@@ -121,10 +121,10 @@ pub(crate) fn command<'a>(alloc: Global, words: &[&str]) -> Result<Command<'a>, 
         .after_long_help(MANUAL)
         .subcommand_required(true);
     let Some(name) = words.get(1) else {
-        return with_commands(alloc, bare, &COMMANDS);
+        return with_commands(alloc, bare, &commands());
     };
     match command_named(name) {
         Some(help) => with_commands(alloc, bare, &[help]),
-        None => with_commands(alloc, bare, &COMMANDS),
+        None => with_commands(alloc, bare, &commands()),
     }
 }

@@ -1,3 +1,6 @@
+ghost use Rattle.std.specs.Prelude.{◌≡◌, map};
+ghost use Rattle.pp_command.specs.CommandLine.{command_of_form, commands};
+
 use crate::command::ValueForm::{Flag, Number, Text};
 use crate::command::{CommandForm, CommandHelp, OptionForm};
 use crate::command_kind::CommandKind;
@@ -66,8 +69,7 @@ const FIRST_OPTION: OptionForm = option!(required: false, "first", Text("N",
 /// The options of a run that has no others.
 const RUN_OPTIONS: &[OptionForm] = with_run_options![TURNS_OPTION];
 
-/// The commands, in the order in which help lists them.
-pub(crate) const COMMANDS: [CommandHelp; 16] = [
+const COMMANDS: [CommandHelp; 16] = [
     command! {
         kind: CommandKind::Barrel,
         name: "barrel",
@@ -415,3 +417,10 @@ with what is wrong, as in 'ppsim: line 7: TAK 0007 on CH05, which is empty'; the
             "The channels that were open before the trace (octal)"))],
     },
 ];
+
+/// The commands, in the order in which help lists them.
+pub(crate) fn commands() -> [CommandHelp; 16]
+    ensures { map (λ help. command_of_form help.form.now) result ≡ commands }
+{
+    COMMANDS
+}

@@ -4,7 +4,7 @@ use crate::call_words::command_named;
 use crate::command::ValueForm::Flag;
 use crate::command::{CommandHelp, OptionForm, VERSION};
 use crate::command_macros::option;
-use crate::commands::{ABOUT, COMMANDS, EXAMPLE, FILE_HELP, MANUAL};
+use crate::commands::{ABOUT, EXAMPLE, FILE_HELP, MANUAL, commands};
 use crate::usage::push_usage;
 use std::alloc::{AllocError, Allocator};
 
@@ -46,12 +46,12 @@ pub(crate) fn program_help<A: Allocator + Copy>(
     is_long: bool,
 ) -> Result<String<A>, AllocError> {
     let mut text = format!(in alloc; "{ABOUT}\n\nUsage: ppsim <COMMAND>\n\nCommands:\n")?;
-    let mut commands = Vec::new(alloc);
-    for help in &COMMANDS {
-        commands.push((format!(in alloc; "  {}", help.form.name)?, help.form.about))?;
+    let mut items = Vec::new(alloc);
+    for help in &commands() {
+        items.push((format!(in alloc; "  {}", help.form.name)?, help.form.about))?;
     }
-    commands.push((String::from_str(alloc, "  help")?, HELP_ABOUT))?;
-    push_list(&mut text, commands.as_slice(), false)?;
+    items.push((String::from_str(alloc, "  help")?, HELP_ABOUT))?;
+    push_list(&mut text, items.as_slice(), false)?;
     let requests = [help_option(is_long), VERSION_OPTION];
     push_options(alloc, &mut text, &[], &requests, is_long)?;
     write!(text, "{}\n", if is_long { MANUAL } else { EXAMPLE })?;
@@ -114,11 +114,20 @@ fn push_list<A: Allocator>(
         widest = widest.max(item.len());
     }
     for (item, help) in items {
-        if is_long {
-            write!(text, "{item}\n          {help}\n\n")?;
-        } else {
-            write!(text, "{item:widest$}  {help}\n")?;
-        }
+        push_item(text, item, help, if is_long { None } else { Some(widest) })?;
     }
     text.push_str(if is_long { "" } else { "\n" })
+}
+
+/// Adds an item and its help: beside it, if items have a width, or else on a line of its own.
+fn push_item<A: Allocator>(
+    text: &mut String<A>,
+    item: &str,
+    help: &str,
+    width: Option<usize>,
+) -> Result<(), AllocError> {
+    match width {
+        Some(width) => write!(text, "{item:width$}  {help}\n"),
+        None => write!(text, "{item}\n          {help}\n\n"),
+    }
 }

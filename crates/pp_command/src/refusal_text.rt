@@ -3,7 +3,7 @@
 use crate::call_word::long_of;
 use crate::call_words::{CallWords, command_named, is_topic};
 use crate::command::CommandForm;
-use crate::commands::COMMANDS;
+use crate::commands::commands;
 use crate::help_text::HELP_USAGE;
 use crate::similar::{similar_commands, similar_option};
 use crate::usage::push_usage;
@@ -130,7 +130,7 @@ pub(crate) fn program_refusal<A: Allocator + Copy>(
             text.push_str(
                 "'ppsim' requires a subcommand but one was not provided\n  [subcommands: ",
             )?;
-            for help in &COMMANDS {
+            for help in &commands() {
                 write!(text, "{}, ", help.form.name)?;
             }
             text.push_str("help]")?;

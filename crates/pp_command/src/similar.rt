@@ -1,7 +1,7 @@
 //! Names that are close to a word, by clap's measure.
 
 use crate::command::OptionForm;
-use crate::commands::COMMANDS;
+use crate::commands::commands;
 use std::alloc::{AllocError, Allocator};
 use strsim::jaro;
 
@@ -26,7 +26,7 @@ pub(crate) fn similar_commands<A: Allocator + Copy>(
     word: &str,
 ) -> Result<Vec<(f64, &'static str), A>, AllocError> {
     let mut names = Vec::new(alloc);
-    for help in &COMMANDS {
+    for help in &commands() {
         add_name(alloc, &mut names, word, help.form.name)?;
     }
     add_name(alloc, &mut names, word, "help")?;

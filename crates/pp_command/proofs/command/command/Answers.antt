@@ -8,12 +8,12 @@ use Rattle.pp_command.proofs.command.command.Goals as goal
 pub returns-in_default : goal.returns-in_default
 returns-in_default c =
     let is : app_of c.subcommand_required-bare.result ≡ bare = search rules in
-    made_all app_of c.with_commands.result _ _ c.with_commands.ensures is
+    made_all app_of c.with_commands.result _ _ _ c.with_commands.ensures c.commands.ensures is
 
 pub returns-in-None : goal.returns-in-None
 returns-in-None c =
     let is : app_of c.subcommand_required-bare.result ≡ bare = search rules in
-    made_all app_of c.with_commands-in-None.result _ _ c.with_commands-in-None.ensures is
+    made_all app_of c.with_commands-in-None.result _ _ _ c.with_commands-in-None.ensures c.commands-in-None.ensures is
 
 pub returns-in-Some-command_named : goal.returns-in-Some-command_named
 returns-in-Some-command_named c =
