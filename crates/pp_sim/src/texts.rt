@@ -7,12 +7,19 @@ pub(crate) mod test_text;
 pub(crate) mod threads_text;
 pub(crate) mod work_text;
 
-ghost use Rattle.std.specs.Prelude.{◌≡◌, Ok};
+ghost use Rattle.std.specs.Prelude.{◌≡◌, IfErr, IfOk, Ok, OnOk, min};
 ghost use Rattle.pp_command.specs.declared.text_of.TextOf.TheVariants.{Run};
 ghost use Rattle.pp_deck.specs.DeckMeaning.{deck_meaning};
+ghost use Rattle.pp_draw.specs.DrawingText.{drawing_of_run};
 ghost use Rattle.pp_endings.specs.EndingsText.{IsEndingsText};
+ghost use Rattle.pp_machine.specs.Headline.{HoldsOnEachChannel};
+ghost use Rattle.pp_machine.specs.Run.{run, run_order};
+ghost use Rattle.pp_run.specs.RunSteps.{run_steps};
+ghost use Rattle.pp_run.specs.StepCounts.{each_step_counts};
+ghost use Rattle.pp_sessions.specs.SessionsText.{sessions_after};
 ghost use Rattle.pp_sim.specs.TextAnswer.{AnswersLoaded, AnswersLoadedUnless};
 ghost use Rattle.pp_sim.specs.TextOf.{IsDumpText, IsEndsText, IsRacesText, IsStepsText, IsTextAfter, IsTextOf, IsTextUntil, PreventsDump, obstacle, obstacle_until};
+ghost use Rattle.pp_sim.specs.declared.text_fault.TextFault.TheVariants.{Memory};
 ghost use Rattle.pp_state.specs.StateText.{state_after};
 
 use crate::deck_bytes::DeckBytes;
@@ -24,10 +31,10 @@ use pp_draw::{run_seeing_steps, write_drawing};
 use pp_endings::text_of_endings;
 use pp_ends::{find_ending, find_loops, write_ends};
 use pp_listing::{DumpFault, order_left, write_dump, write_listing};
-use pp_machine::PpNo;
+use pp_machine::{Machine, PROCESSORS, PpNo};
 use pp_numbers::Window;
 use pp_races::write_races;
-use pp_run::{BareMachine, Order};
+use pp_run::{BareMachine, Order, StepCounts};
 use pp_sessions::{run_counting_steps, write_sessions};
 use pp_state::{write_central, write_memory, write_state};
 use pp_steps::{Choice, write_steps, write_steps_where};
@@ -103,10 +110,7 @@ fn write_view<A: Allocator + Copy, W: Write>(
         View::Dump => write_dump_after(alloc, loaded, writer, first, turns),
         View::State => write_state_after(alloc, loaded, writer, first, turns),
         View::Sessions { words } => {
-            let shown = loaded.in_use();
-            let order = Order::of_run(alloc, first, loaded.machine.profile(), turns)?;
-            let counts = run_counting_steps(&mut loaded.machine, &order)?;
-            Ok(write_sessions(writer, &loaded.machine, &shown, &counts, *words)?)
+            write_sessions_after(alloc, loaded, writer, first, turns, *words)
         }
         View::Races => write_raced(alloc, loaded, writer, first, turns),
         View::Ends => write_ends_after(alloc, loaded, writer, turns),
@@ -119,14 +123,7 @@ fn write_view<A: Allocator + Copy, W: Write>(
             Ok(write_central(writer, loaded.machine.central(), *bounds)?)
         }
         View::Steps(chosen) => write_chosen_steps(alloc, loaded, writer, first, turns, chosen),
-        View::Draw { from } => {
-            let shown = loaded.in_use();
-            let order = Order::of_run(alloc, first, loaded.machine.profile(), turns)?;
-            let from = (*from).min(turns);
-            let window = Window { from, to: turns };
-            let steps = run_seeing_steps(alloc, &mut loaded.machine, &order, window)?;
-            Ok(write_drawing(writer, &loaded.machine, &shown, &steps, window)?)
-        }
+        View::Draw { from } => write_drawing_from(alloc, loaded, writer, first, turns, *from),
     }
 }
 
@@ -167,9 +164,66 @@ fn write_state_after<A: Allocator + Copy, W: Write>(
 {
     let shown = loaded.in_use();
     let before = BareMachine::of(alloc, &loaded.machine)?;
-    let order = Order::of_run(alloc, first, loaded.machine.profile(), turns)?;
-    let counts = run_counting_steps(&mut loaded.machine, &order)?;
+    let counts = counts_of_run(alloc, &mut loaded.machine, first, turns)?;
     Ok(write_state(writer, &shown, &before, &loaded.machine, &counts)?)
+}
+
+/// The sessions on the channels, and the steps that each processor made.
+fn write_sessions_after<A: Allocator + Copy, W: Write>(
+    alloc: A,
+    loaded: &mut Deck<A>,
+    writer: &mut W,
+    first: &[PpNo],
+    turns: u32,
+    words: bool,
+) -> Result<(), TextFault>
+    ensures { AnswersLoaded loaded.old.machine loaded.old.named
+        (IsTextAfter first.now turns (sessions_after words)) result
+        (W.contents writer.old) (W.contents writer.new) }
+{
+    let shown = loaded.in_use();
+    let counts = counts_of_run(alloc, &mut loaded.machine, first, turns)?;
+    Ok(write_sessions(writer, &loaded.machine, &shown, &counts, words)?)
+}
+
+/// Makes the steps of a run, and counts those of each processor.
+fn counts_of_run<A: Allocator + Copy>(
+    alloc: A,
+    machine: &mut Machine<A>,
+    first: &[PpNo],
+    turns: u32,
+) -> Result<[StepCounts; PROCESSORS], TextFault>
+    ensures run { OnOk result
+        (machine.new ≡ run (run_order first.now machine.old.profile turns) machine.old) }
+    ensures headline { OnOk result (HoldsOnEachChannel machine.new) }
+    ensures counts { IfOk result (λ counts. counts ≡ each_step_counts
+        (run_steps (run_order first.now machine.old.profile turns) machine.old)) }
+    ensures fault { IfErr result (λ fault. fault ≡ Memory) }
+{
+    let order = Order::of_run(alloc, first, machine.profile(), turns)?;
+    Ok(run_counting_steps(machine, &order)?)
+}
+
+/// The drawing is of the turns from one on, and ends with the run.
+fn write_drawing_from<A: Allocator + Copy, W: Write>(
+    alloc: A,
+    loaded: &mut Deck<A>,
+    writer: &mut W,
+    first: &[PpNo],
+    turns: u32,
+    from: u32,
+) -> Result<(), TextFault>
+    ensures { AnswersLoaded loaded.old.machine loaded.old.named
+        (IsTextAfter first.now turns
+        (drawing_of_run (record { from = min from turns; to = turns }))) result
+        (W.contents writer.old) (W.contents writer.new) }
+{
+    let shown = loaded.in_use();
+    let order = Order::of_run(alloc, first, loaded.machine.profile(), turns)?;
+    let from = from.min(turns);
+    let window = Window { from, to: turns };
+    let steps = run_seeing_steps(alloc, &mut loaded.machine, &order, window)?;
+    Ok(write_drawing(writer, &loaded.machine, &shown, &steps, window)?)
 }
 
 /// The machine runs to the turn that the ending names.

@@ -1,10 +1,8 @@
-use Rattle.std.proofs.Common.{◌≡◌, Bool, List, ap, ◌∙◌}
+use Rattle.std.proofs.Common.{Bool, List, ap, ◌∙◌}
 use Rattle.std.proofs.lemmas.Result.{err_from_is_err_and}
 use Rattle.pp_machine.specs.MachineState.{MachineState}
 use Rattle.pp_machine.specs.Run.{run, run_order}
 use Rattle.pp_deck.specs.InUse.{in_use}
-use Rattle.pp_run.specs.RunSteps.{run_steps}
-use Rattle.pp_run.specs.StepCounts.{each_step_counts}
 use Rattle.pp_run.specs.declared.step_counts.StepCounts.{StepCounts}
 use Rattle.pp_state.specs.StateText.{state_after, state_text}
 use Rattle.pp_sim.proofs.AnswerLemmas.{answers_after}
@@ -15,16 +13,14 @@ returns g c = λ profile bytes meant same.
     let turns = c.args.turns in
     let before = c.args.loaded.now.machine in
     let shown = in_use (record { machine = before; named = c.args.loaded.now.named }) in
-    let after = c.run_counting_steps.new.machine in
+    let after = c.counts_of_run.new.machine in
     let ok = c.in_ok-counts in
-    let order : c.in_ok-order.order ≡ run_order c.args.first.now before.profile turns = c.in_ok-order.ensures ∙ ap (λ p. run_order c.args.first.now p turns) c.profile.ensures in
-    let ran = ok.ensures.run.ran ∙ ap (λ ns. run ns before) order in
     let told =
     ap (λ (flags : List Bool). state_text flags before after ok.counts) c.in_use-shown.ensures
-    ∙ ap (λ (m : MachineState). state_text shown before m ok.counts) ran
-    ∙ ap (λ (counts : List StepCounts). state_text shown before (run (run_order c.args.first.now before.profile turns) before) counts) (ok.ensures.counts ∙ ap (λ ns. each_step_counts (run_steps ns before)) order) in
+    ∙ ap (λ (m : MachineState). state_text shown before m ok.counts) ok.ensures.run
+    ∙ ap (λ (counts : List StepCounts). state_text shown before (run (run_order c.args.first.now before.profile turns) before) counts) ok.ensures.counts in
     (rw c.in_ok-write_state.was at (answers_after profile c.args.first.now turns state_after bytes _ _ after c.write_state.result _ _
-    meant ran c.run_counting_steps.ensures.run.headline told (c.write_state.ensures before c.in_ok-before.ensures)))
+    meant ok.ensures.run ok.ensures.headline told (c.write_state.ensures before c.in_ok-before.ensures)))
 
 pub returns-in_err-write_state : goal.returns-in_err-write_state
 returns-in_err-write_state g c = λ profile bytes meant same.
@@ -32,13 +28,11 @@ returns-in_err-write_state g c = λ profile bytes meant same.
     let turns = c.args.turns in
     let before = c.args.loaded.now.machine in
     let shown = in_use (record { machine = before; named = c.args.loaded.now.named }) in
-    let after = c.run_counting_steps.new.machine in
+    let after = c.counts_of_run.new.machine in
     let ok = c.in_ok-counts in
-    let order : c.in_ok-order.order ≡ run_order c.args.first.now before.profile turns = c.in_ok-order.ensures ∙ ap (λ p. run_order c.args.first.now p turns) c.profile.ensures in
-    let ran = ok.ensures.run.ran ∙ ap (λ ns. run ns before) order in
     let told =
     ap (λ (flags : List Bool). state_text flags before after ok.counts) c.in_use-shown.ensures
-    ∙ ap (λ (m : MachineState). state_text shown before m ok.counts) ran
-    ∙ ap (λ (counts : List StepCounts). state_text shown before (run (run_order c.args.first.now before.profile turns) before) counts) (ok.ensures.counts ∙ ap (λ ns. each_step_counts (run_steps ns before)) order) in
+    ∙ ap (λ (m : MachineState). state_text shown before m ok.counts) ok.ensures.run
+    ∙ ap (λ (counts : List StepCounts). state_text shown before (run (run_order c.args.first.now before.profile turns) before) counts) ok.ensures.counts in
     rw (p.1, p.2) (rw c.in_err-write_state.was at (answers_after profile c.args.first.now turns state_after bytes _ _ after c.write_state.result _ _
-    meant ran c.run_counting_steps.ensures.run.headline told (c.write_state.ensures before c.in_ok-before.ensures)))
+    meant ok.ensures.run ok.ensures.headline told (c.write_state.ensures before c.in_ok-before.ensures)))
