@@ -16,7 +16,7 @@ use Rattle.pp_text.specs.declared.{report_fault.ReportFault.ReportFault, write_f
 use Rattle.pp_text.specs.declared.report_fault.ReportFault.TheVariants as report
 use Rattle.pp_lint.specs.LintText.{lint_text}
 use Rattle.pp_sim.specs.LintAnswer.{AnswersLint, IsLint}
-use Rattle.pp_sim.specs.TextAnswer.{AnswersDeckUnless, IsAnswerUnless, IsOfDeck, IsLoadFault, NothingPrevents, fault_by, most_bytes}
+use Rattle.pp_sim.specs.TextAnswer.{AnswersDeckUnless, IsAnswerUnless, IsOfDeck, IsLoadFault, NothingPrevents, answer_to, answer_to_report, fault_by, most_bytes}
 use Rattle.pp_sim.specs.TextOf.{IsTextAfter, run_of}
 use Rattle.pp_condition.specs.declared.condition.Condition.{Condition}
 use Rattle.pp_steps.specs.Choice.{chosen_steps}
@@ -25,16 +25,6 @@ use Rattle.pp_steps.specs.declared.choice.Choice.{Choice}
 use Rattle.pp_listing.specs.declared.going_on.Busy.{Busy}
 use Rattle.pp_sim.specs.declared.text_fault.TextFault.{TextFault}
 use Rattle.pp_sim.specs.declared.text_fault.TextFault.TheVariants as fault
-
--- the answer after a text was written, or after the writer failed
-abbrev pub answer_to : Result (Unit {0}) WriteFault → Result (Unit {0}) TextFault
-answer_to (Ok done) = Ok done
-answer_to (Err cause) = Err fault.Write
-
--- the same of the text of a report
-abbrev pub answer_to_report : Result (Unit {0}) ReportFault → Result (Unit {0}) TextFault
-answer_to_report (Ok done) = Ok done
-answer_to_report (Err cause) = Err (fault_by cause)
 
 -- a text of the deck was written, or a first part of it
 pub answers_written : (profile : Profile) (Prevents : LoadedDeck → Busy → Type 0) (IsDeckText : LoadedDeck → List ℕ → Type 0) (bytes text : List ℕ) (written : Result (Unit {0}) WriteFault) (old new : Option (List ℕ))

@@ -7,7 +7,7 @@ use Rattle.pp_deck.specs.DeckMeaning.{LoadedDeck, deck_meaning}
 use Rattle.pp_deck.specs.declared.deck_fault.DeckCode.TheVariants as code
 use Rattle.pp_deck.specs.declared.deck_fault.DeckFault.{DeckFault}
 use Rattle.pp_text.specs.Written.{AppendsFront}
-use Rattle.pp_text.specs.declared.report_fault.ReportFault.{ReportFault}
+use Rattle.pp_text.specs.declared.{report_fault.ReportFault.ReportFault, write_fault.WriteFault.WriteFault}
 use Rattle.pp_listing.specs.declared.going_on.Busy.{Busy}
 use Rattle.pp_sim.specs.declared.text_fault.TextFault.{TextFault}
 
@@ -97,6 +97,16 @@ AnswersLoaded machine named = AnswersLoadedUnless machine named NothingPrevents
 abbrev pub fault_by : ReportFault → TextFault
 fault_by ReportFault.Write = TextFault.Write
 fault_by ReportFault.Memory = TextFault.Memory
+
+-- the answer after a text was written, or after the writer failed
+abbrev pub answer_to : Result (Unit {0}) WriteFault → Result (Unit {0}) TextFault
+answer_to (Ok done) = Ok done
+answer_to (Err cause) = Err TextFault.Write
+
+-- the same of the text of a report
+abbrev pub answer_to_report : Result (Unit {0}) ReportFault → Result (Unit {0}) TextFault
+answer_to_report (Ok done) = Ok done
+answer_to_report (Err cause) = Err (fault_by cause)
 
 -- reading fails by the reader or for lack of memory
 abbrev pub IsReadFault : TextFault → Type 0

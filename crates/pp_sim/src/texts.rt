@@ -17,7 +17,8 @@ ghost use Rattle.pp_machine.specs.Run.{run, run_order};
 ghost use Rattle.pp_run.specs.RunSteps.{run_steps};
 ghost use Rattle.pp_run.specs.StepCounts.{each_step_counts};
 ghost use Rattle.pp_sessions.specs.SessionsText.{sessions_after};
-ghost use Rattle.pp_sim.specs.TextAnswer.{AnswersLoaded, AnswersLoadedUnless};
+ghost use Rattle.pp_sim.specs.TestAnswer.{HasTurns};
+ghost use Rattle.pp_sim.specs.TextAnswer.{AnswersLoaded, AnswersLoadedUnless, answer_to, answer_to_report};
 ghost use Rattle.pp_sim.specs.TextOf.{IsDumpText, IsEndsText, IsRacesText, IsStepsText, IsTextAfter, IsTextOf, IsTextUntil, PreventsDump, obstacle, obstacle_until};
 ghost use Rattle.pp_sim.specs.declared.text_fault.TextFault.TheVariants.{Memory};
 ghost use Rattle.pp_state.specs.StateText.{state_after};
@@ -38,7 +39,7 @@ use pp_run::{BareMachine, Order, StepCounts};
 use pp_sessions::{run_counting_steps, write_sessions};
 use pp_state::{write_central, write_memory, write_state};
 use pp_steps::{Choice, write_steps, write_steps_where};
-use pp_text::{write_text, write_whole};
+use pp_text::{ReportFault, WriteFault, write_text, write_whole};
 use std::alloc::Allocator;
 use std::io::Write;
 
@@ -59,12 +60,29 @@ pub(crate) fn write_text_until<A: Allocator + Copy, W: Write>(
         result (W.contents writer.old) (W.contents writer.new) }
 {
     let first = schedule.first;
-    let Some(until) = &schedule.until else {
+    if schedule.until.is_none() {
         return write_text_of(alloc, deck, loaded, writer, first, text);
-    };
-    let order = Order::of_run(alloc, first, loaded.machine.profile(), text.turns())?;
-    let turns = steps_until(alloc, &loaded.machine, &order, until)?;
+    }
+    let turns = turns_of_run(alloc, loaded, schedule, text.turns())?;
     write_text_of(alloc, deck, loaded, writer, first, &text.with_turns(turns))
+}
+
+/// How many turns a run has, which goes on until then.
+pub(crate) fn turns_of_run<A: Allocator + Copy>(
+    alloc: A,
+    loaded: &Deck<A>,
+    schedule: &Schedule,
+    turns: u32,
+) -> Result<u32, TextFault>
+    ensures ok { IfOk result (HasTurns schedule.now.first.now schedule.now.until turns
+        (record { machine = loaded.now.machine; named = loaded.now.named })) }
+    ensures fault { IfErr result (λ fault. fault ≡ Memory) }
+{
+    let Some(until) = &schedule.until else {
+        return Ok(turns);
+    };
+    let order = Order::of_run(alloc, schedule.first, loaded.machine.profile(), turns)?;
+    Ok(steps_until(alloc, &loaded.machine, &order, until)?)
 }
 
 /// Writes this text of a deck that is loaded, in whose run these processors come first.
@@ -83,7 +101,7 @@ fn write_text_of<A: Allocator + Copy, W: Write>(
         (W.contents writer.old) (W.contents writer.new) }
 {
     match text {
-        TextOf::List => Ok(write_listing(writer, loaded)?),
+        TextOf::List => answer_to(write_listing(writer, loaded)),
         TextOf::Orders(states) => write_endings(alloc, deck, loaded, writer, *states),
         TextOf::Run { turns, view } => write_view(alloc, loaded, writer, first, *turns, view),
     }
@@ -105,7 +123,7 @@ fn write_view<A: Allocator + Copy, W: Write>(
     match view {
         View::Barrel => {
             loaded.machine.run_in_order(first, turns)?;
-            Ok(write_text(writer, &loaded.machine, &loaded.named)?)
+            answer_to(write_text(writer, &loaded.machine, &loaded.named))
         }
         View::Dump => write_dump_after(alloc, loaded, writer, first, turns),
         View::State => write_state_after(alloc, loaded, writer, first, turns),
@@ -116,11 +134,11 @@ fn write_view<A: Allocator + Copy, W: Write>(
         View::Ends => write_ends_after(alloc, loaded, writer, turns),
         View::Memory { processor, bounds } => {
             loaded.machine.run_in_order(first, turns)?;
-            Ok(write_memory(writer, loaded.machine.pp(*processor), *bounds)?)
+            answer_to(write_memory(writer, loaded.machine.pp(*processor), *bounds))
         }
         View::Central(bounds) => {
             loaded.machine.run_in_order(first, turns)?;
-            Ok(write_central(writer, loaded.machine.central(), *bounds)?)
+            answer_to(write_central(writer, loaded.machine.central(), *bounds))
         }
         View::Steps(chosen) => write_chosen_steps(alloc, loaded, writer, first, turns, chosen),
         View::Draw { from } => write_drawing_from(alloc, loaded, writer, first, turns, *from),
@@ -165,7 +183,7 @@ fn write_state_after<A: Allocator + Copy, W: Write>(
     let shown = loaded.in_use();
     let before = BareMachine::of(alloc, &loaded.machine)?;
     let counts = counts_of_run(alloc, &mut loaded.machine, first, turns)?;
-    Ok(write_state(writer, &shown, &before, &loaded.machine, &counts)?)
+    answer_to(write_state(writer, &shown, &before, &loaded.machine, &counts))
 }
 
 /// The sessions on the channels, and the steps that each processor made.
@@ -183,7 +201,7 @@ fn write_sessions_after<A: Allocator + Copy, W: Write>(
 {
     let shown = loaded.in_use();
     let counts = counts_of_run(alloc, &mut loaded.machine, first, turns)?;
-    Ok(write_sessions(writer, &loaded.machine, &shown, &counts, words)?)
+    answer_to(write_sessions(writer, &loaded.machine, &shown, &counts, words))
 }
 
 /// Makes the steps of a run, and counts those of each processor.
@@ -223,7 +241,7 @@ fn write_drawing_from<A: Allocator + Copy, W: Write>(
     let from = from.min(turns);
     let window = Window { from, to: turns };
     let steps = run_seeing_steps(alloc, &mut loaded.machine, &order, window)?;
-    Ok(write_drawing(writer, &loaded.machine, &shown, &steps, window)?)
+    answer_to(write_drawing(writer, &loaded.machine, &shown, &steps, window))
 }
 
 /// The machine runs to the turn that the ending names.
@@ -240,7 +258,7 @@ fn write_ends_after<A: Allocator + Copy, W: Write>(
     let ending = find_ending(alloc, &loaded.machine, turns)?;
     let loops = find_loops(alloc, &loaded.machine, ending)?;
     loaded.machine.run_barrel(ending.turn(turns))?;
-    Ok(write_ends(writer, &shown, ending, turns, &loaded.machine, &loops)?)
+    answer_to(write_ends(writer, &shown, ending, turns, &loaded.machine, &loops))
 }
 
 /// The deck is loaded once more for each ending, to make the steps that lead into it.
@@ -257,7 +275,7 @@ fn write_endings<A: Allocator + Copy, W: Write>(
         (W.contents writer.old) (W.contents writer.new) }
 {
     let text = text_of_endings(alloc, deck.profile, deck.bytes, loaded, states)?;
-    Ok(write_whole(writer, text.as_slice())?)
+    answer_to(write_whole(writer, text.as_slice()))
 }
 
 fn write_raced<A: Allocator + Copy, W: Write>(
@@ -272,7 +290,7 @@ fn write_raced<A: Allocator + Copy, W: Write>(
 {
     let order = Order::of_run(alloc, first, loaded.machine.profile(), turns)?;
     loaded.machine.is_sound();
-    Ok(write_races(alloc, writer, &mut loaded.machine, &order)?)
+    answer_to_report(write_races(alloc, writer, &mut loaded.machine, &order))
 }
 
 fn write_chosen_steps<A: Allocator + Copy, W: Write>(
@@ -296,9 +314,23 @@ fn write_chosen_steps<A: Allocator + Copy, W: Write>(
     let order = Order::of_run(alloc, first, loaded.machine.profile(), turns)?;
     let machine = &loaded.machine;
     match &chosen.condition {
-        Some(condition) => {
-            Ok(write_steps_where(alloc, writer, machine, &choice, condition, &order)?)
-        }
-        None => Ok(write_steps(alloc, writer, machine, &choice, &order)?),
+        Some(condition) => answer_to_report(write_steps_where(
+            alloc, writer, machine, &choice, condition, &order,
+        )),
+        None => answer_to_report(write_steps(alloc, writer, machine, &choice, &order)),
     }
+}
+
+/// The answer after a text was written, or after the writer failed.
+fn answer_to(written: Result<(), WriteFault>) -> Result<(), TextFault>
+    ensures { result ≡ answer_to written }
+{
+    Ok(written?)
+}
+
+/// The same of the text of a report.
+pub(crate) fn answer_to_report(written: Result<(), ReportFault>) -> Result<(), TextFault>
+    ensures { result ≡ answer_to_report written }
+{
+    Ok(written?)
 }

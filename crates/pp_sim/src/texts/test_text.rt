@@ -1,19 +1,17 @@
-ghost use Rattle.std.specs.Prelude.{◌≡◌, ◌≤◌, ℕ, List, Option, Ok, IfOk, IfErr, length};
+ghost use Rattle.std.specs.Prelude.{◌≡◌, ◌≤◌, ℕ, List, Option, Ok, length};
 ghost use Rattle.pp_deck.specs.DeckMeaning.{deck_meaning};
-ghost use Rattle.pp_sim.specs.TestAnswer.{AnswersTest, HasTurns, IsTest};
+ghost use Rattle.pp_sim.specs.TestAnswer.{AnswersTest, IsTest};
 ghost use Rattle.pp_sim.specs.TextAnswer.{most_bytes};
-ghost use Rattle.pp_sim.specs.declared.text_fault.TextFault.TheVariants.{Memory};
 ghost use Rattle.pp_command.specs.declared.work.Tested.{Tested};
 ghost use Rattle.pp_condition.specs.declared.until.Until.{Until};
 
 use crate::deck_bytes::DeckBytes;
 use crate::streams::read_front;
+use crate::texts::turns_of_run;
 use crate::{Schedule, TextFault};
 use pp_command::Tested;
-use pp_condition::steps_until;
 use pp_deck::Deck;
 use pp_machine::Profile;
-use pp_run::Order;
 use pp_test::{lines_to_judge, text_of_every_order, write_verdict};
 use pp_text::write_whole;
 use std::alloc::Allocator;
@@ -108,22 +106,4 @@ fn write_test_of_run<A: Allocator + Copy, W: Write>(
         true => Ok(()),
         false => Err(TextFault::Findings),
     }
-}
-
-/// How many turns a run has, which goes on until then.
-fn turns_of_run<A: Allocator + Copy>(
-    alloc: A,
-    loaded: &Deck<A>,
-    schedule: &Schedule,
-    turns: u32,
-) -> Result<u32, TextFault>
-    ensures ok { IfOk result (HasTurns schedule.now.first.now schedule.now.until turns
-        (record { machine = loaded.now.machine; named = loaded.now.named })) }
-    ensures fault { IfErr result (λ fault. fault ≡ Memory) }
-{
-    let Some(until) = &schedule.until else {
-        return Ok(turns);
-    };
-    let order = Order::of_run(alloc, schedule.first, loaded.machine.profile(), turns)?;
-    Ok(steps_until(alloc, &loaded.machine, &order, until)?)
 }

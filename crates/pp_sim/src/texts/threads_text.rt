@@ -7,6 +7,7 @@ ghost use Rattle.pp_sim.specs.ThreadsText.{IsThreadsText};
 use crate::TextFault;
 use crate::deck_bytes::DeckBytes;
 use crate::streams::read_front;
+use crate::texts::answer_to_report;
 use pp_deck::Deck;
 use pp_machine::Profile;
 use pp_report::{headline_law, write_report};
@@ -66,5 +67,5 @@ fn write_threads<
     let Ok(report) = run_threads(rt, alloc, &loaded.machine, limits, gate) else {
         return Err(TextFault::Memory);
     };
-    Ok(write_report(alloc, writer, &report, &loaded.named)?)
+    answer_to_report(write_report(alloc, writer, &report, &loaded.named))
 }

@@ -1,5 +1,4 @@
 use Rattle.std.proofs.Common.{Bool, List, ℕ, ap, ◌∙◌}
-use Rattle.std.proofs.lemmas.Result.{err_from_is_err_and}
 use Rattle.pp_machine.specs.MachineState.{MachineState}
 use Rattle.pp_machine.specs.Run.{barrel, run}
 use Rattle.pp_deck.specs.InUse.{in_use}
@@ -16,31 +15,7 @@ returns g c = λ profile bytes meant same.
     let turns = c.args.turns in
     let ending = c.in_ok-ending.ending in
     let loops = c.in_ok-loops.loops in
-    (rw c.in_ok-write_ends.was at (answers_written profile NothingPrevents (IsEndsText turns) bytes _ c.write_ends.result _ _
-    (record {
-      deck = _;
-      meant = meant;
-      is = record {
-        ending = ending;
-        loops = loops;
-        ends = c.in_ok-ending.ensures;
-        looped = c.in_ok-loops.ensures;
-        text_is = ap (λ (flags : List Bool). ends_text flags ending turns c.run_barrel.new.self loops) c.in_use-shown.ensures
-            ∙ ap (λ (m : MachineState). ends_text shown ending turns m loops) c.in_ok-run_barrel.ensures.run.ran
-            ∙ ap (λ (t : ℕ). ends_text shown ending turns (run (barrel load.profile t) load) loops) c.turn.ensures;
-      };
-    })
-    c.write_ends.ensures))
-
-pub returns-in_err-write_ends : goal.returns-in_err-write_ends
-returns-in_err-write_ends g c = λ profile bytes meant same.
-    let p = err_from_is_err_and c.from_residual-in_err-write_ends.result c.from_residual-in_err-write_ends.ensures.1 in
-    let load = c.args.loaded.now.machine in
-    let shown = in_use (record { machine = load; named = c.args.loaded.now.named }) in
-    let turns = c.args.turns in
-    let ending = c.in_ok-ending.ending in
-    let loops = c.in_ok-loops.loops in
-    rw (p.1, p.2) (rw c.in_err-write_ends.was at (answers_written profile NothingPrevents (IsEndsText turns) bytes _ c.write_ends.result _ _
+    (rw c.answer_to.ensures (answers_written profile NothingPrevents (IsEndsText turns) bytes _ c.write_ends.result _ _
     (record {
       deck = _;
       meant = meant;

@@ -1,5 +1,4 @@
 use Rattle.std.proofs.Common.{◌≡◌, List, [], ℕ, ap, ◌∙◌, subst, true}
-use Rattle.std.proofs.lemmas.Result.{err_from_is_err_and}
 use Rattle.std.specs.List.{list_all}
 use Rattle.pp_sim.proofs.AnswerLemmas.{answers_reported}
 use Rattle.pp_sim.proofs.texts.write_raced.Goals as goal
@@ -14,20 +13,7 @@ pub returns : goal.returns
 returns g c = λ profile bytes meant same.
     let m = c.args.loaded.now.machine in
     let order : c.in_ok-order.order ≡ run_order c.args.first.now m.profile c.args.turns = c.in_ok-order.ensures ∙ ap (λ p. run_order c.args.first.now p c.args.turns) c.profile.ensures in
-    (rw c.in_ok-write_races.was at (answers_reported profile (IsRacesText c.args.first.now c.args.turns) bytes _ c.write_races.result _ _
-    (λ some. record {
-      deck = _;
-      meant = meant;
-      is = record { text_is = ap (λ ns. races_text ns m) order; machine = c.is_sound.ensures; same = subst (λ (ns : List ℕ). findings ns m ≡ [] → IsDeterminate ns m) order (c.write_races.ensures.same some); no_race = subst (λ (ns : List ℕ). list_all is_going_on (findings ns m) ≡ true → IsRaceFreeSoFar ns m) order (c.write_races.ensures.no_race some) };
-    })
-    c.write_races.ensures.written))
-
-pub returns-in_err-write_races : goal.returns-in_err-write_races
-returns-in_err-write_races g c = λ profile bytes meant same.
-    let p = err_from_is_err_and c.from_residual-in_err-write_races.result c.from_residual-in_err-write_races.ensures.1 in
-    let m = c.args.loaded.now.machine in
-    let order : c.in_ok-order.order ≡ run_order c.args.first.now m.profile c.args.turns = c.in_ok-order.ensures ∙ ap (λ p. run_order c.args.first.now p c.args.turns) c.profile.ensures in
-    rw (p.1, p.2) (rw c.in_err-write_races.was at (answers_reported profile (IsRacesText c.args.first.now c.args.turns) bytes _ c.write_races.result _ _
+    (rw c.answer_to_report.ensures (answers_reported profile (IsRacesText c.args.first.now c.args.turns) bytes _ c.write_races.result _ _
     (λ some. record {
       deck = _;
       meant = meant;

@@ -1,5 +1,4 @@
 use Rattle.std.proofs.Common.{Bool, List, ap, ◌∙◌}
-use Rattle.std.proofs.lemmas.Result.{err_from_is_err_and}
 use Rattle.pp_deck.specs.InUse.{in_use}
 use Rattle.pp_machine.specs.MachineState.{MachineState}
 use Rattle.pp_machine.specs.Run.{run, run_order}
@@ -20,21 +19,5 @@ returns g c = λ profile bytes meant same.
     ap (λ (flags : List Bool). sessions_text words flags after ok.counts) c.in_use-shown.ensures
     ∙ ap (λ (m : MachineState). sessions_text words shown m ok.counts) ok.ensures.run
     ∙ ap (λ (counts : List StepCounts). sessions_text words shown (run (run_order c.args.first.now before.profile turns) before) counts) ok.ensures.counts in
-    (rw c.in_ok-write_sessions.was at (answers_after profile c.args.first.now turns (sessions_after words) bytes _ _ after c.write_sessions.result _ _
-    meant ok.ensures.run ok.ensures.headline told c.write_sessions.ensures))
-
-pub returns-in_err-write_sessions : goal.returns-in_err-write_sessions
-returns-in_err-write_sessions g c = λ profile bytes meant same.
-    let p = err_from_is_err_and c.from_residual-in_err-write_sessions.result c.from_residual-in_err-write_sessions.ensures.1 in
-    let words = c.args.words in
-    let turns = c.args.turns in
-    let before = c.args.loaded.now.machine in
-    let shown = in_use (record { machine = before; named = c.args.loaded.now.named }) in
-    let after = c.counts_of_run.new.machine in
-    let ok = c.in_ok-counts in
-    let told =
-    ap (λ (flags : List Bool). sessions_text words flags after ok.counts) c.in_use-shown.ensures
-    ∙ ap (λ (m : MachineState). sessions_text words shown m ok.counts) ok.ensures.run
-    ∙ ap (λ (counts : List StepCounts). sessions_text words shown (run (run_order c.args.first.now before.profile turns) before) counts) ok.ensures.counts in
-    rw (p.1, p.2) (rw c.in_err-write_sessions.was at (answers_after profile c.args.first.now turns (sessions_after words) bytes _ _ after c.write_sessions.result _ _
+    (rw c.answer_to.ensures (answers_after profile c.args.first.now turns (sessions_after words) bytes _ _ after c.write_sessions.result _ _
     meant ok.ensures.run ok.ensures.headline told c.write_sessions.ensures))

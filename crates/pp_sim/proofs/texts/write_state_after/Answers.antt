@@ -1,5 +1,4 @@
 use Rattle.std.proofs.Common.{Bool, List, ap, ◌∙◌}
-use Rattle.std.proofs.lemmas.Result.{err_from_is_err_and}
 use Rattle.pp_machine.specs.MachineState.{MachineState}
 use Rattle.pp_machine.specs.Run.{run, run_order}
 use Rattle.pp_deck.specs.InUse.{in_use}
@@ -19,20 +18,5 @@ returns g c = λ profile bytes meant same.
     ap (λ (flags : List Bool). state_text flags before after ok.counts) c.in_use-shown.ensures
     ∙ ap (λ (m : MachineState). state_text shown before m ok.counts) ok.ensures.run
     ∙ ap (λ (counts : List StepCounts). state_text shown before (run (run_order c.args.first.now before.profile turns) before) counts) ok.ensures.counts in
-    (rw c.in_ok-write_state.was at (answers_after profile c.args.first.now turns state_after bytes _ _ after c.write_state.result _ _
-    meant ok.ensures.run ok.ensures.headline told (c.write_state.ensures before c.in_ok-before.ensures)))
-
-pub returns-in_err-write_state : goal.returns-in_err-write_state
-returns-in_err-write_state g c = λ profile bytes meant same.
-    let p = err_from_is_err_and c.from_residual-in_err-write_state.result c.from_residual-in_err-write_state.ensures.1 in
-    let turns = c.args.turns in
-    let before = c.args.loaded.now.machine in
-    let shown = in_use (record { machine = before; named = c.args.loaded.now.named }) in
-    let after = c.counts_of_run.new.machine in
-    let ok = c.in_ok-counts in
-    let told =
-    ap (λ (flags : List Bool). state_text flags before after ok.counts) c.in_use-shown.ensures
-    ∙ ap (λ (m : MachineState). state_text shown before m ok.counts) ok.ensures.run
-    ∙ ap (λ (counts : List StepCounts). state_text shown before (run (run_order c.args.first.now before.profile turns) before) counts) ok.ensures.counts in
-    rw (p.1, p.2) (rw c.in_err-write_state.was at (answers_after profile c.args.first.now turns state_after bytes _ _ after c.write_state.result _ _
+    (rw c.answer_to.ensures (answers_after profile c.args.first.now turns state_after bytes _ _ after c.write_state.result _ _
     meant ok.ensures.run ok.ensures.headline told (c.write_state.ensures before c.in_ok-before.ensures)))

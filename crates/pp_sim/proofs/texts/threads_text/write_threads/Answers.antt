@@ -1,5 +1,4 @@
 use Rattle.std.proofs.Common.{refl}
-use Rattle.std.proofs.lemmas.Result.{err_from_is_err_and}
 use Rattle.pp_sim.proofs.AnswerLemmas.{answers_reported}
 use Rattle.pp_sim.proofs.texts.threads_text.write_threads.Goals as goal
 use Rattle.pp_sim.specs.ThreadsText.{IsThreadsText}
@@ -24,25 +23,7 @@ run_threads-requires-sync-G g c κs within = c.type_bounds.sync-G
 
 pub returns : goal.returns
 returns g c = λ profile bytes meant same.
-    (rw c.in_ok-write_report.was at (answers_reported profile (IsThreadsText _ c.args.limits) bytes _ c.write_report.result _ _
-    (λ some. record {
-      deck = _;
-      meant = meant;
-      is = record {
-        report = _;
-        named = c.requires.names;
-        run = c.in-Ok.ensures;
-        headline = (c.headline_law.ensures _ _ _ meant).threads _ _ c.in-Ok.ensures;
-        text_is = refl;
-        fits = c.write_report.ensures.fits some;
-      };
-    })
-    c.write_report.ensures.written))
-
-pub returns-in_err-write_report : goal.returns-in_err-write_report
-returns-in_err-write_report g c = λ profile bytes meant same.
-    let p = err_from_is_err_and c.from_residual.result c.from_residual.ensures.1 in
-    rw (p.1, p.2) (rw c.in_err-write_report.was at (answers_reported profile (IsThreadsText _ c.args.limits) bytes _ c.write_report.result _ _
+    (rw c.answer_to_report.ensures (answers_reported profile (IsThreadsText _ c.args.limits) bytes _ c.write_report.result _ _
     (λ some. record {
       deck = _;
       meant = meant;
