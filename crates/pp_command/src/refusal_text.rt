@@ -24,45 +24,63 @@ pub(crate) fn command_refusal<'a, A: Allocator + Copy>(
     let why = why_refused(given, form.options, words.get(place..).unwrap_or(&[]));
     let mut used = used_options(alloc, given, why, words, place)?;
     let mut text = String::from_str(alloc, "error: ")?;
+    push_why(alloc, &mut text, form, given, why, &mut used)?;
+    if !matches!(why, Why::NoValue(_)) {
+        text.push_str("\n\n")?;
+        push_usage(&mut text, form, used.as_slice())?;
+    }
+    text.push_str(TRY_HELP)?;
+    Ok(text)
+}
+
+/// Says why a word of a command is refused, and adds to the options that the usage names.
+fn push_why<'a, A: Allocator + Copy>(
+    alloc: A,
+    text: &mut String<A>,
+    form: &'static CommandForm,
+    given: &CallWords<'a, A>,
+    why: Why<'a>,
+    used: &mut Vec<&'static str, A>,
+) -> Result<(), AllocError> {
     match why {
-        Why::Unknown(name) => push_unknown(alloc, &mut text, form, name, &mut used)?,
+        Why::Unknown(name) => push_unknown(alloc, text, form, name, used),
         Why::UnknownLetter(letter) => write!(
             text,
             "unexpected argument '-{letter}' found\n\n  \
              tip: to pass '-{letter}' as a value, use '-- -{letter}'"
-        )?,
+        ),
         Why::Value(option, value) => write!(
             text,
             "unexpected value '{value}' for '{option}' found; no more were expected"
-        )?,
-        Why::NoValue(option) => {
-            write!(
-                text,
-                "a value is required for '{option}' but none was supplied{TRY_HELP}"
-            )?;
-            return Ok(text);
-        }
-        Why::Twice(option) => {
-            write!(
-                text,
-                "the argument '{option}' cannot be used multiple times"
-            )?;
-        }
-        Why::Surplus(word) => write!(text, "unexpected argument '{word}' found")?,
-        Why::Missing => {
-            text.push_str("the following required arguments were not provided:")?;
-            for option in form.options {
-                if option.required && given.given(option.name).is_none() {
-                    write!(text, "\n  {option}")?;
-                    used.push(option.name)?;
-                }
-            }
+        ),
+        Why::NoValue(option) => write!(
+            text,
+            "a value is required for '{option}' but none was supplied"
+        ),
+        Why::Twice(option) => write!(
+            text,
+            "the argument '{option}' cannot be used multiple times"
+        ),
+        Why::Surplus(word) => write!(text, "unexpected argument '{word}' found"),
+        Why::Missing => push_missing(text, form, given, used),
+    }
+}
+
+/// Says which options a command needs that are not given.
+fn push_missing<A: Allocator>(
+    text: &mut String<A>,
+    form: &'static CommandForm,
+    given: &CallWords<'_, A>,
+    used: &mut Vec<&'static str, A>,
+) -> Result<(), AllocError> {
+    text.push_str("the following required arguments were not provided:")?;
+    for option in form.options {
+        if option.required && given.given(option.name).is_none() {
+            write!(text, "\n  {option}")?;
+            used.push(option.name)?;
         }
     }
-    text.push_str("\n\n")?;
-    push_usage(&mut text, form, used.as_slice())?;
-    text.push_str(TRY_HELP)?;
-    Ok(text)
+    Ok(())
 }
 
 /// Says that a command has no option of this name, and which one is like it.
