@@ -136,32 +136,55 @@ pub(crate) fn program_refusal<A: Allocator + Copy>(
     words: &[&str],
 ) -> Result<String<A>, AllocError> {
     let mut text = String::from_str(alloc, "error: ")?;
-    let mut used = None;
-    match (words.first().copied(), words.get(1).copied()) {
-        (Some("--"), Some(word)) if is_topic(word) => write!(
-            text,
-            "unexpected argument '{word}' found\n\n  \
-             tip: subcommand '{word}' exists; to use it, remove the '--' before it"
-        )?,
-        (Some("--"), Some(word)) => push_unknown_command(alloc, &mut text, word)?,
-        (Some("--"), None) | (None, _) => {
-            text.push_str(
-                "'ppsim' requires a subcommand but one was not provided\n  [subcommands: ",
-            )?;
-            for help in &commands() {
-                write!(text, "{}, ", help.form.name)?;
-            }
-            text.push_str("help]")?;
-        }
-        (Some(word), _) if is_plain(word) => push_unknown_command(alloc, &mut text, word)?,
-        (Some(word), _) => used = push_unknown_request(alloc, &mut text, word, words)?,
-    }
+    let used = push_program_fault(alloc, &mut text, words)?;
     text.push_str("\n\nUsage: ppsim ")?;
     if let Some(name) = used {
         write!(text, "--{name} ")?;
     }
     write!(text, "<COMMAND>{TRY_HELP}")?;
     Ok(text)
+}
+
+/// Says what is wrong with words that begin with no command, and ask for nothing; returns the
+/// option for the usage to name.
+fn push_program_fault<'a, A: Allocator + Copy>(
+    alloc: A,
+    text: &mut String<A>,
+    words: &[&'a str],
+) -> Result<Option<&'a str>, AllocError> {
+    match words.first().copied() {
+        None => push_no_command(text)?,
+        Some("--") => push_ended_options(alloc, text, words.get(1).copied())?,
+        Some(word) if is_plain(word) => push_unknown_command(alloc, text, word)?,
+        Some(word) => return push_unknown_request(alloc, text, word, words),
+    }
+    Ok(None)
+}
+
+/// Says what is wrong with words that begin with `--`, of which this one is the next.
+fn push_ended_options<A: Allocator + Copy>(
+    alloc: A,
+    text: &mut String<A>,
+    next: Option<&str>,
+) -> Result<(), AllocError> {
+    match next {
+        Some(word) if is_topic(word) => write!(
+            text,
+            "unexpected argument '{word}' found\n\n  \
+             tip: subcommand '{word}' exists; to use it, remove the '--' before it"
+        ),
+        Some(word) => push_unknown_command(alloc, text, word),
+        None => push_no_command(text),
+    }
+}
+
+/// Says that no command is given, and which there are.
+fn push_no_command<A: Allocator>(text: &mut String<A>) -> Result<(), AllocError> {
+    text.push_str("'ppsim' requires a subcommand but one was not provided\n  [subcommands: ")?;
+    for help in &commands() {
+        write!(text, "{}, ", help.form.name)?;
+    }
+    text.push_str("help]")
 }
 
 /// Says that there is no such command, and which are like it.
@@ -204,20 +227,42 @@ fn push_unknown_request<'a, A: Allocator + Copy>(
         )?;
         return Ok(Some(name));
     }
+    push_unknown_option(alloc, text, name, words)
+}
+
+/// Says that the program takes no option of this name before a command, and which one is like it;
+/// returns the one for the usage to name.
+fn push_unknown_option<'a, A: Allocator + Copy>(
+    alloc: A,
+    text: &mut String<A>,
+    name: &str,
+    words: &[&str],
+) -> Result<Option<&'a str>, AllocError> {
     write!(text, "unexpected argument '--{name}' found")?;
-    if let Some(similar) = similar_option(alloc, name, &[], &["help", "version"])? {
-        write!(text, "\n\n  tip: a similar argument exists: '--{similar}'")?;
-        return Ok(Some(similar));
+    let similar = similar_option(alloc, name, &[], &["help", "version"])?;
+    match similar {
+        Some(similar) => write!(text, "\n\n  tip: a similar argument exists: '--{similar}'")?,
+        None => push_similar_of_commands(alloc, text, name, words)?,
     }
+    Ok(similar)
+}
+
+/// Says which option of a command among these words is like this name.
+fn push_similar_of_commands<A: Allocator + Copy>(
+    alloc: A,
+    text: &mut String<A>,
+    name: &str,
+    words: &[&str],
+) -> Result<(), AllocError> {
     for word in words {
-        if let Some(help) = command_named(word) {
-            if let Some(option) = similar_option(alloc, name, help.form.options, &[])? {
-                write!(text, "\n\n  tip: '{word} --{option}' exists")?;
-                break;
-            }
+        let Some(help) = command_named(word) else {
+            continue;
+        };
+        if let Some(option) = similar_option(alloc, name, help.form.options, &[])? {
+            return write!(text, "\n\n  tip: '{word} --{option}' exists");
         }
     }
-    Ok(None)
+    Ok(())
 }
 
 /// What is said of words after `help`, of which one is no topic.
@@ -232,13 +277,20 @@ pub(crate) fn topic_refusal<A: Allocator>(
         return format!(in alloc; "{said} '{after}'\n\n{HELP_USAGE}\n");
     }
     let mut text = String::from_str(alloc, "error: unrecognized subcommand '")?;
-    match command_named(topic) {
-        Some(help) => {
-            write!(text, "{after}'\n\n")?;
-            push_usage(&mut text, help.form, &[])?;
-        }
-        None => write!(text, "{topic}'\n\nUsage: ppsim <COMMAND>")?,
-    }
-    text.push_str(TRY_HELP)?;
+    push_no_topic(&mut text, topic, after)?;
     Ok(text)
+}
+
+/// Says which of two words after `help` is no topic, and how to call what has the help.
+fn push_no_topic<A: Allocator>(
+    text: &mut String<A>,
+    topic: &str,
+    after: &str,
+) -> Result<(), AllocError> {
+    let Some(help) = command_named(topic) else {
+        return write!(text, "{topic}'\n\nUsage: ppsim <COMMAND>{TRY_HELP}");
+    };
+    write!(text, "{after}'\n\n")?;
+    push_usage(text, help.form, &[])?;
+    text.push_str(TRY_HELP)
 }
