@@ -46,16 +46,21 @@ pub(crate) fn program_help<A: Allocator + Copy>(
     is_long: bool,
 ) -> Result<String<A>, AllocError> {
     let mut text = format!(in alloc; "{ABOUT}\n\nUsage: ppsim <COMMAND>\n\nCommands:\n")?;
+    push_commands(alloc, &mut text)?;
+    let requests = [help_option(is_long), VERSION_OPTION];
+    push_options(alloc, &mut text, &[], &requests, is_long)?;
+    write!(text, "{}\n", if is_long { MANUAL } else { EXAMPLE })?;
+    Ok(text)
+}
+
+/// Adds the list of the commands, with `help` last.
+fn push_commands<A: Allocator + Copy>(alloc: A, text: &mut String<A>) -> Result<(), AllocError> {
     let mut items = Vec::new(alloc);
     for help in &commands() {
         items.push((format!(in alloc; "  {}", help.form.name)?, help.form.about))?;
     }
     items.push((String::from_str(alloc, "  help")?, HELP_ABOUT))?;
-    push_list(&mut text, items.as_slice(), false)?;
-    let requests = [help_option(is_long), VERSION_OPTION];
-    push_options(alloc, &mut text, &[], &requests, is_long)?;
-    write!(text, "{}\n", if is_long { MANUAL } else { EXAMPLE })?;
-    Ok(text)
+    push_list(text, items.as_slice(), false)
 }
 
 pub(crate) fn command_help<A: Allocator + Copy>(
@@ -67,10 +72,7 @@ pub(crate) fn command_help<A: Allocator + Copy>(
     let about = if is_long { help.long_about } else { form.about };
     let mut text = format!(in alloc; "{about}\n\n")?;
     push_usage(&mut text, form, &[])?;
-    text.push_str("\n\nArguments:\n")?;
-    let mut arguments = Vec::new(alloc);
-    arguments.push((String::from_str(alloc, "  [FILE]")?, FILE_HELP))?;
-    push_list(&mut text, arguments.as_slice(), is_long)?;
+    push_arguments(alloc, &mut text, is_long)?;
     push_options(
         alloc,
         &mut text,
@@ -80,6 +82,18 @@ pub(crate) fn command_help<A: Allocator + Copy>(
     )?;
     write!(text, "{}\n", form.example)?;
     Ok(text)
+}
+
+/// Adds the list of what a command takes beside its options: a file.
+fn push_arguments<A: Allocator + Copy>(
+    alloc: A,
+    text: &mut String<A>,
+    is_long: bool,
+) -> Result<(), AllocError> {
+    text.push_str("\n\nArguments:\n")?;
+    let mut arguments = Vec::new(alloc);
+    arguments.push((String::from_str(alloc, "  [FILE]")?, FILE_HELP))?;
+    push_list(text, arguments.as_slice(), is_long)
 }
 
 /// Adds options, with the requests last.
@@ -93,14 +107,19 @@ fn push_options<A: Allocator + Copy>(
     text.push_str("Options:\n")?;
     let mut items = Vec::new(alloc);
     for option in options.iter().chain(requests) {
-        let letter = match option.name {
-            "help" => "  -h, ",
-            "version" => "  -V, ",
-            _ => "      ",
-        };
-        items.push((format!(in alloc; "{letter}{option}")?, option.help()))?;
+        items.push((listed_option(alloc, option)?, option.help()))?;
     }
     push_list(text, items.as_slice(), is_long)
+}
+
+/// An option as a list has it: behind the letter that stands for it, if there is one.
+fn listed_option<A: Allocator>(alloc: A, option: &OptionForm) -> Result<String<A>, AllocError> {
+    let letter = match option.name {
+        "help" => "  -h, ",
+        "version" => "  -V, ",
+        _ => "      ",
+    };
+    format!(in alloc; "{letter}{option}")
 }
 
 /// Adds a list of items, each with its help behind it, or in long help on a line of its own.

@@ -215,8 +215,7 @@ fn push_unknown_request<'a, A: Allocator + Copy>(
     words: &[&str],
 ) -> Result<Option<&'a str>, AllocError> {
     let Some((name, value)) = long_of(word) else {
-        let letter = word.chars().nth(1).unwrap_or('-');
-        write!(text, "unexpected argument '-{letter}' found")?;
+        push_unknown_letter(text, word)?;
         return Ok(None);
     };
     if name == "help" || name == "version" {
@@ -228,6 +227,12 @@ fn push_unknown_request<'a, A: Allocator + Copy>(
         return Ok(Some(name));
     }
     push_unknown_option(alloc, text, name, words)
+}
+
+/// Says that the program takes no option of this word's letter before a command.
+fn push_unknown_letter<A: Allocator>(text: &mut String<A>, word: &str) -> Result<(), AllocError> {
+    let letter = word.chars().nth(1).unwrap_or('-');
+    write!(text, "unexpected argument '-{letter}' found")
 }
 
 /// Says that the program takes no option of this name before a command, and which one is like it;
