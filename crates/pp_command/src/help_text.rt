@@ -45,22 +45,12 @@ pub(crate) fn program_help<A: Allocator + Copy>(
     alloc: A,
     is_long: bool,
 ) -> Result<String<A>, AllocError> {
-    let mut text = format!(in alloc; "{ABOUT}\n\nUsage: ppsim <COMMAND>\n\nCommands:\n")?;
+    let mut text = format!(in alloc; "{ABOUT}\n\nUsage: ppsim <COMMAND>\n\n")?;
     push_commands(alloc, &mut text)?;
     let requests = [help_option(is_long), VERSION_OPTION];
     push_options(alloc, &mut text, &[], &requests, is_long)?;
     write!(text, "{}\n", if is_long { MANUAL } else { EXAMPLE })?;
     Ok(text)
-}
-
-/// Adds the list of the commands, with `help` last.
-fn push_commands<A: Allocator + Copy>(alloc: A, text: &mut String<A>) -> Result<(), AllocError> {
-    let mut items = Vec::new(alloc);
-    for help in &commands() {
-        items.push((format!(in alloc; "  {}", help.form.name)?, help.form.about))?;
-    }
-    items.push((String::from_str(alloc, "  help")?, HELP_ABOUT))?;
-    push_list(text, items.as_slice(), false)
 }
 
 pub(crate) fn command_help<A: Allocator + Copy>(
@@ -70,30 +60,34 @@ pub(crate) fn command_help<A: Allocator + Copy>(
 ) -> Result<String<A>, AllocError> {
     let form = help.form;
     let about = if is_long { help.long_about } else { form.about };
-    let mut text = format!(in alloc; "{about}\n\n")?;
+    let mut text = String::from_str(alloc, about)?;
     push_usage(&mut text, form, &[])?;
     push_arguments(alloc, &mut text, is_long)?;
-    push_options(
-        alloc,
-        &mut text,
-        form.options,
-        &[help_option(is_long)],
-        is_long,
-    )?;
+    let requests = [help_option(is_long)];
+    push_options(alloc, &mut text, form.options, &requests, is_long)?;
     write!(text, "{}\n", form.example)?;
     Ok(text)
 }
 
-/// Adds the list of what a command takes beside its options: a file.
+/// Adds the commands, with `help` last.
+fn push_commands<A: Allocator + Copy>(alloc: A, text: &mut String<A>) -> Result<(), AllocError> {
+    let mut items = Vec::new(alloc);
+    for help in &commands() {
+        add_item(alloc, &mut items, help.form.name, help.form.about)?;
+    }
+    add_item(alloc, &mut items, "help", HELP_ABOUT)?;
+    push_list(text, "Commands", items.as_slice(), false)
+}
+
+/// Adds what a command takes beside its options: a file.
 fn push_arguments<A: Allocator + Copy>(
     alloc: A,
     text: &mut String<A>,
     is_long: bool,
 ) -> Result<(), AllocError> {
-    text.push_str("\n\nArguments:\n")?;
-    let mut arguments = Vec::new(alloc);
-    arguments.push((String::from_str(alloc, "  [FILE]")?, FILE_HELP))?;
-    push_list(text, arguments.as_slice(), is_long)
+    let mut items = Vec::new(alloc);
+    add_item(alloc, &mut items, "[FILE]", FILE_HELP)?;
+    push_list(text, "Arguments", items.as_slice(), is_long)
 }
 
 /// Adds options, with the requests last.
@@ -104,30 +98,48 @@ fn push_options<A: Allocator + Copy>(
     requests: &[OptionForm],
     is_long: bool,
 ) -> Result<(), AllocError> {
-    text.push_str("Options:\n")?;
     let mut items = Vec::new(alloc);
     for option in options.iter().chain(requests) {
-        items.push((listed_option(alloc, option)?, option.help()))?;
+        add_option(alloc, &mut items, option)?;
     }
-    push_list(text, items.as_slice(), is_long)
+    push_list(text, "Options", items.as_slice(), is_long)
 }
 
-/// An option as a list has it: behind the letter that stands for it, if there is one.
-fn listed_option<A: Allocator>(alloc: A, option: &OptionForm) -> Result<String<A>, AllocError> {
+/// Puts a name with its help behind the items of a list.
+fn add_item<A: Allocator>(
+    alloc: A,
+    items: &mut Vec<(String<A>, &'static str), A>,
+    name: &str,
+    help: &'static str,
+) -> Result<(), AllocError> {
+    items.push((format!(in alloc; "  {name}")?, help))?;
+    Ok(())
+}
+
+/// Puts an option behind the items of a list, after its letter if it has one.
+fn add_option<A: Allocator>(
+    alloc: A,
+    items: &mut Vec<(String<A>, &'static str), A>,
+    option: &OptionForm,
+) -> Result<(), AllocError> {
     let letter = match option.name {
         "help" => "  -h, ",
         "version" => "  -V, ",
         _ => "      ",
     };
-    format!(in alloc; "{letter}{option}")
+    items.push((format!(in alloc; "{letter}{option}")?, option.help()))?;
+    Ok(())
 }
 
-/// Adds a list of items, each with its help behind it, or in long help on a line of its own.
+/// Adds a list under its title: items, each with its help behind it, or in long help on a line of
+/// its own.
 fn push_list<A: Allocator>(
     text: &mut String<A>,
+    title: &str,
     items: &[(String<A>, &str)],
     is_long: bool,
 ) -> Result<(), AllocError> {
+    write!(text, "{title}:\n")?;
     let mut widest = 0;
     for (item, _) in items {
         widest = widest.max(item.len());

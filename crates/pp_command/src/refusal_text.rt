@@ -10,7 +10,7 @@ use crate::usage::push_usage;
 use crate::why::{Why, is_plain, why_refused};
 use std::alloc::{AllocError, Allocator};
 
-const TRY_HELP: &str = "\n\nFor more information, try '--help'.\n";
+const TRY_HELP: &str = "For more information, try '--help'.\n";
 
 /// What is said of the words after a command's name, of which the one at this place is refused
 /// after what was given, or of which too few are there.
@@ -25,9 +25,9 @@ pub(crate) fn command_refusal<'a, A: Allocator + Copy>(
     let mut used = used_options(alloc, given, why, words, place)?;
     let mut text = String::from_str(alloc, "error: ")?;
     push_why(alloc, &mut text, form, given, why, &mut used)?;
-    if !matches!(why, Why::NoValue(_)) {
-        text.push_str("\n\n")?;
-        push_usage(&mut text, form, used.as_slice())?;
+    match why {
+        Why::NoValue(_) => text.push_str("\n\n")?,
+        _ => push_usage(&mut text, form, used.as_slice())?,
     }
     text.push_str(TRY_HELP)?;
     Ok(text)
@@ -137,12 +137,19 @@ pub(crate) fn program_refusal<A: Allocator + Copy>(
 ) -> Result<String<A>, AllocError> {
     let mut text = String::from_str(alloc, "error: ")?;
     let used = push_program_fault(alloc, &mut text, words)?;
-    text.push_str("\n\nUsage: ppsim ")?;
-    if let Some(name) = used {
-        write!(text, "--{name} ")?;
-    }
-    write!(text, "<COMMAND>{TRY_HELP}")?;
+    push_program_usage(&mut text, used)?;
     Ok(text)
+}
+
+/// Adds how to call the program, with this option before the command, and who says more.
+fn push_program_usage<A: Allocator>(
+    text: &mut String<A>,
+    used: Option<&str>,
+) -> Result<(), AllocError> {
+    match used {
+        Some(name) => write!(text, "\n\nUsage: ppsim --{name} <COMMAND>\n\n{TRY_HELP}"),
+        None => write!(text, "\n\nUsage: ppsim <COMMAND>\n\n{TRY_HELP}"),
+    }
 }
 
 /// Says what is wrong with words that begin with no command, and ask for nothing; returns the
@@ -293,9 +300,9 @@ fn push_no_topic<A: Allocator>(
     after: &str,
 ) -> Result<(), AllocError> {
     let Some(help) = command_named(topic) else {
-        return write!(text, "{topic}'\n\nUsage: ppsim <COMMAND>{TRY_HELP}");
+        return write!(text, "{topic}'\n\nUsage: ppsim <COMMAND>\n\n{TRY_HELP}");
     };
-    write!(text, "{after}'\n\n")?;
+    write!(text, "{after}'")?;
     push_usage(text, help.form, &[])?;
     text.push_str(TRY_HELP)
 }

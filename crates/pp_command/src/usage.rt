@@ -26,22 +26,36 @@ impl OptionForm {
     }
 }
 
-/// Adds how to call a command: with what it needs, and the options among these names; with all it
-/// takes, if there are none.
+/// Adds a paragraph on how to call a command: with what it needs, and the options among these
+/// names; with all it takes, if there are none.
 pub(crate) fn push_usage<A: Allocator>(
     text: &mut String<A>,
     form: &'static CommandForm,
     used: &[&str],
 ) -> Result<(), AllocError> {
-    write!(text, "Usage: ppsim {}", form.name)?;
-    if used.is_empty() && form.options.iter().any(|option| !option.required) {
-        text.push_str(" [OPTIONS]")?;
-    }
+    let takes_more = used.is_empty() && form.options.iter().any(|option| !option.required);
+    let more = if takes_more { " [OPTIONS]" } else { "" };
+    write!(text, "\n\nUsage: ppsim {}{more}", form.name)?;
     for option in form.options {
         if option.required {
             write!(text, " {option}")?;
         }
     }
+    push_used(text, form, used)?;
+    let file = if used.contains(&"file") {
+        "<FILE>"
+    } else {
+        "[FILE]"
+    };
+    write!(text, " {file}\n\n")
+}
+
+/// Adds the options among these names that a command does not need, each once.
+fn push_used<A: Allocator>(
+    text: &mut String<A>,
+    form: &'static CommandForm,
+    used: &[&str],
+) -> Result<(), AllocError> {
     for (place, name) in used.iter().enumerate() {
         if used[..place].contains(name) {
             continue;
@@ -52,10 +66,5 @@ pub(crate) fn push_usage<A: Allocator>(
             _ => {}
         }
     }
-    let file = if used.contains(&"file") {
-        "<FILE>"
-    } else {
-        "[FILE]"
-    };
-    write!(text, " {file}")
+    Ok(())
 }
