@@ -203,12 +203,12 @@ fn push_unknown_command<A: Allocator + Copy>(
     write!(text, "unrecognized subcommand '{word}'")?;
     let similar = similar_commands(alloc, word)?;
     for (place, found) in similar.iter().enumerate() {
-        text.push_str(match (place, similar.len()) {
-            (0, 1) => "\n\n  tip: a similar subcommand exists: '",
-            (0, _) => "\n\n  tip: some similar subcommands exist: '",
-            _ => ", '",
-        })?;
-        write!(text, "{}'", found.1)?;
+        let before = match (place, similar.len()) {
+            (0, 1) => "\n\n  tip: a similar subcommand exists: ",
+            (0, _) => "\n\n  tip: some similar subcommands exist: ",
+            _ => ", ",
+        };
+        write!(text, "{before}'{}'", found.1)?;
     }
     Ok(())
 }
