@@ -107,19 +107,21 @@ fn used_options<'a, A: Allocator>(
     words: &[&'a str],
     place: usize,
 ) -> Result<Vec<&'static str, A>, AllocError> {
+    // A second value of an option takes away the first.
+    let taken_away = match (why, given.waiting) {
+        (Why::Unknown(_), Some(option)) if is_plain_at(words, place) => Some(option.name),
+        _ => None,
+    };
     let mut used = Vec::new(alloc);
     for pair in &given.values {
-        used.push(pair.0)?;
+        if taken_away != Some(pair.0) {
+            used.push(pair.0)?;
+        }
     }
     match why {
-        // A second value of an option takes away the first.
-        Why::Unknown(_) if words.get(place).is_some_and(|word| is_plain(word)) => {
-            used.retain(|name| given.waiting.map(|option| option.name) != Some(*name));
-        }
         // A value that is a word of its own counts once the next word has been read.
         Why::Value(option, _) => {
-            let word_before = place.checked_sub(1).and_then(|before| words.get(before));
-            if given.waiting.is_none() && word_before.is_some_and(|word| is_plain(word)) {
+            if given.waiting.is_none() && place > 0 && is_plain_at(words, place - 1) {
                 used.pop();
             }
             used.push(option.name)?;
@@ -128,6 +130,14 @@ fn used_options<'a, A: Allocator>(
         _ => used.clear(),
     }
     Ok(used)
+}
+
+/// Whether a word stands at this place that does not look like an option, and is not `--`.
+fn is_plain_at(words: &[&str], place: usize) -> bool {
+    match words.get(place) {
+        Some(word) => is_plain(word),
+        None => false,
+    }
 }
 
 /// What is said of words that begin with no command, and ask for nothing.
