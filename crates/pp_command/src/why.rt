@@ -55,9 +55,10 @@ pub(crate) fn why_refused<'a, A: Allocator>(
     words: &[&'a str],
 ) -> Why<'a> {
     let Some((word, rest)) = words.split_first() else {
-        return given
-            .waiting
-            .map_or(Why::Missing, |option| Why::NoValue(*option));
+        return match given.waiting {
+            Some(option) => Why::NoValue(*option),
+            None => Why::Missing,
+        };
     };
     if given.ended {
         return Why::Surplus(word);
@@ -72,9 +73,18 @@ pub(crate) fn why_refused<'a, A: Allocator>(
         Some(option) if *word == "--" => surplus_of(given, rest).unwrap_or(Why::NoValue(*option)),
         Some(option) => Why::NoValue(*option),
         None if is_plain(word) => Why::Surplus(word),
-        None => long_of(word)
-            .and_then(|parts| option_named(options, parts.0))
-            .map_or(Why::Missing, |option| Why::Twice(*option)),
+        None => why_again(options, word),
+    }
+}
+
+/// Why a word is refused that may be an option where none waits: it was given before, if it is one.
+fn why_again<'a>(options: &'static [OptionForm], word: &str) -> Why<'a> {
+    let Some((name, _)) = long_of(word) else {
+        return Why::Missing;
+    };
+    match option_named(options, name) {
+        Some(option) => Why::Twice(*option),
+        None => Why::Missing,
     }
 }
 
