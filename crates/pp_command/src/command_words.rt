@@ -106,8 +106,10 @@ pub(crate) fn asked_of<V: Values, A: Allocator>(
     let (Some(work), Some(until)) = (work_of(kind, values), until_of(values)) else {
         return Ok(None);
     };
-    let first = order_of(alloc, values)?;
-    Ok(first.map(|first| Asked { work, first, until }))
+    match order_of(alloc, values)? {
+        Some(first) => Ok(Some(Asked { work, first, until })),
+        None => Ok(None),
+    }
 }
 
 /// The file to read, if the word for it names one.
