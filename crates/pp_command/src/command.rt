@@ -1,7 +1,7 @@
 ghost use Rattle.std.specs.Prelude.{◌≡◌, false, map, IfOk};
 ghost use Rattle.clap.specs.Words.{app_of, rule_of};
 ghost use Rattle.clap.specs.declared.builder.command.Command.TheViews.{out-Command as fields_of};
-ghost use Rattle.pp_command.specs.CommandLine.{ReadsAlike, app_of_command, command_of_form, file_argument, rule_of_form, with_commands};
+ghost use Rattle.pp_command.specs.CommandLine.{ReadsAlike, app_of_command, bare, command_of_form, file_argument, rule_of_form, with_commands};
 
 use crate::call_words::command_named;
 use crate::command_kind::CommandKind;
@@ -109,17 +109,24 @@ fn with_commands<'a>(
     Ok(app)
 }
 
+/// The command line without its commands.
+fn without_commands<'a>(alloc: Global) -> Command<'a>
+    ensures { app_of result ≡ bare }
+{
+    Command::new(alloc, "ppsim")
+        .about(ABOUT)
+        .version(VERSION)
+        .after_help(EXAMPLE)
+        .after_long_help(MANUAL)
+        .subcommand_required(true)
+}
+
 /// The command line, for these words. If the first of them after the program's name is that of a
 /// command, it has this command alone: a parse looks at no other.
 pub(crate) fn command<'a>(alloc: Global, words: &[&str]) -> Result<Command<'a>, AllocError>
     ensures { IfOk result (λ c. ReadsAlike (map (λ s. s.now) words.now) (app_of c)) }
 {
-    let bare = Command::new(alloc, "ppsim")
-        .about(ABOUT)
-        .version(VERSION)
-        .after_help(EXAMPLE)
-        .after_long_help(MANUAL)
-        .subcommand_required(true);
+    let bare = without_commands(alloc);
     let Some(name) = words.get(1) else {
         return with_commands(alloc, bare, &commands());
     };
