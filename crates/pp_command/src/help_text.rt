@@ -79,7 +79,7 @@ fn push_commands<A: Allocator + Copy>(alloc: A, text: &mut String<A>) -> Result<
     push_list(text, "Commands", items.as_slice(), false)
 }
 
-/// Adds what a command takes beside its options: a file.
+/// Adds what a command takes besides its options: a file.
 fn push_arguments<A: Allocator + Copy>(
     alloc: A,
     text: &mut String<A>,
@@ -105,7 +105,7 @@ fn push_options<A: Allocator + Copy>(
     push_list(text, "Options", items.as_slice(), is_long)
 }
 
-/// Puts a name with its help behind the items of a list.
+/// Adds a name with its help to the items of a list.
 fn add_item<A: Allocator>(
     alloc: A,
     items: &mut Vec<(String<A>, &'static str), A>,
@@ -116,7 +116,7 @@ fn add_item<A: Allocator>(
     Ok(())
 }
 
-/// Puts an option behind the items of a list, after its letter if it has one.
+/// Adds an option to the items of a list, after its letter if it has one.
 fn add_option<A: Allocator>(
     alloc: A,
     items: &mut Vec<(String<A>, &'static str), A>,
@@ -131,7 +131,7 @@ fn add_option<A: Allocator>(
     Ok(())
 }
 
-/// Adds a list under its title: items, each with its help behind it, or in long help on a line of
+/// Adds a list under its title: items, each with its help after it, or in long help on a line of
 /// its own.
 fn push_list<A: Allocator>(
     text: &mut String<A>,

@@ -151,7 +151,7 @@ pub(crate) fn program_refusal<A: Allocator + Copy>(
     Ok(text)
 }
 
-/// Adds how to call the program, with this option before the command, and who says more.
+/// Adds how to call the program, with this option before the command.
 fn push_program_usage<A: Allocator>(
     text: &mut String<A>,
     used: Option<&str>,
