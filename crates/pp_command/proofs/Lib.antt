@@ -1,6 +1,4 @@
-mod CallLemmas
 mod CommandLemmas
-mod FindLemmas
 mod NamedCommands
 mod NumberListLemmas
 mod OrderListLemmas

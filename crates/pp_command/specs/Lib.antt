@@ -4,4 +4,3 @@ pub mod ProcessorList
 pub mod CommandLine
 pub mod OrderList
 pub mod TextOf
-pub mod CallWords

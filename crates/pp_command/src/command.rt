@@ -3,27 +3,50 @@ ghost use Rattle.clap.specs.Words.{app_of, rule_of};
 ghost use Rattle.clap.specs.declared.builder.command.Command.TheViews.{out-Command as fields_of};
 ghost use Rattle.pp_command.specs.CommandLine.{ReadsAlike, app_of_command, bare, command_of_form, file_argument, rule_of_form, with_commands};
 
-use crate::call_words::command_named;
 use crate::command_kind::CommandKind;
-use crate::commands::{ABOUT, EXAMPLE, FILE_HELP, MANUAL, commands};
+use crate::command_table::{ABOUT, EXAMPLE, FILE_HELP, MANUAL, command_named, commands};
 use crate::number_range::NumberRange;
 use clap::{Arg, ArgAction, Command};
 use std::alloc::{AllocError, Global};
+use std::fmt::{self, Display, Formatter, Write};
 
 /// The version of the program, and the toolchain with which it is proved and built.
-pub(crate) const VERSION: &str = "1.0 (rattle-kit-13f logic dac8208d650f15bf)";
+pub const VERSION: &str = "1.0 (rattle-kit-13f logic dac8208d650f15bf)";
 
+/// An option of a command.
 #[derive(Clone, Copy)]
-pub(crate) struct OptionForm {
-    pub(crate) name: &'static str,
+pub struct OptionForm {
+    pub name: &'static str,
     /// Whether its command needs it.
-    pub(crate) required: bool,
-    pub(crate) value: ValueForm,
+    pub required: bool,
+    pub value: ValueForm,
+}
+
+/// As it stands on a command line: `--turns <N>`.
+impl Display for OptionForm {
+    fn fmt<W: Write>(&self, f: &mut Formatter<W>) -> fmt::Result {
+        let name = self.name;
+        match self.value {
+            ValueForm::Flag(_) => write!(f, "--{name}"),
+            ValueForm::Number(_) => write!(f, "--{name} <N>"),
+            ValueForm::Text(value, _) => write!(f, "--{name} <{value}>"),
+        }
+    }
+}
+
+impl OptionForm {
+    /// What help says of it.
+    pub fn help(&self) -> &'static str {
+        match self.value {
+            ValueForm::Flag(help) | ValueForm::Text(_, help) => help,
+            ValueForm::Number(range) => range.help,
+        }
+    }
 }
 
 /// The value of an option, and the help of the option.
 #[derive(Clone, Copy)]
-pub(crate) enum ValueForm {
+pub enum ValueForm {
     /// No value.
     Flag(&'static str),
     Number(NumberRange),
@@ -33,23 +56,23 @@ pub(crate) enum ValueForm {
 
 /// A command with its short help and its options.
 #[derive(Clone, Copy)]
-pub(crate) struct CommandForm {
-    pub(crate) kind: CommandKind,
-    pub(crate) name: &'static str,
+pub struct CommandForm {
+    pub kind: CommandKind,
+    pub name: &'static str,
     /// Its line in the list of commands, with which its short help begins.
-    pub(crate) about: &'static str,
+    pub about: &'static str,
     /// The end of both helps.
-    pub(crate) example: &'static str,
-    pub(crate) options: &'static [OptionForm],
+    pub example: &'static str,
+    pub options: &'static [OptionForm],
 }
 
 /// A command with its help. The long text stands apart, as the prover takes longer over one within
 /// a static value.
 #[derive(Clone, Copy)]
-pub(crate) struct CommandHelp {
-    pub(crate) form: &'static CommandForm,
+pub struct CommandHelp {
+    pub form: &'static CommandForm,
     /// What its long help says in place of the line in the list.
-    pub(crate) long_about: &'static str,
+    pub long_about: &'static str,
 }
 
 fn option_of<'a>(alloc: Global, form: &OptionForm) -> Arg<'a>

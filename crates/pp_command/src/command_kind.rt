@@ -1,6 +1,6 @@
 /// What a command is for.
 #[derive(Clone, Copy)]
-pub(crate) enum CommandKind {
+pub enum CommandKind {
     Barrel,
     Threads,
     List,

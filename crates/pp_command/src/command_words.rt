@@ -3,9 +3,9 @@ ghost use Rattle.pp_command.specs.CommandLine.{AskFor, AsksForMore, Finds, IsAsk
 ghost use Rattle.pp_command.specs.declared.work.Work.{Work};
 ghost use Rattle.pp_condition.specs.declared.until.Until.{Until};
 
-use crate::call_words::command_named;
 use crate::command::command;
 use crate::command_kind::CommandKind;
+use crate::command_table::command_named;
 use crate::option_values::{
     channels_of, fits_a_picture, is_flagged, limits_of, number_of, order_of, profile_of, states_of,
     turns_of, until_of, window_of,
@@ -18,7 +18,7 @@ use pp_numbers::CHANNELS;
 use std::alloc::{AllocError, Allocator, Global};
 
 /// Whether a command asks for a picture of more turns than it has.
-pub(crate) fn asks_for_more<V: Values>(kind: CommandKind, values: &V) -> bool
+pub fn asks_for_more<V: Values>(kind: CommandKind, values: &V) -> bool
     ensures { IsTrue result ↔ AsksForMore kind (V.value values.now) }
 {
     match window_of(values) {
@@ -67,7 +67,7 @@ fn tested_of<V: Values>(values: &V) -> Option<Tested>
 }
 
 /// Whether a command is `test`, with options of none of its two forms.
-pub(crate) fn mixes_forms<V: Values>(kind: CommandKind, values: &V) -> bool
+pub fn mixes_forms<V: Values>(kind: CommandKind, values: &V) -> bool
     ensures { IsTrue result ↔ MixesForms kind (V.value values.now) }
 {
     matches!(kind, CommandKind::Test) && !is_of_a_run(values) && !is_of_every_order(values)
@@ -93,7 +93,7 @@ fn is_of_every_order<V: Values>(values: &V) -> bool
 }
 
 /// What a command asks for, if its numbers are in range.
-pub(crate) fn asked_of<V: Values, A: Allocator>(
+pub fn asked_of<V: Values, A: Allocator>(
     alloc: A,
     kind: CommandKind,
     values: &V,
@@ -113,7 +113,7 @@ pub(crate) fn asked_of<V: Values, A: Allocator>(
 }
 
 /// The file to read, if the word for it names one.
-pub(crate) fn named_file(word: Option<&str>) -> Option<&str>
+pub fn named_file(word: Option<&str>) -> Option<&str>
     ensures { ReadsFile (option_map (λ s. s.now) word.entry) (option_map (λ s. s.now) result) }
 {
     word.filter(|path| *path != "-")

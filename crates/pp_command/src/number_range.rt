@@ -2,10 +2,10 @@ ghost use Rattle.std.specs.Prelude.{◌≤◌, ◌↔◌, IsTrue};
 
 /// The numbers that an option takes, and the help that states them (decimal).
 #[derive(Clone, Copy)]
-pub(crate) struct NumberRange {
-    pub(crate) least: u32,
-    pub(crate) most: u32,
-    pub(crate) help: &'static str,
+pub struct NumberRange {
+    pub least: u32,
+    pub most: u32,
+    pub help: &'static str,
 }
 
 /// A range, and the help with the same numbers in it.

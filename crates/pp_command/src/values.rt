@@ -5,7 +5,7 @@ ghost use Rattle.pp_command.specs.CommandLine.{value_in};
 use clap::ArgMatches;
 
 /// What gives options their values.
-pub(crate) trait Values {
+pub trait Values {
     // the value of an option, if it has one
     ghost value: { Self → Text → Option Text };
 

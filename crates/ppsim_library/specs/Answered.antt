@@ -2,8 +2,9 @@
 use Rattle.std.specs.Prelude.{◌≡◌, ◌≤◌, ◌<◌, ℕ, ◌==◌, List, [], ◌∷◌, ◌++◌, codes, length, take, drop, min, Option, None, Some, Result, Ok, Err, ◌⊎◌}
 use Rattle.std.specs.List.{slice_split}
 use Rattle.std.specs.Str.{IsUtf8}
-use Rattle.pp_command.specs.CallWords.{CallFor, IsCallRefused}
-use Rattle.pp_command.specs.declared.{call_fault.CallFault.CallFault, work.Work.Work}
+use Rattle.pp_call.specs.CallWords.{CallFor, IsCallRefused}
+use Rattle.pp_call.specs.declared.call_fault.CallFault.{CallFault}
+use Rattle.pp_command.specs.declared.work.Work.{Work}
 use Rattle.pp_condition.specs.declared.until.Until.{Until}
 use Rattle.pp_sim.specs.FaultText.{fault_text}
 use Rattle.pp_sim.specs.Program.{IsDone, NeedsNoThreads}

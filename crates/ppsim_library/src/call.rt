@@ -6,7 +6,8 @@ ghost use Rattle.ppsim_library.specs.Answered.{Answers, IsAnswered, IsDeclinedFo
 use crate::answer::{
     Answer, answer_of, helped, not_text, refused, without_files, without_memory, without_threads,
 };
-use pp_command::{Asked, CallFault, read_call};
+use pp_call::{CallFault, read_call};
+use pp_command::Asked;
 use pp_sim::{Work, work_text};
 use std::alloc::{AllocError, Allocator};
 use std::str;

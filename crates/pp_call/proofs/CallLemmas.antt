@@ -1,0 +1,102 @@
+-- The options of a command, and the values given to them.
+use Rattle.std.proofs.Common.{◌≡◌, ◌∙◌, inl, inr, subst, ℕ, ◌+◌, ◌<◌, List, [], ◌∷◌, Option, Some, None, add-one, ap, drop, drop-cons, length, map, option_map, refl, slice_index_or, sym, take}
+use Rattle.std.specs.Prelude.{◌-◌, ◌&&◌, ◌||◌, Bool, false, is_some, not, slice_get}
+use Rattle.std.specs.List.{list_all}
+use Rattle.std.proofs.lemmas.List.{take_rest}
+use Rattle.std.specs.Option.{option_map_or}
+use Rattle.clap.specs.Words.{Rule, Text}
+use Rattle.pp_call.specs.CallWords.{Given, IsRefusal, IsReportedAs, Reading, given_by, given_from, has_required, reading_of_call, reading_of_words, reading_without_command, value_among, whole, with_given, with_word}
+use Rattle.pp_call.specs.CallWords.Reading.{given, help, refused}
+use Rattle.std.specs.Borrow.{Bor}
+use Rattle.pp_command.specs.CommandLine.{command_named, command_of_form, rule_of_form}
+use Rattle.pp_command.specs.declared.{command.CommandHelp.CommandHelp, command.OptionForm.OptionForm, command.ValueForm.ValueForm}
+use Rattle.pp_call.specs.declared.call_fault.CallFault.{CallFault}
+
+-- the name of an option is that of its form
+pub id_of_form : (form : OptionForm) → (rule_of_form form).id ≡ form.name.now
+id_of_form form = by form.value
+  where
+    by : (value : ValueForm) → (rule_of_form (record form { value = value })).id ≡ form.name.now
+    by (ValueForm.Flag text) = refl
+    by (ValueForm.Number range) = refl
+    by (ValueForm.Text name text) = refl
+
+pub has_value : (r : Option (Bor Text)) (o : Option Text) → option_map (λ value. value.now) r ≡ o → is_some r ≡ is_some o
+has_value None o is = ap is_some is
+has_value (Some value) o is = ap is_some is
+
+pub required_of : (values : List (Text × Text)) (options : List OptionForm) → list_all (λ form. not form.required || is_some (value_among values form.name.now)) options ≡ has_required (map rule_of_form options) values
+required_of values [] = refl
+required_of values (form ∷ options) = rw (id_of_form form, required_of values options) refl
+
+pub none_waiting : {X : Type 0} (of : X → Text) (o : Option X) (b : Bool) → is_some o ≡ false → b ≡ (not (is_some (option_map of o)) && b)
+none_waiting of None b is = refl
+none_waiting of (Some x) b is = absurd cc
+
+-- what comes to a request or to nothing since something else does is refused for the same reason
+pub refused_alike : {X Y : Type 0} (a : Reading X) (b : Reading Y) (fault : CallFault) → (a ≡ help → b ≡ help) → (a ≡ refused → b ≡ refused) → IsRefusal a fault → IsRefusal b fault
+refused_alike a b CallFault.Memory asks then is = tt
+refused_alike a b CallFault.Help asks then is = asks is
+refused_alike a b CallFault.Refused asks then is = then is
+refused_alike a b CallFault.Number asks then is = absurd is
+refused_alike a b CallFault.Picture asks then is = absurd is
+refused_alike a b CallFault.Forms asks then is = absurd is
+
+-- what holds of a fault, and of want of memory, holds of the fault as it is reported
+pub as_reported : (Holds : CallFault → Type 0) (fault reported : CallFault) → IsReportedAs fault reported → Holds CallFault.Memory → Holds fault → Holds reported
+as_reported Holds fault reported (inl same) memory is = subst Holds (sym same) is
+as_reported Holds fault reported (inr same) memory is = subst Holds (sym same) memory
+
+-- after a request, and after a word that is refused, all stays so
+asked_from : (options : List Rule) (words : List Text) → given_from options help words ≡ help
+asked_from options [] = refl
+asked_from options (word ∷ words) = asked_from options words
+
+nothing_from : (options : List Rule) (words : List Text) → given_from options refused words ≡ refused
+nothing_from options [] = refl
+nothing_from options (word ∷ words) = nothing_from options words
+
+-- what words come to of which one comes to a request or to nothing
+ended_by : (options : List Rule) (words : List (Bor Text)) (i : ℕ) (d : Bor Text) (so_far : Given) (end : Reading Given) → i < length words → with_word options (slice_index_or words i d).now so_far ≡ end
+    → given_from options end (map (λ word. word.now) (drop (i + 1) words)) ≡ end
+    → given_from options (given so_far) (map (λ word. word.now) (drop i words)) ≡ given_by options (map (λ word. word.now) words)
+    → reading_of_words options (map (λ word. word.now) words) ≡ with_given (whole options) end
+unfolding reading_of_words
+ended_by options words i d so_far end lt comes stays so =
+    let here : map (λ word. word.now) (drop i words) ≡ (slice_index_or words i d).now ∷ map (λ word. word.now) (drop (i + 1) words) = rw (drop-cons words i d lt, add-one i) refl in
+    let gone : given_from options (given so_far) (map (λ word. word.now) (drop i words)) ≡ end =
+    ap (given_from options (given so_far)) here ∙ ap (λ next. given_from options next (map (λ word. word.now) (drop (i + 1) words))) comes ∙ stays in
+    ap (with_given (whole options)) (sym so ∙ gone)
+
+pub asking_word : (options : List Rule) (words : List (Bor Text)) (i : ℕ) (d : Bor Text) (so_far : Given) → i < length words → with_word options (slice_index_or words i d).now so_far ≡ help
+    → given_from options (given so_far) (map (λ word. word.now) (drop i words)) ≡ given_by options (map (λ word. word.now) words)
+    → reading_of_words options (map (λ word. word.now) words) ≡ help
+asking_word options words i d so_far lt comes so = ended_by options words i d so_far help lt comes (asked_from options (map (λ word. word.now) (drop (i + 1) words))) so
+
+pub refused_word : (options : List Rule) (words : List (Bor Text)) (i : ℕ) (d : Bor Text) (so_far : Given) → i < length words → with_word options (slice_index_or words i d).now so_far ≡ refused
+    → given_from options (given so_far) (map (λ word. word.now) (drop i words)) ≡ given_by options (map (λ word. word.now) words)
+    → reading_of_words options (map (λ word. word.now) words) ≡ refused
+refused_word options words i d so_far lt comes so = ended_by options words i d so_far refused lt comes (nothing_from options (map (λ word. word.now) (drop (i + 1) words))) so
+
+-- what the words of a call come to, by what its parts do
+pub called : (words : List (Bor Text)) (name : Bor Text) (got : Option CommandHelp) (found : CommandHelp) (reading : Reading (List (Text × Text))) → slice_get words 0 ≡ Some name
+    → option_map (λ found. command_of_form found.form.now) got ≡ command_named name.now → got ≡ Some found
+    → reading_of_words (map rule_of_form found.form.now.options.now) (map (λ word. word.now) (take (length words - 1) (drop 1 words))) ≡ reading
+    → reading_of_call (map (λ word. word.now) words) ≡ with_given (λ values. given (found.form.now.kind, values)) reading
+called [] name got found reading at by is read = absurd cc
+called (word ∷ words) name got found reading at by is read =
+    let named : command_named name.now ≡ Some (command_of_form found.form.now) = sym by ∙ ap (option_map (λ found. command_of_form found.form.now)) is in
+    ap (λ (o : Option (Bor Text)). option_map_or (λ x. reading_of_call (x.now ∷ map (λ word. word.now) words)) o refused) at
+    ∙ rw (named, rw (take_rest (word ∷ words) 1) at read) refl
+
+pub uncalled : (words : List (Bor Text)) (name : Bor Text) (got : Option CommandHelp) → slice_get words 0 ≡ Some name
+    → option_map (λ found. command_of_form found.form.now) got ≡ command_named name.now → got ≡ None → reading_of_call (map (λ word. word.now) words) ≡ reading_without_command name.now (map (λ word. word.now) (drop 1 words))
+uncalled [] name got at by is = absurd cc
+uncalled (word ∷ words) name got at by is =
+    let named : command_named name.now ≡ None = sym by ∙ ap (option_map (λ found. command_of_form found.form.now)) is in
+    ap (λ (o : Option (Bor Text)). option_map_or (λ x. reading_of_call (x.now ∷ map (λ word. word.now) words)) o refused) at
+    ∙ rw named refl
+
+pub no_words : (words : List (Bor Text)) → slice_get words 0 ≡ None → reading_of_call (map (λ word. word.now) words) ≡ refused
+no_words [] at = refl
+no_words (word ∷ words) at = absurd cc
