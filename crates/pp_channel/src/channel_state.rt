@@ -118,8 +118,8 @@ impl Display for ChannelState {
     fn fmt<W: Write>(&self, f: &mut Formatter<W>) -> fmt::Result {
         match self.register {
             Some(word) => write!(f, "ACTIVE FULL {word}"),
-            None if self.flags.active => write!(f, "ACTIVE EMPTY"),
-            None => write!(f, "INACTIVE"),
+            None if self.flags.active => f.write_str("ACTIVE EMPTY"),
+            None => f.write_str("INACTIVE"),
         }
     }
 }

@@ -32,7 +32,7 @@ impl Display for TraceFlaw {
 
     fn fmt<W: Write>(&self, f: &mut Formatter<W>) -> fmt::Result {
         match self {
-            TraceFlaw::Malformed => write!(f, "not a line of a trace"),
+            TraceFlaw::Malformed => f.write_str("not a line of a trace"),
             TraceFlaw::TurnNotRising(turn, last) => {
                 write_count(f, "turn ", *turn)?;
                 write_count(f, " after turn ", *last)

@@ -28,8 +28,8 @@ fn write_event<W: Write>(f: &mut Formatter<W>, event: &Event) -> fmt::Result
     ensures { DisplaysOnOk W.write_str_gives f.old result (Some (event_text event.now)) f.new }
 {
     match event {
-        Event::Activate => write!(f, "ACN"),
-        Event::Disconnect => write!(f, "DCN"),
+        Event::Activate => f.write_str("ACN"),
+        Event::Disconnect => f.write_str("DCN"),
         Event::Put(word) => write!(f, "PUT {word}"),
         Event::Take(word) => write!(f, "TAK {word}"),
         Event::Function(word) => write!(f, "FNC {word}"),
@@ -49,8 +49,8 @@ fn write_obstacle<W: Write>(
     match (event, state.register) {
         (Event::Take(_), Some(word)) => write!(f, "expected TAK {word}"),
         (Event::Take(_) | Event::Put(_), _) => f.write_str(passing(&state.flags)),
-        _ if state.flags.active => write!(f, "which is active"),
-        _ => write!(f, "which is inactive"),
+        _ if state.flags.active => f.write_str("which is active"),
+        _ => f.write_str("which is inactive"),
     }
 }
 

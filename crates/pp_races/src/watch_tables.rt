@@ -47,8 +47,8 @@ impl<A: Allocator> WatchTables<A> {
     {
         Ok(WatchTables {
             events: no_events(alloc, counts)?,
-            cursors: filled(alloc, Cursor::first())?,
-            looks: filled(alloc, ByFlags::all(None))?,
+            cursors: vec![in alloc; Cursor::first(); ENTRIES]?,
+            looks: vec![in alloc; ByFlags::all(None); ENTRIES]?,
             uses: first_uses(alloc, machine)?,
             // No more is found of a step, or of the end, than there are processors.
             found: Vec::with_capacity(alloc, PROCESSORS)?,
@@ -58,17 +58,6 @@ impl<A: Allocator> WatchTables<A> {
 
 /// How many entries there are of processors and channels (decimal).
 const ENTRIES: usize = PROCESSORS * CHANNELS;
-
-/// A table with the same for each.
-fn filled<T: Copy, A: Allocator>(alloc: A, value: T) -> Result<Vec<T, A>, Memory>
-    ensures { IfOk result (λ table. table.items ≡ replicate entry_count value) }
-{
-    let mut table = Vec::with_capacity(alloc, ENTRIES)?;
-    for _ in 0..ENTRIES {
-        table.push(value)?;
-    }
-    Ok(table)
-}
 
 /// No central word was used.
 #[tactic(auto, using(crate::proofs::UseLemmas::replicate_unused))]

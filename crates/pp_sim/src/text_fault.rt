@@ -37,13 +37,13 @@ impl Display for TextFault {
 
     fn fmt<W: fmt::Write>(&self, f: &mut Formatter<W>) -> fmt::Result {
         match self {
-            TextFault::Read => write!(f, "read fault"),
-            TextFault::Deck(fault) => write!(f, "{fault}"),
+            TextFault::Read => f.write_str("read fault"),
+            TextFault::Deck(fault) => fault.fmt(f),
             TextFault::NotBetweenPrograms(busy) => write!(f, "not between programs: {busy}"),
-            TextFault::Findings => write!(f, "something is found"),
-            TextFault::Trace(fault) => write!(f, "{fault}"),
-            TextFault::Memory => write!(f, "out of memory"),
-            TextFault::Write => write!(f, "write fault"),
+            TextFault::Findings => f.write_str("something is found"),
+            TextFault::Trace(fault) => fault.fmt(f),
+            TextFault::Memory => f.write_str("out of memory"),
+            TextFault::Write => f.write_str("write fault"),
         }
     }
 }

@@ -222,7 +222,7 @@ fn counts_of_run<A: Allocator + Copy>(
     Ok(run_counting_steps(machine, &order)?)
 }
 
-/// The drawing is of the turns from one on, and ends with the run.
+/// The drawing shows the turns from `from` on, to the end of the run.
 fn write_drawing_from<A: Allocator + Copy, W: Write>(
     alloc: A,
     loaded: &mut Deck<A>,
