@@ -3,7 +3,7 @@ ghost use Rattle.clap.specs.Lexer.{long_of, strip_byte};
 ghost use Rattle.pp_call.specs.CallWords.{asks_for_help, asks_for_version, is_option};
 
 /// What follows a first hyphen.
-pub(crate) fn after_hyphen(word: &str) -> Option<&str>
+fn after_hyphen(word: &str) -> Option<&str>
     ensures { option_map (λ rest. rest.now) result ≡ strip_byte 45 word.now }
 {
     word.strip_prefix('-')
@@ -22,6 +22,13 @@ pub(crate) fn long_of(word: &str) -> Option<(&str, Option<&str>)>
         Some((name, value)) => Some((name, Some(value))),
         None => Some((rest, None)),
     }
+}
+
+/// The first letter after a word's hyphen.
+pub(crate) fn letter_of(word: &str) -> Option<&str> {
+    let rest = after_hyphen(word)?;
+    let letter = rest.chars().next()?;
+    rest.get(..letter.len_utf8())
 }
 
 /// Whether a word looks like an option: it begins with a hyphen, and is neither `-` nor `--`.

@@ -5,13 +5,15 @@ ghost use Rattle.pp_command.specs.CommandLine.{rule_of_form};
 
 use crate::call_word::{asks_for_help, asks_for_version, is_option, long_of};
 use crate::help_text::{command_help, program_help, topic_help, version_text};
-use crate::refusal_text::{command_refusal, program_refusal, topic_refusal};
+use crate::refusal_text::{program_refusal, topic_refusal};
+use crate::text::Text;
+use crate::why::command_refusal;
 use crate::{CallFault, CallRefusal};
 use pp_command::{
     Asked, CommandHelp, CommandKind, OptionForm, ValueForm, Values, asked_of, asks_for_more,
     command_named, mixes_forms, named_file,
 };
-use std::alloc::{AllocError, Allocator};
+use std::alloc::Allocator;
 use std::marker::Model;
 
 /// What the words of a call have given so far.
@@ -161,14 +163,10 @@ pub(crate) fn option_named(
 }
 
 /// What words come to, and the text for it; or that memory was refused.
-fn reported<A: Allocator + Copy>(
-    alloc: A,
-    fault: CallFault,
-    text: Result<String<A>, AllocError>,
-) -> CallRefusal<A>
+fn reported<A: Allocator + Copy>(alloc: A, fault: CallFault, text: Text<A>) -> CallRefusal<A>
     ensures { IsReportedAs fault result.fault }
 {
-    match text {
+    match text.finish() {
         Ok(text) => CallRefusal { fault, text },
         Err(_) => CallRefusal {
             fault: CallFault::Memory,
@@ -247,7 +245,7 @@ fn on_topics<A: Allocator + Copy>(alloc: A, topics: &[&str]) -> CallRefusal<A>
         return reported(alloc, CallFault::Help, program_help(alloc, true));
     };
     if !more.is_empty() || !is_topic(topic) {
-        return reported(alloc, CallFault::Refused, topic_refusal(alloc, topics));
+        return reported(alloc, CallFault::Refused, topic_refusal(alloc, topic, more));
     }
     reported(alloc, CallFault::Help, topic_help(alloc, topic))
 }
@@ -263,14 +261,14 @@ fn without_work<V: Values, A: Allocator + Copy>(
 {
     if asks_for_more(kind, values) {
         let text = "ppsim: a picture has at most 2000 turns: give --from and --to\n";
-        return reported(alloc, CallFault::Picture, String::from_str(alloc, text));
+        return reported(alloc, CallFault::Picture, Text::of(alloc, text));
     }
     if mixes_forms(kind, values) {
         let text = "ppsim: give --turns, or --every-order and --states alone\n";
-        return reported(alloc, CallFault::Forms, String::from_str(alloc, text));
+        return reported(alloc, CallFault::Forms, Text::of(alloc, text));
     }
     let text = "ppsim: number out of range\n";
-    reported(alloc, CallFault::Number, String::from_str(alloc, text))
+    reported(alloc, CallFault::Number, Text::of(alloc, text))
 }
 
 /// What the words of a call ask for, and the file to read, if one is named: a command, and in any
@@ -293,7 +291,7 @@ pub fn read_call<'a, A: Allocator + Copy>(
     };
     let values = values_of_words(alloc, &help, &words[1..])?;
     let Ok(found) = asked_of(alloc, help.form.kind, &values) else {
-        return Err(reported(alloc, CallFault::Memory, Ok(String::new(alloc))));
+        return Err(reported(alloc, CallFault::Memory, Text::of(alloc, "")));
     };
     match found {
         Some(asked) => Ok((asked, named_file(values.given("file")))),

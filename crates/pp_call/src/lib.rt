@@ -8,6 +8,7 @@ mod call_words;
 mod help_text;
 mod refusal_text;
 mod similar;
+mod text;
 mod usage;
 mod why;
 

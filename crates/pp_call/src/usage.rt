@@ -1,48 +1,62 @@
 //! How to call the program, as its help and its refusals print it.
 
-use crate::call_words::option_named;
+use crate::call_words::{CallWords, option_named};
+use crate::text::Text;
 use pp_command::CommandForm;
-use std::alloc::{AllocError, Allocator};
+use std::alloc::Allocator;
 
-/// Adds a paragraph on how to call a command: with what it needs, and the options among these
-/// names; with all it takes, if there are none.
-pub(crate) fn push_usage<A: Allocator>(
-    text: &mut String<A>,
-    form: &'static CommandForm,
-    used: &[&str],
-) -> Result<(), AllocError> {
-    let takes_more = used.is_empty() && form.options.iter().any(|option| !option.required);
-    let more = if takes_more { " [OPTIONS]" } else { "" };
-    write!(text, "\n\nUsage: ppsim {}{more}", form.name)?;
+/// Adds a paragraph on how to call a command, with all it takes.
+pub(crate) fn say_usage<A: Allocator + Copy>(text: &mut Text<A>, form: &'static CommandForm) {
+    text.say_with("\n\nUsage: ppsim @", form.name);
     for option in form.options {
-        if option.required {
-            write!(text, " {option}")?;
+        if !option.required {
+            text.say(" [OPTIONS]");
+            break;
         }
     }
-    push_used(text, form, used)?;
-    let file = if used.contains(&"file") {
-        "<FILE>"
-    } else {
-        "[FILE]"
-    };
-    write!(text, " {file}\n\n")
+    say_required(text, form);
+    text.say(" [FILE]\n\n");
 }
 
-/// Adds the options among these names that a command does not need, each once.
-fn push_used<A: Allocator>(
-    text: &mut String<A>,
+/// Adds a paragraph on how to call a command: with what it needs, with what was given but this
+/// option, and with one more, if it is named.
+pub(crate) fn say_usage_of<A: Allocator + Copy>(
+    text: &mut Text<A>,
     form: &'static CommandForm,
-    used: &[&str],
-) -> Result<(), AllocError> {
-    for (place, name) in used.iter().enumerate() {
-        if used[..place].contains(name) {
-            continue;
-        }
-        match option_named(form.options, name) {
-            Some(option) if !option.required => write!(text, " {option}")?,
-            None if *name == "help" => text.push_str(" --help")?,
-            _ => {}
+    given: &CallWords<'_, A>,
+    but: &str,
+    more: &str,
+) {
+    text.say_with("\n\nUsage: ppsim @", form.name);
+    say_required(text, form);
+    for (name, _) in &given.values {
+        if *name != but {
+            say_used(text, form, name);
         }
     }
-    Ok(())
+    if more == but || given.given(more).is_none() {
+        say_used(text, form, more);
+    }
+    match given.given("file") {
+        Some(_) if but != "file" => text.say(" <FILE>\n\n"),
+        _ => text.say(" [FILE]\n\n"),
+    }
+}
+
+/// Adds the options that a command needs.
+fn say_required<A: Allocator + Copy>(text: &mut Text<A>, form: &'static CommandForm) {
+    for option in form.options {
+        if option.required {
+            text.say_option(" ", option);
+        }
+    }
+}
+
+/// Adds an option that a command does not need.
+fn say_used<A: Allocator + Copy>(text: &mut Text<A>, form: &'static CommandForm, name: &str) {
+    match option_named(form.options, name) {
+        Some(option) if !option.required => text.say_option(" ", option),
+        None if name == "help" => text.say(" --help"),
+        _ => {}
+    }
 }

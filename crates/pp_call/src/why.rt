@@ -1,28 +1,34 @@
-//! Which fault of refused words is named, if they have several: the one that clap names.
+//! Why the words of a command are refused. If they have several faults, the one is named that clap
+//! names.
 
-use crate::call_word::{after_hyphen, long_of};
+use crate::call_word::{asks_for_help, letter_of, long_of};
 use crate::call_words::{CallWords, option_named};
-use crate::help_text::help_option;
-use pp_command::{OptionForm, ValueForm};
+use crate::refusal_text::{TRY_HELP, say_surplus_value};
+use crate::similar::similar_option;
+use crate::text::Text;
+use crate::usage::{say_usage, say_usage_of};
+use pp_command::{CommandForm, OptionForm, ValueForm};
 use std::alloc::Allocator;
 
-/// Why the words after a command's name are refused.
-#[derive(Clone, Copy)]
-pub(crate) enum Why<'a> {
-    /// There is no option of this name.
-    Unknown(&'a str),
-    /// There is none of this one letter.
-    UnknownLetter(char),
-    /// An option that takes no value has this one.
-    Value(OptionForm, &'a str),
-    /// An option lacks its value.
-    NoValue(OptionForm),
-    /// An option is given twice.
-    Twice(OptionForm),
-    /// A word is one too many.
-    Surplus(&'a str),
-    /// An option is not given that has to be.
-    Missing,
+/// What asks for something after a command.
+const REQUESTS: &[&str] = &["help"];
+
+/// What is said of the words after a command's name, of which the one at this place is refused
+/// after what was given, or of which too few are there.
+pub(crate) fn command_refusal<'a, A: Allocator + Copy>(
+    alloc: A,
+    form: &'static CommandForm,
+    given: &CallWords<'a, A>,
+    words: &[&'a str],
+    place: usize,
+) -> Text<A> {
+    let mut text = Text::of(alloc, "error: ");
+    match given.waiting {
+        Some(option) => say_waiting(&mut text, form, given, option, words, place),
+        None => say_free(&mut text, form, given, words, place),
+    }
+    text.say(TRY_HELP);
+    text
 }
 
 /// Whether a word does not look like an option, and is not `--`.
@@ -30,81 +36,205 @@ pub(crate) fn is_plain(word: &str) -> bool {
     !word.starts_with('-') || word == "-"
 }
 
-/// What is wrong with a word that looks like an option, whatever stands before it.
-fn why_never<'a>(options: &'static [OptionForm], word: &'a str) -> Option<Why<'a>> {
-    if let Some((name, value)) = long_of(word) {
-        if name == "help" {
-            return Some(Why::Value(help_option(false), value?));
-        }
-        let Some(option) = option_named(options, name) else {
-            return Some(Why::Unknown(name));
-        };
-        return match option.value {
-            ValueForm::Flag(_) => Some(Why::Value(*option, value?)),
-            _ => None,
-        };
-    }
-    let letter = after_hyphen(word)?.chars().next()?;
-    (letter != 'h' && letter != '-').then_some(Why::UnknownLetter(letter))
-}
-
-/// Why the first of these words is refused after what was given, or why none of them may follow.
-pub(crate) fn why_refused<'a, A: Allocator>(
+/// Says why a word is refused before which this option waits for its value, or why none may follow.
+fn say_waiting<'a, A: Allocator + Copy>(
+    text: &mut Text<A>,
+    form: &'static CommandForm,
     given: &CallWords<'a, A>,
-    options: &'static [OptionForm],
+    option: &'static OptionForm,
     words: &[&'a str],
-) -> Why<'a> {
-    let Some((word, rest)) = words.split_first() else {
-        return match given.waiting {
-            Some(option) => Why::NoValue(*option),
-            None => Why::Missing,
-        };
-    };
-    if given.ended {
-        return Why::Surplus(word);
-    }
-    if let Some(why) = why_never(options, word) {
-        return why;
-    }
-    match given.waiting {
-        Some(option) if is_plain(word) => {
-            why_later(given, options, rest).unwrap_or(Why::Twice(*option))
+    place: usize,
+) {
+    if !is_plain_at(words, place) {
+        if !says_next(text, form, given, words, place, "") {
+            text.say_option("a value is required for '", option);
+            text.say("' but none was supplied\n\n");
         }
-        Some(option) if *word == "--" => surplus_of(given, rest).unwrap_or(Why::NoValue(*option)),
-        Some(option) => Why::NoValue(*option),
-        None if is_plain(word) => Why::Surplus(word),
-        None => why_again(options, word),
+    } else if !says_next(
+        text,
+        form,
+        given,
+        words,
+        place.saturating_add(1),
+        option.name,
+    ) {
+        say_twice(text, form, option);
     }
 }
 
-/// Why a word is refused that may be an option where none waits: it was given before, if it is one.
-fn why_again<'a>(options: &'static [OptionForm], word: &str) -> Why<'a> {
-    let Some((name, _)) = long_of(word) else {
-        return Why::Missing;
-    };
-    match option_named(options, name) {
-        Some(option) => Why::Twice(*option),
-        None => Why::Missing,
-    }
+/// Says that an option is given twice.
+fn say_twice<A: Allocator + Copy>(
+    text: &mut Text<A>,
+    form: &'static CommandForm,
+    option: &'static OptionForm,
+) {
+    text.say_option("the argument '", option);
+    text.say("' cannot be used multiple times");
+    say_usage(text, form);
 }
 
-/// What is wrong with the words after a second value of an option, if that is named in its place.
-fn why_later<'a, A: Allocator>(
+/// Says what is wrong with the word at this place and those after it where an option waits, which
+/// takes away what was given to this one, if anything is.
+fn says_next<'a, A: Allocator + Copy>(
+    text: &mut Text<A>,
+    form: &'static CommandForm,
     given: &CallWords<'a, A>,
-    options: &'static [OptionForm],
     words: &[&'a str],
-) -> Option<Why<'a>> {
-    let (word, rest) = words.split_first()?;
-    match *word {
-        "--" => surplus_of(given, rest),
-        _ if is_plain(word) => surplus_of(given, words),
-        _ => why_never(options, word),
+    place: usize,
+    but: &str,
+) -> bool {
+    let Some(word) = words.get(place) else {
+        return false;
+    };
+    let surplus = if *word == "--" {
+        place.saturating_add(1)
+    } else {
+        place
+    };
+    if surplus == place && !is_plain(word) {
+        return says_never(text, form, given, word, but);
+    }
+    match words.get(surplus) {
+        Some(word) if given.given("file").is_some() => say_surplus(text, form, word),
+        _ => return false,
+    }
+    true
+}
+
+/// Says that a word is one too many.
+fn say_surplus<A: Allocator + Copy>(text: &mut Text<A>, form: &'static CommandForm, word: &str) {
+    text.say_with("unexpected argument '@' found", word);
+    say_usage(text, form);
+}
+
+/// Says why a word is refused before which no option waits, or why one has to follow.
+fn say_free<'a, A: Allocator + Copy>(
+    text: &mut Text<A>,
+    form: &'static CommandForm,
+    given: &CallWords<'a, A>,
+    words: &[&'a str],
+    place: usize,
+) {
+    let Some(word) = words.get(place) else {
+        return say_missing(text, form, given);
+    };
+    if given.ended || is_plain(word) {
+        return say_surplus(text, form, word);
+    }
+    // A value that is a word of its own counts once the next word has been read.
+    let but = match given.values.last() {
+        Some(last) if place > 0 && is_plain_at(words, place - 1) => last.0,
+        _ => "",
+    };
+    if !says_never(text, form, given, word, but) {
+        say_again(text, form, word);
     }
 }
 
-/// The first of these words, if it is plain, as one too many.
-fn surplus_of<'a, A: Allocator>(given: &CallWords<'a, A>, words: &[&'a str]) -> Option<Why<'a>> {
-    let word = words.first()?;
-    given.given("file")?;
-    Some(Why::Surplus(word))
+/// Says that the option of a word was given before.
+fn say_again<A: Allocator + Copy>(text: &mut Text<A>, form: &'static CommandForm, word: &str) {
+    if let Some((name, _)) = long_of(word) {
+        if let Some(option) = option_named(form.options, name) {
+            say_twice(text, form, option);
+        }
+    }
+}
+
+/// Says what is wrong with a word that looks like an option, whatever stands before it, if anything
+/// is. The usage does not name one option: where an option waits, beside one that is unknown, else
+/// beside one that takes no value.
+fn says_never<A: Allocator + Copy>(
+    text: &mut Text<A>,
+    form: &'static CommandForm,
+    given: &CallWords<'_, A>,
+    word: &str,
+    but: &str,
+) -> bool {
+    if asks_for_help(word) {
+        return false;
+    }
+    let Some((name, value)) = long_of(word) else {
+        let letter = letter_of(word).unwrap_or("-");
+        text.say_with("unexpected argument '-@' found\n\n  tip: ", letter);
+        text.say_with("to pass '-@' as a value, use '-- -@'", letter);
+        say_usage(text, form);
+        return true;
+    };
+    let Some(option) = option_named(form.options, name) else {
+        match value {
+            Some(value) if name == "help" => say_value(text, form, given, name, value, but),
+            _ => say_unknown(text, form, given, name, but),
+        }
+        return true;
+    };
+    let (ValueForm::Flag(_), Some(value)) = (&option.value, value) else {
+        return false;
+    };
+    say_value(text, form, given, name, value, but);
+    true
+}
+
+/// Says that an option takes no value, but has this one.
+fn say_value<A: Allocator + Copy>(
+    text: &mut Text<A>,
+    form: &'static CommandForm,
+    given: &CallWords<'_, A>,
+    name: &str,
+    value: &str,
+    but: &str,
+) {
+    say_surplus_value(text, name, value);
+    let but = if given.waiting.is_none() { but } else { "" };
+    say_usage_of(text, form, given, but, name);
+}
+
+/// Says that a command has no option of this name, and which one is like it.
+fn say_unknown<A: Allocator + Copy>(
+    text: &mut Text<A>,
+    form: &'static CommandForm,
+    given: &CallWords<'_, A>,
+    name: &str,
+    but: &str,
+) {
+    text.say_with("unexpected argument '--@' found\n\n  tip: ", name);
+    let similar = match similar_option(text, name, form.options, REQUESTS) {
+        Some(similar) => {
+            text.say_with("a similar argument exists: '--@'", similar);
+            similar
+        }
+        None => {
+            text.say_with("to pass '--@' as a value, use '-- --@'", name);
+            ""
+        }
+    };
+    let but = if given.waiting.is_none() { "" } else { but };
+    if similar.is_empty() && given.values.len() <= usize::from(!but.is_empty()) {
+        return say_usage(text, form);
+    }
+    say_usage_of(text, form, given, but, similar);
+}
+
+/// Says which options a command needs that are not given.
+fn say_missing<A: Allocator + Copy>(
+    text: &mut Text<A>,
+    form: &'static CommandForm,
+    given: &CallWords<'_, A>,
+) {
+    text.say("the following required arguments were not provided:");
+    let mut last = None;
+    for option in form.options {
+        if option.required && given.given(option.name).is_none() {
+            text.say_option("\n  ", option);
+            last = Some(option.name);
+        }
+    }
+    say_usage_of(text, form, given, "", last.unwrap_or(""));
+}
+
+/// Whether a word stands at this place that does not look like an option, and is not `--`.
+fn is_plain_at(words: &[&str], place: usize) -> bool {
+    match words.get(place) {
+        Some(word) => is_plain(word),
+        None => false,
+    }
 }
