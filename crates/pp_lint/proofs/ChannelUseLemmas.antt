@@ -1,6 +1,6 @@
 -- Channels that one processor alone uses.
 use Rattle.std.proofs.Common.{◌≡◌, ℕ, ◌+◌, ◌-◌, ◌%◌, ◌^◌, ◌<◌, ◌≤◌, Bool, true, false, List, [], ◌∷◌, ◌++◌, Option, Some, None, get_or, length, map, replicate, take, refl, sym, ap, ◌∙◌, arith}
-use Rattle.std.specs.Prelude.{◌||◌, ◌==◌, codes, filter_map, is_some, option_to_list, slice_index_or, slice_set}
+use Rattle.std.specs.Prelude.{◌&&◌, ◌||◌, ◌==◌, filter_map, is_some, not, option_to_list, slice_index_or, slice_set}
 use Rattle.std.specs.List.{list_any, range_with_len}
 use Rattle.std.proofs.lemmas.Bool.{eq-eqb, eqb-true}
 use Rattle.std.proofs.lemmas.Grind.{get_or-set_at}
@@ -8,18 +8,19 @@ use Rattle.std.proofs.lemmas.List.Folds.{list_any-append, list_any_at}
 use Rattle.pp_word.specs.Address.{place_count}
 use Rattle.std.proofs.lemmas.List.{append-nil, get_or-replicate, get_or-set_other, map-append, take_all, take_more}
 use Rattle.std.proofs.lemmas.List.Elements.{filter_map-append}
-use Rattle.pp_word.specs.Numeral.{octal, short_octal}
 use Rattle.pp_numbers.proofs.GrowingLists.{filter_map_more, range_append, range_more}
 use Rattle.pp_numbers.specs.PpNo.{processor_number}
 use Rattle.pp_numbers.specs.Tables.{tabulate}
 use Rattle.pp_numbers.specs.declared.profile.Profile.{Profile}
 use Rattle.pp_deck.specs.DeckMeaning.{LoadedDeck}
-use Rattle.pp_instructions.specs.InstructionEffect.{channel_named}
+use Rattle.pp_instructions.specs.InstructionEffect.{channel_named, sends_function}
 use Rattle.pp_listing.specs.ListedLine.{ListedLine, listed_line}
 use Rattle.pp_listing.specs.declared.listed_instructions.ListedInstruction.{ListedInstruction}
 use Rattle.pp_instructions.specs.declared.instruction.Instruction.{Instruction}
-use Rattle.pp_lint.specs.ChannelUse.{alone_text, is_for, is_listed_for, use_of_one, user}
+use Rattle.pp_lint.specs.ChannelUse.{alone_finding, found_for, is_alone, is_first, is_for, is_listed_for, use_of_one, user}
 use Rattle.pp_lint.specs.SeenChannels.{ShowsChannels}
+use Rattle.pp_lint.specs.Given.{Note}
+use Rattle.pp_lint.specs.declared.channel_use.ChannelUse.{ChannelUse}
 use Rattle.pp_lint.specs.StraightLine.{is_at}
 
 -- ---- what there is of some numbers, one after another
@@ -98,10 +99,12 @@ module _ (profile : Profile) (c : ℕ) (i : ListedInstruction) (old new : List L
 
 -- ---- what is found
 
-pub alone_pieces : (n m c : ℕ) (digits : List ℕ) → digits ≡ octal 2 c → m ≡ n
-    → (((codes "channel " ++ digits) ++ codes " is used by PP ") ++ short_octal 2 m) ++ codes " alone" ≡ alone_text n c
-unfolding alone_text
-alone_pieces n m c digits is same = rw (is, same) refl
+-- in an instruction for channel c, by what decides it
+pub alone_is : (profile : Profile) (k : ℕ) (line : List ℕ) (notes : List Note) (uses : List ChannelUse) (n first : ℕ) (before : List Instruction) (i : Instruction) (c : ℕ) (is_here is_its sends told : Bool)
+    → Some c ≡ channel_named profile i.word → is_here ≡ is_first profile k notes n before c → is_its ≡ is_alone uses n c → sends ≡ sends_function i.word → (is_here && is_its && not sends) ≡ told
+    → alone_finding profile k line notes uses n first before i ≡ found_for k line (λ c. told) n first i (Some c)
+unfolding alone_finding
+alone_is profile k line notes uses n first before i c is_here is_its sends told named here its sent is = rw (← named, ← here, ← its, ← sent, is) refl
 
 -- ---- the channels of a line
 

@@ -80,10 +80,6 @@ pub none_more : (b c : Bool) → c ≡ false → b ≡ (b || c)
 none_more true c none = refl
 none_more false c none = sym none
 
-pub already : (b c : Bool) → b ≡ true → b ≡ (b || c)
-already true c is = refl
-already false c is = absurd (cc)
-
 pub comment_is : (k : ℕ) (line : List ℕ) (x : ℕ) (ws : List ℕ) (star : ℕ) → comment_place line ≡ Some star
     → comment_findings k line (Some (words x ws)) ≡ claims_findings k (λ i. star + 1 + column_of (drop (star + 1) line) i) (claims 0 (fields_of (drop (star + 1) line))) (instructions x ws)
 unfolding comment_findings

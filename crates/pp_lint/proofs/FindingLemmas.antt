@@ -1,5 +1,5 @@
 -- What is found in a line, and line by line.
-use Rattle.std.proofs.Common.{◌≡◌, ℕ, ◌+◌, ◌<◌, ◌≤◌, Bool, true, false, List, [], ◌∷◌, ◌++◌, length, take, drop, get_or, map, Option, Some, None, refl, subst, sym, ap, ◌∙◌, arith}
+use Rattle.std.proofs.Common.{◌≡◌, ℕ, ◌+◌, ◌<◌, ◌≤◌, Bool, true, false, List, [], ◌∷◌, ◌++◌, length, take, drop, get_or, map, Option, Some, None, refl, subst, sym, ap, ◌∙◌, append_assoc, arith}
 use Rattle.std.specs.Prelude.{◌||◌, ◌&&◌, bytes_eq, codes, filter_map, find, if◌then◌else◌, nat_le, position, unwrap_or}
 use Rattle.std.specs.List.{cons_option, flat_map, last_or, list_any, range_with_len, slice_split}
 use Rattle.std.proofs.lemmas.List.{append-nil, drop_more, get_or-map, length-drop, length-map, take_more}
@@ -15,7 +15,7 @@ use Rattle.pp_deck.specs.DeckLine.{central_line, keyword_of}
 use Rattle.pp_deck.specs.DeckMeaning.{begins_section, has_fields, is_foreign, size_by, size_in, size_of, stated_size}
 use Rattle.pp_deck.specs.DeckText.{Fields, fields_of, is_line_feed, lines_of}
 use Rattle.pp_deck.specs.declared.deck_fault.DeckCode.{DeckCode}
-use Rattle.pp_text.proofs.PrintingLemmas.{prints_on, range_flat}
+use Rattle.pp_text.proofs.PrintingLemmas.{prints_on, prints_then, range_flat}
 use Rattle.pp_text.specs.PrintedText.{line_end}
 use Rattle.pp_text.specs.TextWriter.{Prints}
 use Rattle.pp_text.specs.declared.text_writer.TextWriter.{TextWriter}
@@ -221,6 +221,12 @@ marked_deck profile deck short marked = rw (le-ltb 1048576 (length deck) short, 
 pub plain_deck : (profile : Profile) (deck : List ℕ) → length deck ≤ 1048576 → bytes_eq (take 3 deck) mark ≡ false → findings profile deck ≡ findings_in profile deck
 unfolding findings
 plain_deck profile deck short plain = rw (le-ltb 1048576 (length deck) short, plain) refl
+
+-- a place and words, where the last of the words are printed with the end of the line
+pub prints_ended : {W : Type 0} {contents : W → Option (List ℕ)} {a b c d : TextWriter W} {place words : List ℕ} (last : List ℕ) → Prints contents a b place → Prints contents b c words → Prints contents c d (last ++ line_end)
+    → Prints contents a d (place ++ (words ++ last) ++ line_end)
+prints_ended {place = place} {words = words} last at said ended =
+    prints_on _ _ _ _ _ _ _ (prints_then _ _ _ _ _ _ at said) ended (sym (append_assoc (place ++ words) last line_end) ∙ ap (λ xs. xs ++ line_end) (append_assoc place words last))
 
 pub prints_finding : {W : Type 0} (contents : W → Option (List ℕ)) (old new : TextWriter W) (finding : Finding) (found : List Finding) → found ≡ finding ∷ []
     → Prints contents old new (finding_line finding) → Prints contents old new (flat_map finding_line found)

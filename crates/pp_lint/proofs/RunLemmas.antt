@@ -27,14 +27,6 @@ abbrev pub is_word : Kind → Bool
 is_word (Word n) = true
 is_word kind = false
 
-abbrev pub is_start : Kind → Bool
-is_start (Start n) = true
-is_start kind = false
-
-abbrev pub is_name : Kind → Bool
-is_name (Name n) = true
-is_name kind = false
-
 pub no_word : (kind : Kind) → ((n : ℕ) → kind ≢ Word n) → is_word kind ≡ false
 no_word (Word n) other = absurd (other n refl)
 no_word kind other = refl
@@ -48,13 +40,13 @@ module _ (profile : Profile) (said : Option Line) where
   unfolding notes_within
   start_within number kind n place is at = rw (is, at) refl
 
-  none_within : (number : ℕ) (kind : Kind) → is_word kind ≡ false → is_start kind ≡ false → notes_within number profile kind said ≡ []
+  none_within : (number : ℕ) (kind : Kind) → ((n : ℕ) → kind ≢ Word n) → ((n : ℕ) → kind ≢ Start n) → notes_within number profile kind said ≡ []
   unfolding notes_within
-  none_within number (Start n) word start = absurd (cc)
-  none_within number (Word n) word start = absurd (cc)
+  none_within number (Start n) word start = absurd (start n refl)
+  none_within number (Word n) word start = absurd (word n refl)
   none_within number kind word start = refl
 
-  pub same_within : (number : ℕ) (kind : Kind) (noted : List Note) → is_word kind ≡ false → is_start kind ≡ false → noted ≡ noted ++ notes_within number profile kind said
+  pub same_within : (number : ℕ) (kind : Kind) (noted : List Note) → ((n : ℕ) → kind ≢ Word n) → ((n : ℕ) → kind ≢ Start n) → noted ≡ noted ++ notes_within number profile kind said
   same_within number kind noted word start = sym (ap (λ ns. noted ++ ns) (none_within number kind word start) ∙ append-nil noted)
 
 module _ (profile : Profile) (noted : List Note) (said : Option Line) (reached : Option ℕ) where
@@ -66,10 +58,10 @@ module _ (profile : Profile) (noted : List Note) (said : Option Line) (reached :
   unfolding behind_line
   behind_words kind n is = rw is refl
 
-  pub behind_other : (kind : Kind) → is_word kind ≡ false → is_name kind ≡ false → reached ≡ behind_line profile noted kind said reached
+  pub behind_other : (kind : Kind) → ((n : ℕ) → kind ≢ Word n) → ((n : ℕ) → kind ≢ Name n) → reached ≡ behind_line profile noted kind said reached
   unfolding behind_line
-  behind_other (Name n) word name = absurd (cc)
-  behind_other (Word n) word name = absurd (cc)
+  behind_other (Name n) word name = absurd (name n refl)
+  behind_other (Word n) word name = absurd (word n refl)
   behind_other kind word name = refl
 
   pub run_none : (alone : List ChannelUse) (k : ℕ) (line : List ℕ) (kind : Kind) → is_word kind ≡ false → run_findings profile k line noted alone reached kind said ≡ []

@@ -1,12 +1,10 @@
 -- Straight lines and what is found in them, instruction by instruction.
-use Rattle.std.proofs.Common.{◌≡◌, ℕ, Bool, true, false, List, [], ◌∷◌, ◌++◌, Option, Some, None, refl, sym, ap, ◌∙◌}
-use Rattle.std.specs.Prelude.{◌&&◌, codes, if◌then◌else◌}
-use Rattle.pp_word.specs.Numeral.{short_decimal}
+use Rattle.std.proofs.Common.{◌≡◌, ℕ, Bool, true, false, List, [], ◌∷◌, Option, Some, None, refl, sym, ap, ◌∙◌}
+use Rattle.std.specs.Prelude.{◌&&◌, if◌then◌else◌}
 use Rattle.pp_numbers.specs.declared.profile.Profile.{Profile}
 use Rattle.pp_lint.specs.Given.{Note}
-use Rattle.pp_instructions.specs.Instruction.{words_and_text}
 use Rattle.pp_instructions.specs.InstructionEffect.{goes_on, place_behind}
-use Rattle.pp_lint.specs.StraightLine.{behind, behind_all, fault_text, is_reached}
+use Rattle.pp_lint.specs.StraightLine.{behind, behind_all, is_reached}
 use Rattle.pp_instructions.specs.declared.instruction.Instruction.{Instruction}
 
 -- ---- where a straight line comes to
@@ -40,9 +38,3 @@ pub behind_here : (profile : Profile) (notes : List Note) (n : ℕ) (reached : O
     → Some place ≡ behind profile notes n reached i
 unfolding behind
 behind_here profile notes n reached i place is on at = rw (is, on, at) refl
-
--- ---- what is found
-
-pub fault_pieces : (fault : ℕ) (i : Instruction) → ((words_and_text i.place i.word i.second ++ codes ": FAULT ") ++ short_decimal fault) ++ codes " wherever it is run" ≡ fault_text fault i
-unfolding fault_text
-fault_pieces fault i = refl

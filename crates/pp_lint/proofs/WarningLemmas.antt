@@ -1,6 +1,6 @@
 -- What is found in a line by what other lines give.
 use Rattle.std.proofs.Common.{◌≡◌, ◌≢◌, ℕ, zero, suc, ◌+◌, ◌<◌, Bool, true, false, List, [], ◌∷◌, ◌++◌, Option, Some, None, refl, sym, ap, ◌∙◌, add-one, arith, inl, inr, subst}
-use Rattle.std.specs.Prelude.{◌||◌, ◌==◌, codes, find, if◌then◌else◌, is_some, unwrap_or}
+use Rattle.std.specs.Prelude.{◌||◌, ◌==◌, find, if◌then◌else◌, is_some, unwrap_or}
 use Rattle.std.specs.List.{flat_map, list_any, range_with_len}
 use Rattle.std.specs.Option.{option_or}
 use Rattle.std.proofs.lemmas.Bool.{cases_lt, eqb-true, ne_eqb}
@@ -8,7 +8,6 @@ use Rattle.std.proofs.lemmas.List.{append-nil}
 use Rattle.std.proofs.lemmas.List.Concat.{flat_map-append}
 use Rattle.std.proofs.lemmas.List.Folds.{find-append, list_any-append}
 use Rattle.pp_word.specs.Address.{place_count}
-use Rattle.pp_word.specs.Numeral.{octal, short_octal}
 use Rattle.pp_numbers.proofs.GrowingLists.{range_more}
 use Rattle.pp_deck.specs.DeckLine.{Line, nothing}
 use Rattle.pp_lint.specs.Finding.{Finding}
@@ -21,7 +20,7 @@ use Rattle.pp_text.specs.TextWriter.{Prints}
 use Rattle.pp_text.specs.declared.text_writer.TextWriter.{TextWriter}
 use Rattle.pp_lint.proofs.FindingLemmas.{found_more}
 use Rattle.pp_lint.specs.declared.{row.Kind.Kind, row.Row.Row}
-use Rattle.pp_lint.specs.declared.row.Kind.TheVariants.{Central, Channel, Dead, Fault, Name, Start, Target, Word}
+use Rattle.pp_lint.specs.declared.row.Kind.TheVariants.{Central, Name, Start, Word}
 
 range_next : (n : ℕ) → range_with_len 0 (n + 1) ≡ range_with_len 0 n ++ n ∷ []
 range_next n = range_more 0 n ∙ ap (λ j. range_with_len 0 n ++ j ∷ []) (omega arith)
@@ -121,16 +120,6 @@ unfolding twice_findings
 twice k line notes row i first set some is =
     rw (set, ← some) (ap (λ n. field_finding (k + 1) line (first_field row.kind + i) (twice_text row.kind (row.first + i) n) ∷ []) (ap (λ o. unwrap_or o 0) is ∙ number_in first (first == 0) refl))
 
--- ---- texts
-
-pub startless_pieces : (n m : ℕ) → m ≡ n → (codes "PP " ++ short_octal 2 m) ++ codes " has no START" ≡ startless_text n
-unfolding startless_text
-startless_pieces n m same = rw same refl
-
-pub wordless_pieces : (p : ℕ) (digits : List ℕ) → digits ≡ octal 4 p → (codes "START " ++ digits) ++ codes ", where no word is" ≡ wordless_text p
-unfolding wordless_text
-wordless_pieces p digits same = rw same refl
-
 -- ---- all of a line
 
 abbrev lacking_of : ℕ → List ℕ → List Note → Kind → ℕ → List Finding
@@ -156,17 +145,15 @@ module _ (k : ℕ) (line : List ℕ) (notes : List Note) where
   unfolding twice_findings
   none_twice row kind of unset = rw (of, unset) refl
 
-  pub warned_nothing : (s : Option ℕ) (said : Option Line) (row : Row) → row ≡ given s said → row.kind ≡ Fault → warnings k line notes s said ≡ []
-  warned_nothing s said row is of = warnings_by s said row Fault is of ∙ ap (λ found. found ++ []) (none_twice row Fault of refl)
+  others_lack : (row : Row) (kind : Kind) (p : ℕ) → row.kind ≡ kind → ((n : ℕ) → kind ≢ Name n) → ((n : ℕ) → kind ≢ Start n) → ((n : ℕ) → kind ≢ Word n) → kind ≢ Central → twice_findings k line notes row ++ lacking_of k line notes kind p ≡ []
+  others_lack row (Name n) p of name start word central = absurd (name n refl)
+  others_lack row (Start n) p of name start word central = absurd (start n refl)
+  others_lack row (Word n) p of name start word central = absurd (word n refl)
+  others_lack row Central p of name start word central = absurd (central refl)
+  others_lack row kind p of name start word central = ap (λ found. found ++ []) (none_twice row kind of refl)
 
-  pub warned_dead : (s : Option ℕ) (said : Option Line) (row : Row) → row ≡ given s said → row.kind ≡ Dead → warnings k line notes s said ≡ []
-  warned_dead s said row is of = warnings_by s said row Dead is of ∙ ap (λ found. found ++ []) (none_twice row Dead of refl)
-
-  pub warned_target : (s : Option ℕ) (said : Option Line) (row : Row) (n : ℕ) → row ≡ given s said → row.kind ≡ Target n → warnings k line notes s said ≡ []
-  warned_target s said row n is of = warnings_by s said row (Target n) is of ∙ ap (λ found. found ++ []) (none_twice row (Target n) of refl)
-
-  pub warned_channel : (s : Option ℕ) (said : Option Line) (row : Row) (n : ℕ) → row ≡ given s said → row.kind ≡ Channel n → warnings k line notes s said ≡ []
-  warned_channel s said row n is of = warnings_by s said row (Channel n) is of ∙ ap (λ found. found ++ []) (none_twice row (Channel n) of refl)
+  pub warned_other : (s : Option ℕ) (said : Option Line) (row : Row) → row ≡ given s said → ((n : ℕ) → row.kind ≢ Name n) → ((n : ℕ) → row.kind ≢ Start n) → ((n : ℕ) → row.kind ≢ Word n) → row.kind ≢ Central → warnings k line notes s said ≡ []
+  warned_other s said row is name start word central = warnings_by s said row row.kind is refl ∙ others_lack row row.kind _ refl name start word central
 
   pub warned_name : (s : Option ℕ) (said : Option Line) (row : Row) (n : ℕ) → row ≡ given s said → row.kind ≡ Name n → warnings k line notes s said ≡ no_start_findings k line notes n
   warned_name s said row n is of = warnings_by s said row (Name n) is of ∙ ap (λ found. found ++ no_start_findings k line notes n) (none_twice row (Name n) of refl)

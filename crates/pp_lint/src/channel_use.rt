@@ -1,13 +1,12 @@
 //! Channels that one processor alone uses.
 
-ghost use Rattle.std.specs.Prelude.{ℕ, ◌≡◌, ◌+◌, ◌++◌, ◌∷◌, [], IfOk, List, filter_map, option_to_list};
+ghost use Rattle.std.specs.Prelude.{ℕ, ◌≡◌, ◌+◌, ◌++◌, ◌∷◌, [], IfOk, List, option_to_list};
 ghost use Rattle.std.specs.List.{flat_map, list_any};
-ghost use Rattle.pp_lint.specs.ChannelUse.{alone_finding, alone_text, alone_use, alone_uses, is_alone, is_first, is_for, is_listed, is_listed_for, use_of_one, user};
+ghost use Rattle.pp_lint.specs.ChannelUse.{alone_finding, alone_use, alone_uses, is_alone, is_first, is_for, is_listed, is_listed_for, use_of_one, user};
 ghost use Rattle.pp_lint.specs.FirstLines.{Shows};
 ghost use Rattle.pp_lint.specs.Given.{Note};
 ghost use Rattle.pp_lint.specs.LintText.{finding_line, is_something_found};
 ghost use Rattle.pp_lint.specs.SeenChannels.{ShowsChannels};
-ghost use Rattle.pp_numbers.specs.PpNo.{all_processors};
 ghost use Rattle.pp_instructions.specs.declared.instruction.Instruction.{Instruction};
 ghost use Rattle.pp_text.specs.TextWriter.{Prints};
 
@@ -54,23 +53,14 @@ pub(crate) fn alone_uses<A: Allocator>(
 
 /// A channel, if one processor alone has words for it, a listing shows one as an instruction, and
 /// no dead start opens the channel.
-#[tactic(auto, unfolding(crate::specs::ChannelUse::alone_use))]
 fn alone_use<A: Allocator>(deck: &Deck<A>, c: ChannelNo) -> Option<ChannelUse>
     ensures { result ≡ alone_use
         (record { machine = deck.now.machine; named = deck.now.named }) c }
 {
-    if deck.machine.opened(c) {
+    let is_opened = deck.machine.opened(c);
+    if is_opened {
         return None;
     }
-    use_of_one(deck, c)
-}
-
-/// A channel, if one processor alone has words for it, and a listing shows one as an instruction.
-fn use_of_one<A: Allocator>(deck: &Deck<A>, c: ChannelNo) -> Option<ChannelUse>
-    ensures { result ≡ use_of_one (record { machine = deck.now.machine; named = deck.now.named }) c
-        (filter_map (user (record { machine = deck.now.machine; named = deck.now.named }) c)
-        all_processors) }
-{
     let mut found = None;
     for place in 0..PROCESSORS {
         if let Some(n) = user(deck, c, PpNo::at(place)) {
@@ -163,9 +153,9 @@ fn is_for(profile: Profile, c: ChannelNo, word: Word12) -> bool
     }
 }
 
-/// Prints that a processor alone uses a channel, if this instruction of a line is its first for the
-/// channel, and sends no function code; and returns whether that is so.
-#[tactic(auto, unfolding(crate::specs::ChannelUse::alone_finding))]
+/// Prints `channel 05 is used by PP 0 alone`, if that is so, and this instruction of a line is its
+/// first for the channel, and sends no function code; and returns whether it is.
+#[tactic(auto, using(pp_numbers::proofs::PpNoLemmas::processor_fits))]
 pub(crate) fn print_alone_finding<A: Allocator, W: Write>(
     text: &mut TextWriter<W>,
     deck: &WholeDeck<A>,
@@ -190,7 +180,7 @@ pub(crate) fn print_alone_finding<A: Allocator, W: Write>(
         return false;
     };
     let is_first = is_first(&deck.firsts, words.n, words.number, seen, c);
-    if !is_first || !is_alone(&deck.alone, words.n, c) || i.sends_function() {
+    if !(is_first & is_alone(&deck.alone, words.n, c) & !i.sends_function()) {
         return false;
     }
     print_place(
@@ -198,8 +188,11 @@ pub(crate) fn print_alone_finding<A: Allocator, W: Write>(
         words.number,
         columns.column_of(field_of(words.first, i)),
     );
-    print_alone_text(text, words.n, c);
-    text.print(b"\n");
+    text.print(b"channel ");
+    text.print(&octal2(c.get()));
+    text.print(b" is used by PP ");
+    print_short_octal(text, 2, u64::from(words.n.get()));
+    text.print(b" alone\n");
     true
 }
 
@@ -207,8 +200,12 @@ pub(crate) fn print_alone_finding<A: Allocator, W: Write>(
 fn is_alone(uses: &[ChannelUse], n: PpNo, c: Word6) -> bool
     ensures { result ≡ is_alone uses.now n c }
 {
-    uses.iter()
-        .any(|one| one.n.get() == n.get() && one.c.get() == c.get())
+    for one in uses {
+        if one.n.get() == n.get() && one.c.get() == c.get() {
+            return true;
+        }
+    }
+    false
 }
 
 /// Whether an instruction of processor n for a channel, in the line of a number, is its first in
@@ -238,17 +235,4 @@ pub(crate) fn see(seen: &mut [bool; D_VALUES], profile: Profile, i: &Instruction
     if let Some(c) = i.channel_named(profile) {
         seen[usize::from(c.get())] = true;
     }
-}
-
-/// Prints `channel 05 is used by PP 0 alone`.
-#[tactic(auto, using(pp_numbers::proofs::PpNoLemmas::processor_fits, // two digits
-pp_numbers::proofs::ChannelNoLemmas::channel_fits))]
-fn print_alone_text<W: Write>(text: &mut TextWriter<W>, n: PpNo, c: Word6)
-    ensures { Prints W.contents text.old text.new (alone_text n c) }
-{
-    text.print(b"channel ");
-    text.print(&octal2(c.get()));
-    text.print(b" is used by PP ");
-    print_short_octal(text, 2, u64::from(n.get()));
-    text.print(b" alone");
 }

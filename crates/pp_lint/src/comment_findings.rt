@@ -71,7 +71,7 @@ fn print_claims_findings<W: Write>(
     while let Some(said) = claims.next_claim() {
         let instruction = instructions.next_instruction();
         let found = print_claim_finding(text, number, star, &mut columns, &said, &instruction);
-        is_found = is_found || found;
+        is_found = is_found | found;
     }
     is_found
 }

@@ -13,23 +13,33 @@ use std::io::Write;
 const PIECE_LENGTH: usize = 8192;
 
 /// Prints the words for a fault at this field.
-#[tactic(auto, unfolding(crate::specs::FaultWords::fault_words))]
 pub(crate) fn print_fault_words<W: Write>(text: &mut TextWriter<W>, code: DeckCode, field: &[u8])
     ensures { Prints W.contents text.old text.new (fault_words code field.now) }
 {
+    let (words, field) = words_and_field(code, field);
+    text.print(words);
+    print_bytes(text, field);
+}
+
+/// The words for a fault at this field, and the field that comes after them.
+#[tactic(auto, unfolding(crate::specs::FaultWords::fault_words))]
+fn words_and_field<'a>(code: DeckCode, field: &'a [u8]) -> (&'static [u8], &'a [u8])
+    ensures words { fault_words code field.now ≡ result.0.now ++ result.1.now }
+    ensures short { length result.0.now ≤ piece_length }
+{
     match code {
-        DeckCode::TooLong => text.print(b"longer than 1048576 bytes"),
-        DeckCode::NotAscii => text.print(b"not ASCII"),
-        DeckCode::UnknownLine => print_at(text, b"no such line here: ", field),
-        DeckCode::BadDigits => print_at(text, b"wrong digits: ", field),
+        DeckCode::TooLong => (b"longer than 1048576 bytes", &[]),
+        DeckCode::NotAscii => (b"not ASCII", &[]),
+        DeckCode::UnknownLine => (b"no such line here: ", field),
+        DeckCode::BadDigits => (b"wrong digits: ", field),
         DeckCode::BadProcessor if is_of_twenty(field) => {
-            print_at(text, b"no such processor without --processors 20: ", field);
+            (b"no such processor without --processors 20: ", field)
         }
-        DeckCode::BadProcessor => print_at(text, b"no such processor: ", field),
-        DeckCode::NoProcessor => print_at(text, b"no PP line before this: ", field),
-        DeckCode::PastEnd => print_at(text, b"past place 7777: ", field),
-        DeckCode::CentralRange => print_at(text, b"out of the range of central memory: ", field),
-        DeckCode::Memory => text.print(b"out of memory"),
+        DeckCode::BadProcessor => (b"no such processor: ", field),
+        DeckCode::NoProcessor => (b"no PP line before this: ", field),
+        DeckCode::PastEnd => (b"past place 7777: ", field),
+        DeckCode::CentralRange => (b"out of the range of central memory: ", field),
+        DeckCode::Memory => (b"out of memory", &[]),
     }
 }
 
@@ -41,15 +51,6 @@ fn is_of_twenty(field: &[u8]) -> bool
         Some(n) => Profile::Twenty.processor(n as u8).is_some(),
         None => false,
     }
-}
-
-/// Prints some words, and then a field.
-fn print_at<W: Write>(text: &mut TextWriter<W>, words: &[u8], field: &[u8])
-    requires { length words.now ≤ piece_length }
-    ensures { Prints W.contents text.old text.new (words.now ++ field.now) }
-{
-    text.print(words);
-    print_bytes(text, field);
 }
 
 /// Prints some bytes, however many.

@@ -109,12 +109,7 @@ impl<A: Allocator> FirstLines<A> {
                 &mut instructions_of(line),
                 number,
             ),
-            Kind::Fault => {}
-            Kind::Name(_) => {}
-            Kind::Central => {}
-            Kind::Dead => {}
-            Kind::Target(_) => {}
-            Kind::Channel(_) => {}
+            _ => {}
         }
     }
 

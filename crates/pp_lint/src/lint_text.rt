@@ -191,7 +191,7 @@ fn print_lines<A: Allocator, W: Write>(
     while let Some(line) = lines.next_line() {
         number += 1;
         let found = print_line_findings(text, whole, &before, &reached, number, line);
-        is_found = is_found || found;
+        is_found = is_found | found;
         let row = row_after(&before, line);
         reached = behind_line(&whole.firsts, profile, &row.kind, line, &reached);
         before = after_line(&before, line);

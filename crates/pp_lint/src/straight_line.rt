@@ -7,7 +7,7 @@ ghost use Rattle.pp_lint.specs.FirstLines.{Shows};
 ghost use Rattle.pp_lint.specs.Given.{Note};
 ghost use Rattle.pp_lint.specs.LineFault.{said_after};
 ghost use Rattle.pp_lint.specs.LintText.{finding_line, is_something_found};
-ghost use Rattle.pp_lint.specs.StraightLine.{behind, behind_all, behind_line, fault_finding, fault_text, field_of, is_at, is_reached};
+ghost use Rattle.pp_lint.specs.StraightLine.{behind, behind_all, behind_line, fault_finding, field_of, is_at, is_reached};
 ghost use Rattle.pp_lint.specs.RowOfLine.{Gives};
 ghost use Rattle.pp_lint.specs.declared.line_fault.Before.{Before};
 ghost use Rattle.pp_text.specs.TextWriter.{Prints};
@@ -39,12 +39,7 @@ pub(crate) fn behind_line<A: Allocator>(
     match kind {
         Kind::Name(_) => None,
         Kind::Word(n) => behind_all(firsts, profile, *n, reached, &mut instructions_of(line)),
-        Kind::Fault => *reached,
-        Kind::Start(_) => *reached,
-        Kind::Central => *reached,
-        Kind::Dead => *reached,
-        Kind::Target(_) => *reached,
-        Kind::Channel(_) => *reached,
+        _ => *reached,
     }
 }
 
@@ -106,8 +101,8 @@ fn is_at(place: Word12, reached: &Option<Word12>) -> bool
     }
 }
 
-/// Prints that an instruction faults wherever it is run, if it is reached, and returns whether that
-/// is so.
+/// Prints `2600 is EXN 00: FAULT 1 wherever it is run` of an instruction, if it is reached and
+/// that is so, and returns whether it is.
 pub(crate) fn print_fault_finding<W: Write>(
     text: &mut TextWriter<W>,
     words: &WordLine,
@@ -130,19 +125,11 @@ pub(crate) fn print_fault_finding<W: Write>(
     };
     let column = columns.column_of(field_of(words.first, i));
     print_place(text, words.number, column);
-    print_fault_text(text, u64::from(fault), i);
-    text.print(b"\n");
-    true
-}
-
-/// Prints `2600 is EXN 00: FAULT 1 wherever it is run`.
-fn print_fault_text<W: Write>(text: &mut TextWriter<W>, fault: u64, i: &Instruction)
-    ensures { Prints W.contents text.old text.new (fault_text fault i.now) }
-{
     i.print(text);
     text.print(b": FAULT ");
-    print_short_decimal(text, fault);
-    text.print(b" wherever it is run");
+    print_short_decimal(text, u64::from(fault));
+    text.print(b" wherever it is run\n");
+    true
 }
 
 /// The field of an instruction, in a line whose first word is that of this place.

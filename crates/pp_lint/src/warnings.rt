@@ -48,14 +48,11 @@ pub(crate) fn print_warnings<A: Allocator, W: Write>(
 {
     let row = row_of(before, &mut Fields::of(line));
     match &row.kind {
-        Kind::Fault => false,
         Kind::Name(n) => print_no_start(text, firsts, *n, number, line),
         Kind::Start(n) => print_start_warnings(text, firsts, &row, *n, number, line),
         Kind::Word(_) => print_twice(text, firsts, &row, number, line),
         Kind::Central => print_twice(text, firsts, &row, number, line),
-        Kind::Dead => false,
-        Kind::Target(_) => false,
-        Kind::Channel(_) => false,
+        _ => false,
     }
 }
 
@@ -80,7 +77,7 @@ fn print_start_warnings<A: Allocator, W: Write>(
 {
     let is_twice = print_twice(text, firsts, row, number, line);
     let is_wordless = print_no_word(text, firsts, n, number, line);
-    is_twice || is_wordless
+    is_twice | is_wordless
 }
 
 /// Prints the first of what a line sets that an earlier line sets, and returns whether there is
@@ -168,20 +165,10 @@ fn print_again<W: Write>(
         (record { line = number; column = column; words = twice_text kind.now place first })) }
 {
     print_place(text, number, column);
-    print_twice_text(text, kind, place, first);
-    text.print(b"\n");
-}
-
-/// Prints `0100 is set in line 3 too`.
-#[tactic(auto, unfolding(crate::specs::Warnings::twice_text))]
-fn print_twice_text<W: Write>(text: &mut TextWriter<W>, kind: &Kind, place: usize, first: u32)
-    requires { IsThing kind.now place }
-    ensures { Prints W.contents text.old text.new (twice_text kind.now place first) }
-{
     print_set(text, kind, place);
     text.print(b" is set in line ");
     print_short_decimal(text, u64::from(first));
-    text.print(b" too");
+    text.print(b" too\n");
 }
 
 /// Prints `0100`, `CM 20` or `START`.
@@ -231,23 +218,15 @@ fn print_no_start<A: Allocator, W: Write>(
 }
 
 /// Prints `3:1 PP 3 has no START`, at the first field of a line.
+#[tactic(auto, using(pp_numbers::proofs::PpNoLemmas::processor_fits))]
 fn print_startless<W: Write>(text: &mut TextWriter<W>, n: PpNo, number: u64, line: &[u8])
     ensures { Prints W.contents text.old text.new
         (finding_line (field_finding number line.now 0 (startless_text n))) }
 {
     print_place(text, number, Columns::of(line).column_of(0));
-    print_startless_text(text, n);
-    text.print(b"\n");
-}
-
-/// Prints `PP 3 has no START`.
-#[tactic(auto, using(pp_numbers::proofs::PpNoLemmas::processor_fits))]
-fn print_startless_text<W: Write>(text: &mut TextWriter<W>, n: PpNo)
-    ensures { Prints W.contents text.old text.new (startless_text n) }
-{
     text.print(b"PP ");
     print_short_octal(text, 2, u64::from(n.get()));
-    text.print(b" has no START");
+    text.print(b" has no START\n");
 }
 
 /// Whether the line of this number is the first that names a processor, which has no start, and has
@@ -310,15 +289,7 @@ fn print_wordless<W: Write>(text: &mut TextWriter<W>, place: Word12, number: u64
         (finding_line (field_finding number line.now 1 (wordless_text place))) }
 {
     print_place(text, number, Columns::of(line).column_of(1));
-    print_wordless_text(text, place);
-    text.print(b"\n");
-}
-
-/// Prints `START 0100, where no word is`.
-fn print_wordless_text<W: Write>(text: &mut TextWriter<W>, place: Word12)
-    ensures { Prints W.contents text.old text.new (wordless_text place) }
-{
     text.print(b"START ");
     text.print(&octal4(place.get()));
-    text.print(b", where no word is");
+    text.print(b", where no word is\n");
 }

@@ -1,10 +1,9 @@
 use Rattle.std.proofs.Common.{◌≡◌, ℕ, ◌+◌, ap, refl, subst, sym, ◌∙◌}
-use Rattle.std.specs.Prelude.{◌||◌}
 use Rattle.pp_instructions.specs.Claim.{claim}
 use Rattle.pp_instructions.specs.Column.{column_of}
 use Rattle.pp_lint.specs.CommentFindings.{claim_findings, claims_findings}
 use Rattle.pp_lint.specs.LintText.{is_something_found}
-use Rattle.pp_lint.proofs.CommentLemmas.{already, found_step, none_claimed, none_found, none_more, prints_none, prints_step}
+use Rattle.pp_lint.proofs.CommentLemmas.{found_step, none_claimed, none_found, none_more, prints_none, prints_step}
 use Rattle.pp_lint.proofs.WordsLemmas.{first_is, later_are}
 use Rattle.pp_lint.proofs.comment_findings.print_claims_findings.Goals as goal
 
@@ -24,21 +23,7 @@ loop-said-preserved g c =
       printed = λ k number out rest. c.loop-said.invariant.printed k number out
           (prints_step _ _ _ _ k c.args.star c.loop-said.columns c.args.comment.now _ _ _ _ _ _ c.loop-said.invariant.columns c.in-Some.ensures.taken first later (c.print_claim_finding-found.ensures.prints k number) rest);
       found = λ k. found_step k (λ i. c.args.star + 1 + column_of c.args.comment.now i) _ _ _ _ _ _ c.loop-said.is_found _ _ c.in-Some.ensures.taken first later
-          (subst (λ line. c.print_claim_finding-found.result ≡ is_something_found (claim_findings k (λ i. c.args.star + 1 + column_of line i) (claim c.in-Some.said.field c.in-Some.said.mnemonic.now c.in-Some.said.operand.now) c.next_instruction-instruction.result)) c.loop-said.invariant.columns (c.print_claim_finding-found.ensures.found k))
-          (sym (ap (λ b. b || c.print_claim_finding-found.result) c.if-is_found.false)) ∙ c.loop-said.invariant.found k;
-    }
-
-pub loop-said-preserved-then-is_found : goal.loop-said-preserved-then-is_found
-loop-said-preserved-then-is_found g c =
-    let first = first_is _ _ c.next_instruction-instruction.result c.next_instruction-instruction.ensures.taken c.next_instruction-instruction.ensures.none in
-    let later = later_are _ _ c.next_instruction-instruction.result c.next_instruction-instruction.ensures.taken c.next_instruction-instruction.ensures.none in
-    record {
-      columns = c.print_claim_finding-found.ensures.same ∙ c.loop-said.invariant.columns;
-      printed = λ k number out rest. c.loop-said.invariant.printed k number out
-          (prints_step _ _ _ _ k c.args.star c.loop-said.columns c.args.comment.now _ _ _ _ _ _ c.loop-said.invariant.columns c.in-Some.ensures.taken first later (c.print_claim_finding-found.ensures.prints k number) rest);
-      found = λ k. found_step k (λ i. c.args.star + 1 + column_of c.args.comment.now i) _ _ _ _ _ _ c.loop-said.is_found _ _ c.in-Some.ensures.taken first later
-          (subst (λ line. c.print_claim_finding-found.result ≡ is_something_found (claim_findings k (λ i. c.args.star + 1 + column_of line i) (claim c.in-Some.said.field c.in-Some.said.mnemonic.now c.in-Some.said.operand.now) c.next_instruction-instruction.result)) c.loop-said.invariant.columns (c.print_claim_finding-found.ensures.found k))
-          (already c.loop-said.is_found c.print_claim_finding-found.result c.if-is_found.true) ∙ c.loop-said.invariant.found k;
+          (subst (λ line. c.print_claim_finding-found.result ≡ is_something_found (claim_findings k (λ i. c.args.star + 1 + column_of line i) (claim c.in-Some.said.field c.in-Some.said.mnemonic.now c.in-Some.said.operand.now) c.next_instruction-instruction.result)) c.loop-said.invariant.columns (c.print_claim_finding-found.ensures.found k)) refl ∙ c.loop-said.invariant.found k;
     }
 
 pub returns-clause-prints : goal.returns-clause-prints

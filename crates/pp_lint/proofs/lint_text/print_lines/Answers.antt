@@ -1,6 +1,5 @@
 use Rattle.std.proofs.Common.{◌≡◌, ap, arith, map, refl, ◌∙◌}
 use Rattle.std.specs.List.{slice_split}
-use Rattle.std.specs.Prelude.{◌||◌}
 use Rattle.std.proofs.lemmas.List.Sums.{count_by-le-length}
 use Rattle.std.proofs.lemmas.List.Splits.{length-slice_split}
 use Rattle.pp_deck.specs.DeckText.{fields_of, is_line_feed}
@@ -10,7 +9,6 @@ use Rattle.pp_lint.specs.LintText.{finding_line, is_something_found}
 use Rattle.pp_lint.proofs.FindingLemmas.{before_next, findings_here, found_at, lines_are, next_is, none_left}
 use Rattle.pp_lint.proofs.GivenLemmas.{given_here, said_here, small_size}
 use Rattle.pp_lint.proofs.RunLemmas.{reached_first, reached_next}
-use Rattle.pp_lint.proofs.lint_text.print_lines.Goals.{then-is_found, else-is_found}
 use Rattle.pp_lint.proofs.lint_text.print_lines.Goals as goal
 
 pub loop-line-init : goal.loop-line-init
@@ -38,10 +36,6 @@ loop-line-preserved g c =
     let shows = rw (lines_are c.args.deck.now) at c.requires.shows in
     let here = findings_here c.args.profile lines c.loop-line.number c.in-Some.line.now c.loop-line.before c.args.whole.now.alone.items c.loop-line.reached c.loop-line.invariant.before c.loop-line.invariant.reached next.here in
     let also : c.print_line_findings-found.result ≡ is_something_found (findings_at c.args.profile lines c.args.whole.now.alone.items c.loop-line.number) = c.print_line_findings-found.ensures.found c.loop-line.number _ shows refl ∙ ap is_something_found here in
-    let either : c.if-is_found.is_found ≡ (c.loop-line.is_found || c.print_line_findings-found.result) = elim c.if-is_found.branch [
-      | then-is_found w ↦ rw w.if-is_found.true (w.is_found-is ∙ w.if-is_found.true)
-      | else-is_found w ↦ rw w.if-is_found.false w.is_found-is
-    ] in
     record {
       most = omega (arith, next.within);
       left = next.left;
@@ -50,7 +44,7 @@ loop-line-preserved g c =
           (said_here c.args.profile lines c.loop-line.number c.in-Some.line.now c.loop-line.before c.loop-line.invariant.before next.within next.here) c.loop-line.invariant.reached
           (c.behind_line-reached.ensures _ c.loop-line.before shows c.row_after-row.ensures.gives);
       printed = prints_more _ _ _ _ finding_line (findings_at c.args.profile lines c.args.whole.now.alone.items) c.loop-line.number c.loop-line.invariant.printed (rw here at (c.print_line_findings-found.ensures.prints c.loop-line.number _ shows refl));
-      found = either ∙ found_at c.args.profile lines c.args.whole.now.alone.items c.loop-line.number c.loop-line.is_found c.print_line_findings-found.result c.loop-line.invariant.found also;
+      found = found_at c.args.profile lines c.args.whole.now.alone.items c.loop-line.number c.loop-line.is_found c.print_line_findings-found.result c.loop-line.invariant.found also;
     }
 
 pub returns-clause-prints : goal.returns-clause-prints

@@ -11,20 +11,5 @@ returns-in-Word g c = λ notes before shows gives.
     c.behind_all.ensures notes shows ∙ ap (behind_all c.args.profile notes c.in-Word.n c.args.reached.now) (c.instructions_of.ensures before (gives.clean (rw c.in-Word.is refl)))
     ∙ behind_words c.args.profile notes _ c.args.reached.now c.args.kind.now c.in-Word.n c.in-Word.is
 
-pub returns-in-Fault : goal.returns-in-Fault
-returns-in-Fault g c = λ notes before shows gives. behind_other c.args.profile notes _ c.args.reached.now c.args.kind.now (rw c.in-Fault.is refl) (rw c.in-Fault.is refl)
-
-pub returns-in-Start : goal.returns-in-Start
-returns-in-Start g c = λ notes before shows gives. behind_other c.args.profile notes _ c.args.reached.now c.args.kind.now (rw c.in-Start.is refl) (rw c.in-Start.is refl)
-
-pub returns-in-Central : goal.returns-in-Central
-returns-in-Central g c = λ notes before shows gives. behind_other c.args.profile notes _ c.args.reached.now c.args.kind.now (rw c.in-Central.is refl) (rw c.in-Central.is refl)
-
-pub returns-in-Dead : goal.returns-in-Dead
-returns-in-Dead g c = λ notes before shows gives. behind_other c.args.profile notes _ c.args.reached.now c.args.kind.now (rw c.in-Dead.is refl) (rw c.in-Dead.is refl)
-
-pub returns-in-Target : goal.returns-in-Target
-returns-in-Target g c = λ notes before shows gives. behind_other c.args.profile notes _ c.args.reached.now c.args.kind.now (rw c.in-Target.is refl) (rw c.in-Target.is refl)
-
-pub returns-in-Channel : goal.returns-in-Channel
-returns-in-Channel g c = λ notes before shows gives. behind_other c.args.profile notes _ c.args.reached.now c.args.kind.now (rw c.in-Channel.is refl) (rw c.in-Channel.is refl)
+pub returns-in_default : goal.returns-in_default
+returns-in_default g c = λ notes before shows gives. behind_other c.args.profile notes _ c.args.reached.now c.args.kind.now c.in_default.not-Word c.in_default.not-Name

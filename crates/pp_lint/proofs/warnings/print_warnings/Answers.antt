@@ -3,7 +3,7 @@ use Rattle.std.specs.List.{flat_map}
 use Rattle.pp_lint.specs.LintText.{finding_line, is_something_found}
 use Rattle.pp_lint.proofs.CommentLemmas.{none_found, prints_none}
 use Rattle.pp_instructions.proofs.FieldLemmas.{few_fields}
-use Rattle.pp_lint.proofs.WarningLemmas.{warned_central, warned_dead, warned_name, warned_nothing, warned_start, warned_channel, warned_target, warned_word}
+use Rattle.pp_lint.proofs.WarningLemmas.{warned_central, warned_name, warned_other, warned_start, warned_word}
 use Rattle.pp_text.specs.TextWriter.{Prints}
 use Rattle.pp_lint.proofs.warnings.print_warnings.Goals as goal
 
@@ -18,12 +18,6 @@ print_twice-requires-clause-row g c = c.row_of-row.ensures.room (rw c.of.ensures
 
 pub print_twice-requires-in-Central-clause-row : goal.print_twice-requires-in-Central-clause-row
 print_twice-requires-in-Central-clause-row g c = c.row_of-row.ensures.room (rw c.of.ensures c.requires.clean.none)
-
-pub returns-in-Fault-clause-prints : goal.returns-in-Fault-clause-prints
-returns-in-Fault-clause-prints g c = λ k notes shows number. prints_none _ _ _ (warned_nothing k c.args.line.now notes _ _ c.row_of-row.result (rw c.of.ensures at (c.row_of-row.ensures.value (rw c.of.ensures c.requires.clean.none))) c.in-Fault.is)
-
-pub returns-in-Fault-clause-found : goal.returns-in-Fault-clause-found
-returns-in-Fault-clause-found g c = λ k notes shows number. none_found _ (warned_nothing k c.args.line.now notes _ _ c.row_of-row.result (rw c.of.ensures at (c.row_of-row.ensures.value (rw c.of.ensures c.requires.clean.none))) c.in-Fault.is)
 
 pub returns-in-Name-clause-prints : goal.returns-in-Name-clause-prints
 returns-in-Name-clause-prints g c = λ k notes shows number.
@@ -61,20 +55,8 @@ pub returns-in-Central-clause-found : goal.returns-in-Central-clause-found
 returns-in-Central-clause-found g c = λ k notes shows number.
     c.print_twice-in-Central.ensures.found k notes shows number ∙ ap is_something_found (sym (warned_central k c.args.line.now notes _ _ c.row_of-row.result (rw c.of.ensures at (c.row_of-row.ensures.value (rw c.of.ensures c.requires.clean.none))) c.in-Central.is))
 
-pub returns-in-Dead-clause-prints : goal.returns-in-Dead-clause-prints
-returns-in-Dead-clause-prints g c = λ k notes shows number. prints_none _ _ _ (warned_dead k c.args.line.now notes _ _ c.row_of-row.result (rw c.of.ensures at (c.row_of-row.ensures.value (rw c.of.ensures c.requires.clean.none))) c.in-Dead.is)
+pub returns-in_default-clause-prints : goal.returns-in_default-clause-prints
+returns-in_default-clause-prints g c = λ k notes shows number. prints_none _ _ _ (warned_other k c.args.line.now notes _ _ c.row_of-row.result (rw c.of.ensures at (c.row_of-row.ensures.value (rw c.of.ensures c.requires.clean.none))) c.in_default.not-Name c.in_default.not-Start c.in_default.not-Word c.in_default.not-Central)
 
-pub returns-in-Dead-clause-found : goal.returns-in-Dead-clause-found
-returns-in-Dead-clause-found g c = λ k notes shows number. none_found _ (warned_dead k c.args.line.now notes _ _ c.row_of-row.result (rw c.of.ensures at (c.row_of-row.ensures.value (rw c.of.ensures c.requires.clean.none))) c.in-Dead.is)
-
-pub returns-in-Target-clause-prints : goal.returns-in-Target-clause-prints
-returns-in-Target-clause-prints g c = λ k notes shows number. prints_none _ _ _ (warned_target k c.args.line.now notes _ _ c.row_of-row.result c.in-Target.field-0 (rw c.of.ensures at (c.row_of-row.ensures.value (rw c.of.ensures c.requires.clean.none))) c.in-Target.is)
-
-pub returns-in-Target-clause-found : goal.returns-in-Target-clause-found
-returns-in-Target-clause-found g c = λ k notes shows number. none_found _ (warned_target k c.args.line.now notes _ _ c.row_of-row.result c.in-Target.field-0 (rw c.of.ensures at (c.row_of-row.ensures.value (rw c.of.ensures c.requires.clean.none))) c.in-Target.is)
-
-pub returns-in-Channel-clause-prints : goal.returns-in-Channel-clause-prints
-returns-in-Channel-clause-prints g c = λ k notes shows number. prints_none _ _ _ (warned_channel k c.args.line.now notes _ _ c.row_of-row.result c.in-Channel.field-0 (rw c.of.ensures at (c.row_of-row.ensures.value (rw c.of.ensures c.requires.clean.none))) c.in-Channel.is)
-
-pub returns-in-Channel-clause-found : goal.returns-in-Channel-clause-found
-returns-in-Channel-clause-found g c = λ k notes shows number. none_found _ (warned_channel k c.args.line.now notes _ _ c.row_of-row.result c.in-Channel.field-0 (rw c.of.ensures at (c.row_of-row.ensures.value (rw c.of.ensures c.requires.clean.none))) c.in-Channel.is)
+pub returns-in_default-clause-found : goal.returns-in_default-clause-found
+returns-in_default-clause-found g c = λ k notes shows number. none_found _ (warned_other k c.args.line.now notes _ _ c.row_of-row.result (rw c.of.ensures at (c.row_of-row.ensures.value (rw c.of.ensures c.requires.clean.none))) c.in_default.not-Name c.in_default.not-Start c.in_default.not-Word c.in_default.not-Central)

@@ -16,20 +16,5 @@ returns-in-Word g c = λ notes before shows gives.
     (ap (flat_map (notes_of_instruction c.args.number c.args.profile c.in-Word.n)) (c.instructions_of.ensures before (gives.clean (rw c.in-Word.is refl))) ∙ sym (words_within c.args.profile _ c.args.number c.args.kind.now c.in-Word.n c.in-Word.is)))
     (c.note_instructions.ensures notes shows)
 
-pub returns-in-Fault : goal.returns-in-Fault
-returns-in-Fault g c = λ notes before shows gives. subst (Shows c.args.self.now) (same_within c.args.profile _ c.args.number c.args.kind.now notes (rw c.in-Fault.is refl) (rw c.in-Fault.is refl)) shows
-
-pub returns-in-Name : goal.returns-in-Name
-returns-in-Name g c = λ notes before shows gives. subst (Shows c.args.self.now) (same_within c.args.profile _ c.args.number c.args.kind.now notes (rw c.in-Name.is refl) (rw c.in-Name.is refl)) shows
-
-pub returns-in-Central : goal.returns-in-Central
-returns-in-Central g c = λ notes before shows gives. subst (Shows c.args.self.now) (same_within c.args.profile _ c.args.number c.args.kind.now notes (rw c.in-Central.is refl) (rw c.in-Central.is refl)) shows
-
-pub returns-in-Dead : goal.returns-in-Dead
-returns-in-Dead g c = λ notes before shows gives. subst (Shows c.args.self.now) (same_within c.args.profile _ c.args.number c.args.kind.now notes (rw c.in-Dead.is refl) (rw c.in-Dead.is refl)) shows
-
-pub returns-in-Target : goal.returns-in-Target
-returns-in-Target g c = λ notes before shows gives. subst (Shows c.args.self.now) (same_within c.args.profile _ c.args.number c.args.kind.now notes (rw c.in-Target.is refl) (rw c.in-Target.is refl)) shows
-
-pub returns-in-Channel : goal.returns-in-Channel
-returns-in-Channel g c = λ notes before shows gives. subst (Shows c.args.self.now) (same_within c.args.profile _ c.args.number c.args.kind.now notes (rw c.in-Channel.is refl) (rw c.in-Channel.is refl)) shows
+pub returns-in_default : goal.returns-in_default
+returns-in_default g c = λ notes before shows gives. subst (Shows c.args.self.now) (same_within c.args.profile _ c.args.number c.args.kind.now notes c.in_default.not-Word c.in_default.not-Start) shows

@@ -1,22 +1,22 @@
-use Rattle.std.proofs.Common.{◌≡◌, ap, arith, sym, ◌∙◌}
+use Rattle.std.proofs.Common.{◌≡◌, ap, arith, refl, sym, ◌∙◌}
 use Rattle.std.specs.Prelude.{filter_map, option_to_list}
 use Rattle.pp_numbers.specs.PpNo.{all_processors, processor_count, processor_number}
 use Rattle.pp_numbers.specs.Tables.{tabulate}
 use Rattle.pp_deck.specs.DeckMeaning.{LoadedDeck}
-use Rattle.pp_lint.specs.ChannelUse.{use_of_one, user}
+use Rattle.pp_lint.specs.ChannelUse.{alone_use, use_of_one, user}
 use Rattle.pp_lint.proofs.ChannelUseLemmas.{first_found, none_here, none_yet, not_alone}
-use Rattle.pp_lint.proofs.channel_use.use_of_one.Goals.{in-Some+else-is_some, in_default}
-use Rattle.pp_lint.proofs.channel_use.use_of_one.Goals as goal
+use Rattle.pp_lint.proofs.channel_use.alone_use.Goals.{in-Some+else-is_some, in_default}
+use Rattle.pp_lint.proofs.channel_use.alone_use.Goals as goal
 
 pub loop-place-init : goal.loop-place-init
 loop-place-init g c = none_yet _ processor_number
 
 pub returns-then-is_some : goal.returns-then-is_some
-unfolding all_processors
+unfolding all_processors alone_use
 returns-then-is_some g c =
     let deck : LoadedDeck = record { machine = c.args.deck.now.machine; named = c.args.deck.now.named } in
-    not_alone deck c.args.c c.loop-place.place processor_count c.loop-place.found c.in-Some.n (omega (arith, c.loop-place-test.true)) (sym c.is_some.ensures ∙ c.if-is_some.true) c.loop-place.invariant
-    (c.in-Some.ensures ∙ ap (user deck c.args.c) c.at.ensures.number)
+    rw (sym c.opened-is_opened.ensures ∙ c.if-is_opened.false) (not_alone deck c.args.c c.loop-place.place processor_count c.loop-place.found c.in-Some.n (omega (arith, c.loop-place-test.true)) (sym c.is_some.ensures ∙ c.if-is_some.true) c.loop-place.invariant
+    (c.in-Some.ensures ∙ ap (user deck c.args.c) c.at.ensures.number))
 
 pub loop-place-preserved : goal.loop-place-preserved
 loop-place-preserved g c =
@@ -27,8 +27,12 @@ loop-place-preserved g c =
     ]
 
 pub returns : goal.returns
-unfolding all_processors
+unfolding all_processors alone_use
 returns g c =
     let deck : LoadedDeck = record { machine = c.args.deck.now.machine; named = c.args.deck.now.named } in
     let all : c.loop-place.place ≡ processor_count = omega (arith, c.loop-place.auto.place-end, c.loop-place-test.false) in
-    c.use_of.ensures ∙ ap (use_of_one deck c.args.c) (sym c.loop-place.invariant ∙ ap (λ k. filter_map (user deck c.args.c) (tabulate k processor_number)) all)
+    rw (sym c.opened-is_opened.ensures ∙ c.if-is_opened.false) (c.use_of.ensures ∙ ap (use_of_one deck c.args.c) (sym c.loop-place.invariant ∙ ap (λ k. filter_map (user deck c.args.c) (tabulate k processor_number)) all))
+
+pub returns-then-is_opened : goal.returns-then-is_opened
+unfolding alone_use
+returns-then-is_opened g c = rw (sym c.opened-is_opened.ensures ∙ c.if-is_opened.true) refl
