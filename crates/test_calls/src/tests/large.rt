@@ -8,177 +8,245 @@ use pp_sim::DeckCode::{
 };
 use pp_sim::{DeckCode, DeckFault, Schedule, Tested, TextFault, lint_text, read_deck, test_text};
 use pp_word::{Word12, Word18, Word60};
-use std::alloc::{AllocError, Global};
-use std::test::Fail;
+use std::alloc::Global;
 use test_bench::first;
 
 /// A long deck: its beginning, a piece that is repeated up to its end, its end, and its length in
 /// bytes.
-type Long = (&'static [u8], &'static [u8], &'static [u8], usize);
+pub(crate) type Long = (&'static [u8], &'static [u8], &'static [u8], usize);
 
-fn text_of((front, piece, end, length): Long, alloc: Global) -> Result<Vec<u8>, AllocError> {
+/// The text of a long deck, if it has its length.
+pub(crate) fn text_of(alloc: Global, (front, piece, end, length): Long) -> Option<Vec<u8>> {
     let room = length.saturating_sub(front.len()).saturating_sub(end.len());
-    let mut text = front.to_vec(alloc)?;
+    let mut text = front.to_vec(alloc).ok()?;
     for _ in 0..room / piece.len().max(1) {
-        text.extend_from_slice(piece)?;
+        text.extend_from_slice(piece).ok()?;
     }
-    text.extend_from_slice(end)?;
-    Ok(text)
+    text.extend_from_slice(end).ok()?;
+    if text.len() == length {
+        Some(text)
+    } else {
+        None
+    }
 }
 
 /// Decks that are too long, or as long as may be, and others; and where each is at fault.
-const FAULTS: [(Long, u32, DeckCode); 17] = [
-    ((b"", b" ", b"\x80", 1_048_577), 0, TooLong),
-    ((b"PP 3\n", b" ", b"0100 0007", 1_048_577), 0, TooLong),
-    ((b"words \x80\n", b" ", b"", 1_048_577), 0, TooLong),
-    ((b"", b"\n", b"\x80", 1_048_576), 1_048_576, NotAscii),
-    ((b"9\n", b" ", b"\x80", 1_048_576), 2, NotAscii),
-    ((b"", b"\n", b"9", 1_048_576), 1_048_576, NoProcessor),
-    ((b"", b"1", b"", 1_048_576), 1, NoProcessor),
-    ((b"PP 0\n", b"1", b"", 1_048_576), 2, BadDigits),
-    ((b"CM 0 ", b"7", b"", 1_048_576), 1, BadDigits),
-    ((b"PP 0", b"\r", b"", 1_048_576), 1, BadDigits),
-    ((b"", b"PP 0\n", b"9", 500_001), 100_001, BadDigits),
-    ((b"", b"\r", b"\n", 1_048_576), 1, UnknownLine),
-    ((b"", b"\0", b"", 1_048_576), 1, UnknownLine),
-    ((b"PP ", b"\t", b"0 0", 1_048_576), 1, UnknownLine),
-    ((b"", b"* PP 0\n", b"PP 12", 980_005), 140_001, BadProcessor),
-    ((b"PP 0\n0 ", b"1 ", b"", 8201), 2, PastEnd),
+const FAULTS: [(&[u8], &[u8], &[u8], usize, u32, DeckCode); 17] = [
+    (b"", b" ", b"\x80", 1_048_577, 0, TooLong),
+    (b"PP 3\n", b" ", b"0100 0007", 1_048_577, 0, TooLong),
+    (b"words \x80\n", b" ", b"", 1_048_577, 0, TooLong),
+    (b"", b"\n", b"\x80", 1_048_576, 1_048_576, NotAscii),
+    (b"9\n", b" ", b"\x80", 1_048_576, 2, NotAscii),
+    (b"", b"\n", b"9", 1_048_576, 1_048_576, NoProcessor),
+    (b"", b"1", b"", 1_048_576, 1, NoProcessor),
+    (b"PP 0\n", b"1", b"", 1_048_576, 2, BadDigits),
+    (b"CM 0 ", b"7", b"", 1_048_576, 1, BadDigits),
+    (b"PP 0", b"\r", b"", 1_048_576, 1, BadDigits),
+    (b"", b"PP 0\n", b"9", 500_001, 100_001, BadDigits),
+    (b"", b"\r", b"\n", 1_048_576, 1, UnknownLine),
+    (b"", b"\0", b"", 1_048_576, 1, UnknownLine),
+    (b"PP ", b"\t", b"0 0", 1_048_576, 1, UnknownLine),
+    (b"", b"* PP 0\n", b"PP 12", 980_005, 140_001, BadProcessor),
+    (b"PP 0\n0 ", b"1 ", b"", 8201, 2, PastEnd),
     (
-        (b"CENTRAL 400000\nCM 0 ", b"1 ", b"", 262_166),
+        b"CENTRAL 400000\nCM 0 ",
+        b"1 ",
+        b"",
+        262_166,
         2,
         CentralRange,
     ),
 ];
 
-/// Whether a long deck is at fault so.
-fn is_at_fault(alloc: Global, deck: Long, fault: DeckFault) -> Result<bool, AllocError> {
-    let text = text_of(deck, alloc)?;
-    let told = read_deck(alloc, Profile::Ten, &text).err();
-    Ok(text.len() == deck.3 && told == Some(fault))
+/// Where a long deck is at fault.
+fn fault_of(alloc: Global, deck: Long) -> Option<DeckFault> {
+    read_deck(alloc, Profile::Ten, &text_of(alloc, deck)?).err()
 }
 
 #[test]
-fn faults_of_long_decks(rt: HostRuntime) -> Result<(), AllocError> {
-    for (deck, line, code) in FAULTS {
-        let fault = DeckFault { line, code };
-        assert!(rt; is_at_fault(rt.alloc(), deck, fault)?, "{fault}");
+fn faults_of_long_decks(rt: HostRuntime) {
+    for &(front, piece, end, length, line, code) in &FAULTS {
+        let (deck, fault) = ((front, piece, end, length), DeckFault { line, code });
+        assert!(rt; fault_of(rt.alloc(), deck) == Some(fault), "{fault}");
     }
-    Ok(())
 }
 
 /// Decks, with their listings, which show all that they load.
-const DECKS: [(Long, &str); 5] = [
+const DECKS: [(&[u8], &[u8], &[u8], usize, &str); 5] = [
     (
-        (b"PP 3\n", b" ", b"0100 0007", 1_048_576),
+        b"PP 3\n",
+        b" ",
+        b"0100 0007",
+        1_048_576,
         "CENTRAL 10000\nPP 3\n0100 0007           * PSN 07\n",
     ),
-    ((b"", b"*", b"", 1_048_576), "CENTRAL 10000\n"),
-    ((b"", b"\r\n", b"", 1_048_576), "CENTRAL 10000\n"),
-    ((b"", b"PP 0\n", b"", 500_000), "CENTRAL 10000\nPP 0\n"),
+    (b"", b"*", b"", 1_048_576, "CENTRAL 10000\n"),
+    (b"", b"\r\n", b"", 1_048_576, "CENTRAL 10000\n"),
+    (b"", b"PP 0\n", b"", 500_000, "CENTRAL 10000\nPP 0\n"),
     (
-        (b"PP 0\n", b"START 7777 777777\n", b"START 1", 900_012),
+        b"PP 0\n",
+        b"START 7777 777777\n",
+        b"START 1",
+        900_012,
         "CENTRAL 10000\nPP 0\nSTART 0001 000000\n",
     ),
 ];
 
 /// Whether a long deck is listed so.
-fn is_listed(alloc: Global, deck: Long, listed: &str) -> Result<bool, Fail> {
-    let text = text_of(deck, alloc)?;
+fn is_listed(alloc: Global, deck: Long, listed: &str) -> bool {
+    let Some(text) = text_of(alloc, deck) else {
+        return false;
+    };
     let mut shown = Vec::new(alloc);
-    write_listing(&mut shown, &read_deck(alloc, Profile::Ten, &text)?)?;
-    Ok(text.len() == deck.3 && shown.as_slice() == listed.as_bytes())
+    match read_deck(alloc, Profile::Ten, &text) {
+        Ok(deck) => {
+            write_listing(&mut shown, &deck).is_ok() && shown.as_slice() == listed.as_bytes()
+        }
+        Err(_) => false,
+    }
 }
 
 #[test]
-fn long_decks(rt: HostRuntime) -> Result<(), Fail> {
-    for (deck, listed) in DECKS {
-        assert!(rt; is_listed(rt.alloc(), deck, listed)?, "{listed}");
+fn long_decks(rt: HostRuntime) {
+    for &(front, piece, end, length, listed) in &DECKS {
+        let deck = (front, piece, end, length);
+        assert!(rt; is_listed(rt.alloc(), deck, listed), "{listed}");
     }
-    Ok(())
 }
 
 /// Decks, and what is found in each.
-const LINTED: [(Long, &str); 5] = [
+const LINTED: [(&[u8], &[u8], &[u8], usize, &str); 5] = [
     (
-        (b"", b" ", b"9", 1_048_577),
+        b"",
+        b" ",
+        b"9",
+        1_048_577,
         "1:1 longer than 1048576 bytes\n",
     ),
     (
-        (b"", b" ", b"9", 1_048_576),
+        b"",
+        b" ",
+        b"9",
+        1_048_576,
         "1:1048576 no PP line before this: 9\n",
     ),
     (
-        (b"", b"\n", b"9", 1_048_576),
+        b"",
+        b"\n",
+        b"9",
+        1_048_576,
         "1048576:1 no PP line before this: 9\n",
     ),
     (
-        (b"", b"* PP 0\n", b"PP 0\n0 1", 140_008),
+        b"",
+        b"* PP 0\n",
+        b"PP 0\n0 1",
+        140_008,
         "20001:1 PP 0 has no START\n",
     ),
     (
-        (b"PP 0\nSTART 0\n0 ", b"1 ", b"* LDN", 8210),
+        b"PP 0\nSTART 0\n0 ",
+        b"1 ",
+        b"* LDN",
+        8210,
         "3:8195 LDN, but 0001 is PSN 01\n",
     ),
 ];
 
+/// Whether this is found in a long deck.
+fn is_found(alloc: Global, deck: Long, found: &str) -> bool {
+    let Some(text) = text_of(alloc, deck) else {
+        return false;
+    };
+    let (mut reader, mut writer) = (text.as_slice(), Vec::new(alloc));
+    let answer = lint_text(alloc, Profile::Ten, &mut reader, &mut writer);
+    matches!(answer, Err(TextFault::Findings)) && writer.as_slice() == found.as_bytes()
+}
+
 #[test]
-fn findings_in_long_decks(rt: HostRuntime) -> Result<(), Fail> {
-    for (deck, found) in LINTED {
-        let text = text_of(deck, rt.alloc())?;
-        let (mut reader, mut writer) = (text.as_slice(), Vec::new(rt.alloc()));
-        let answer = lint_text(rt.alloc(), Profile::Ten, &mut reader, &mut writer);
-        assert!(rt; text.len() == deck.3, "{found}");
-        assert!(rt; matches!(answer, Err(TextFault::Findings)), "{found}");
-        assert!(rt; writer.as_slice() == found.as_bytes(), "{found}");
+fn findings_in_long_decks(rt: HostRuntime) {
+    for &(front, piece, end, length, found) in &LINTED {
+        let deck = (front, piece, end, length);
+        assert!(rt; is_found(rt.alloc(), deck, found), "{found}");
     }
-    Ok(())
 }
 
 /// Decks that expect much, or one thing at length, and what is said of each.
-const EXPECTING: [(Long, Tested, Long); 5] = [
+const EXPECTING: [(
+    &[u8],
+    &[u8],
+    &[u8],
+    usize,
+    Tested,
+    &[u8],
+    &[u8],
+    &[u8],
+    usize,
+); 5] = [
     (
-        (b"CENTRAL 10\n", b"*= AT REST\n", b"", 110_011),
+        b"CENTRAL 10\n",
+        b"*= AT REST\n",
+        b"",
+        110_011,
         Tested::Run(0),
-        (b"", b"", b"HELD 10000\n", 11),
+        b"",
+        b"",
+        b"HELD 10000\n",
+        11,
     ),
     (
-        (b"CENTRAL 10\n", b"*= AT REST\n", b"", 110_011),
+        b"CENTRAL 10\n",
+        b"*= AT REST\n",
+        b"",
+        110_011,
         Tested::EveryOrder(10),
-        (b"", b"", b"HELD 10000 IN 1 ENDING\n", 23),
+        b"",
+        b"",
+        b"HELD 10000 IN 1 ENDING\n",
+        23,
     ),
     (
-        (b"CENTRAL 10\n*! ", b"x", b"", 100_014),
+        b"CENTRAL 10\n*! ",
+        b"x",
+        b"",
+        100_014,
         Tested::Run(0),
-        (b"", b"", b"HELD 1\n", 7),
+        b"",
+        b"",
+        b"HELD 1\n",
+        7,
     ),
     (
-        (b"CENTRAL 10\n*= ", b"x", b"", 100_014),
+        b"CENTRAL 10\n*= ",
+        b"x",
+        b"",
+        100_014,
         Tested::Run(0),
-        (
-            b"2: *= ",
-            b"x",
-            b"\n  nearest: CM 0 00000000000000000000\nFAILED 1 OF 1\n",
-            100_058,
-        ),
+        b"2: *= ",
+        b"x",
+        b"\n  nearest: CM 0 00000000000000000000\nFAILED 1 OF 1\n",
+        100_058,
     ),
     (
-        (b"CENTRAL 10\n*= ", b"AT ", b"", 100_013),
+        b"CENTRAL 10\n*= ",
+        b"AT ",
+        b"",
+        100_013,
         Tested::EveryOrder(10),
-        (
-            b"ORDER\n2: *= ",
-            b"AT ",
-            b"\n  nearest: AT REST\nFAILED 1 OF 1\n",
-            100_045,
-        ),
+        b"ORDER\n2: *= ",
+        b"AT ",
+        b"\n  nearest: AT REST\nFAILED 1 OF 1\n",
+        100_045,
     ),
 ];
 
-/// What is said of what a long deck expects.
-fn verdict_on(alloc: Global, deck: Long, tested: Tested) -> Result<Vec<u8>, Fail> {
-    let text = text_of(deck, alloc)?;
+/// Whether this is said of what a long deck expects.
+fn is_said(alloc: Global, deck: Long, tested: Tested, said: &[u8]) -> bool {
+    let Some(text) = text_of(alloc, deck) else {
+        return false;
+    };
     let (mut reader, mut writer) = (text.as_slice(), Vec::new(alloc));
-    match test_text(
+    let answer = test_text(
         alloc,
         Profile::Ten,
         &Schedule {
@@ -188,20 +256,24 @@ fn verdict_on(alloc: Global, deck: Long, tested: Tested) -> Result<Vec<u8>, Fail
         &mut reader,
         &mut writer,
         tested,
-    ) {
-        Ok(()) | Err(TextFault::Findings) => Ok(writer),
-        Err(fault) => Err(fault.into()),
+    );
+    matches!(answer, Ok(()) | Err(TextFault::Findings)) && writer.as_slice() == said
+}
+
+/// The same, of a text that is long too.
+fn is_long_said(alloc: Global, deck: Long, tested: Tested, said: Long) -> bool {
+    match text_of(alloc, said) {
+        Some(said) => is_said(alloc, deck, tested, &said),
+        None => false,
     }
 }
 
 #[test]
-fn long_expectations(rt: HostRuntime) -> Result<(), Fail> {
-    for (deck, tested, said) in EXPECTING {
-        let text = verdict_on(rt.alloc(), deck, tested)?;
-        assert!(rt; text.as_slice() == text_of(said, rt.alloc())?.as_slice());
-        assert!(rt; text.len() == said.3);
+fn long_expectations(rt: HostRuntime) {
+    for &(front, piece, end, length, tested, before, part, after, size) in &EXPECTING {
+        let (deck, said) = ((front, piece, end, length), (before, part, after, size));
+        assert!(rt; is_long_said(rt.alloc(), deck, tested, said));
     }
-    Ok(())
 }
 
 /// How many places of processor 0 hold 1, and how many central words.
@@ -224,11 +296,13 @@ fn ones(machine: &Machine<Global>) -> (u32, u32) {
 }
 
 /// Whether a deck of one line loads as many ones as expected.
-fn loads(alloc: Global, deck: Long, expected: (u32, u32)) -> Result<bool, AllocError> {
-    let text = text_of(deck, alloc)?;
+fn loads(alloc: Global, deck: Long, expected: (u32, u32)) -> bool {
+    let Some(text) = text_of(alloc, deck) else {
+        return false;
+    };
     match read_deck(alloc, Profile::Ten, &text) {
-        Ok(deck) => Ok(ones(&deck.machine) == expected),
-        Err(_) => Ok(false),
+        Ok(deck) => ones(&deck.machine) == expected,
+        Err(_) => false,
     }
 }
 
@@ -238,8 +312,7 @@ const WORDS: Long = (b"CENTRAL 400000\nCM 0 ", b"1 ", b"", 262_164);
 
 /// One line that sets every place of a processor, and one that sets every central word.
 #[test]
-fn whole_memories(rt: HostRuntime) -> Result<(), AllocError> {
-    assert!(rt; loads(rt.alloc(), PLACES, (4096, 0))?);
-    assert!(rt; loads(rt.alloc(), WORDS, (0, 131_072))?);
-    Ok(())
+fn whole_memories(rt: HostRuntime) {
+    assert!(rt; loads(rt.alloc(), PLACES, (4096, 0)));
+    assert!(rt; loads(rt.alloc(), WORDS, (0, 131_072)));
 }

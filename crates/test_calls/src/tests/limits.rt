@@ -1,9 +1,10 @@
 //! A run with everything at its limit: the longest deck, the largest central memory and the most
 //! turns.
 
+use super::large::text_of;
 use pp_machine::Profile;
 use pp_sim::barrel_text;
-use std::alloc::{AllocError, Global};
+use std::alloc::Global;
 
 /// Five pairs on channels 0 to 4: one puts 99,968 words (decimal), the other takes them.
 const FRONT: &str = "\
@@ -69,15 +70,6 @@ const PLAIN: usize = 21;
 
 const WITH_WORD: usize = 26;
 
-/// The deck, filled up with spaces.
-fn longest_deck(alloc: Global) -> Result<Vec<u8>, AllocError> {
-    let mut deck = FRONT.as_bytes().to_vec(alloc)?;
-    for _ in 0..LONGEST.saturating_sub(FRONT.len()) {
-        deck.push(b' ')?;
-    }
-    Ok(deck)
-}
-
 /// Whether a deck has the text that it should after the most turns: each pair makes one Activate
 /// and passes its words.
 fn runs(alloc: Global, mut deck: &[u8]) -> bool {
@@ -88,9 +80,12 @@ fn runs(alloc: Global, mut deck: &[u8]) -> bool {
         && text.len() == events + END.len()
 }
 
+/// The deck is filled up with spaces.
 #[test]
-fn everything_at_its_limit(rt: HostRuntime) -> Result<(), AllocError> {
-    let deck = longest_deck(rt.alloc())?;
-    assert!(rt; deck.len() == LONGEST && runs(rt.alloc(), &deck));
-    Ok(())
+fn everything_at_its_limit(rt: HostRuntime) {
+    let is_right = match text_of(rt.alloc(), (FRONT.as_bytes(), b" ", b"", LONGEST)) {
+        Some(deck) => runs(rt.alloc(), &deck),
+        None => false,
+    };
+    assert!(rt; is_right);
 }

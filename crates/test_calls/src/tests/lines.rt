@@ -5,8 +5,7 @@ ghost use Rattle.std.specs.Prelude.{◌≡◌, IfSome};
 use pp_channel::{ChanOp, ChannelNo, Event, Numbered, Reply, Seen};
 use pp_line::{Entry, Line, open_lines};
 use std::alloc::Global;
-use std::test::Fail;
-use test_bench::{EMPTY, FULL, INACTIVE, channel, numbered, word};
+use test_bench::{EMPTY, FULL, INACTIVE, numbered, word};
 
 /// A call, and the answer that it has to have.
 type Call = (ChanOp, Numbered);
@@ -101,47 +100,64 @@ fn opening() -> [Call; 4] {
     ]
 }
 
+/// Whether a line answers these calls, and then has this log and this room, and both events seen.
+fn logs(alloc: Global, channel: ChannelNo, calls: &[Call], log: &[Entry]) -> bool {
+    let Ok(mut line) = open_lines(alloc, 8, 2) else {
+        return false;
+    };
+    answers(&mut line, channel, calls) && is_line(&line, channel, log, (5, 2, 2))
+}
+
 #[test]
-fn log_of_a_line(rt: HostRuntime) -> Result<(), Fail> {
-    let five = channel(5)?;
+fn log_of_a_line(rt: HostRuntime) {
+    let five = ChannelNo::at(5);
     let log = [
         entry(five, 0, Seen::Did(Event::Activate)),
         entry(five, 1, Seen::Did(Event::Put(word(1)))),
         entry(five, 2, Seen::Saw(FULL)),
     ];
-    let mut line = open_lines(rt.alloc(), 8, 2)?;
-    assert!(rt; answers(&mut line, five, &opening()));
-    assert!(rt; is_line(&line, five, &log, (5, 2, 2)));
-    Ok(())
+    assert!(rt; logs(rt.alloc(), five, &opening(), &log));
 }
 
 #[test]
-fn line_by_calls(rt: HostRuntime) -> Result<(), Fail> {
-    let five = channel(5)?;
+fn line_by_calls(rt: HostRuntime) {
+    let five = ChannelNo::at(5);
     let taken = [(ChanOp::Take, numbered(Reply::Word(word(1)), 2))];
     let events = [Event::Activate, Event::Put(word(1)), Event::Take(word(1))];
-    let line = joined(rt.alloc(), five, &opening(), &taken, &[]).ok_or("other answers")?;
-    assert!(rt; line.log().len() == 4 && line.room() == 5 && line.shares() == 2);
-    assert!(rt; closes_with(line, 5, &events));
-    Ok(())
+    let is_right = match joined(rt.alloc(), five, &opening(), &taken, &[]) {
+        Some(line) => {
+            line.log().len() == 4
+                && line.room() == 5
+                && line.shares() == 2
+                && closes_with(line, 5, &events)
+        }
+        None => false,
+    };
+    assert!(rt; is_right);
 }
 
-/// Channel 33 stands at the last place.
-#[test]
-fn far_channel(rt: HostRuntime) -> Result<(), Fail> {
-    let (near, far) = (channel(0o13)?, channel(0o33)?);
+/// Whether a line's call on channel 33, which stands at the last place, is on no other.
+fn is_far(alloc: Global) -> bool {
+    let (near, far) = (ChannelNo::at(11), ChannelNo::at(23));
     let activate = [(ChanOp::Activate, numbered(Reply::Done, 0))];
-    let mut line = open_lines(rt.alloc(), 8, 1)?;
-    assert!(rt; answers(&mut line, far, &activate));
-    assert!(rt; line.seen(far) == 1 && line.seen(near) == 0);
-    assert!(rt; closes_with(line, 23, &[Event::Activate]));
-    Ok(())
+    let Ok(mut line) = open_lines(alloc, 8, 1) else {
+        return false;
+    };
+    answers(&mut line, far, &activate)
+        && line.seen(far) == 1
+        && line.seen(near) == 0
+        && closes_with(line, 23, &[Event::Activate])
+}
+
+#[test]
+fn far_channel(rt: HostRuntime) {
+    assert!(rt; is_far(rt.alloc()));
 }
 
 /// The line's own entries stand before those of its child.
 #[test]
-fn split_lines(rt: HostRuntime) -> Result<(), Fail> {
-    let five = channel(5)?;
+fn split_lines(rt: HostRuntime) {
+    let five = ChannelNo::at(5);
     let before = [(ChanOp::Activate, numbered(Reply::Done, 0))];
     let by_child = [
         (ChanOp::Probe, numbered(Reply::Flags(EMPTY), 1)),
@@ -160,28 +176,32 @@ fn split_lines(rt: HostRuntime) -> Result<(), Fail> {
         entry(five, 1, Seen::Saw(EMPTY)),
         entry(five, 1, Seen::Did(Event::Disconnect)),
     ];
-    let line = joined(rt.alloc(), five, &before, &by_child, &by_line).ok_or("other answers")?;
-    assert!(rt; is_line(&line, five, &log, (4, 4, 2)));
-    Ok(())
+    let is_right = match joined(rt.alloc(), five, &before, &by_child, &by_line) {
+        Some(line) => is_line(&line, five, &log, (4, 4, 2)),
+        None => false,
+    };
+    assert!(rt; is_right);
 }
 
-/// Whether a line answers two probes, and one more once the look of the second is kept.
-fn keeps_look(line: &mut Line<Global>, channel: ChannelNo) -> bool {
+/// Whether a line answers two probes, and one more once the look of the second is kept, which then
+/// stays in the log; the next one would take its place.
+fn keeps_look(alloc: Global, channel: ChannelNo) -> bool {
+    let Ok(mut line) = open_lines(alloc, 8, 1) else {
+        return false;
+    };
     let probe = (ChanOp::Probe, numbered(Reply::Flags(INACTIVE), 0));
-    let is_answered = answers(line, channel, &[probe; 2]);
+    let look = entry(channel, 0, Seen::Saw(INACTIVE));
+    let is_answered = answers(&mut line, channel, &[probe; 2]);
     line.keep();
-    is_answered && line.kept() && answers(line, channel, &[probe])
+    is_answered
+        && line.kept()
+        && answers(&mut line, channel, &[probe])
+        && is_line(&line, channel, &[look; 2], (6, 0, 1))
 }
 
-/// A look that is kept stays in the log; the next one would take its place.
 #[test]
-fn kept_look(rt: HostRuntime) -> Result<(), Fail> {
-    let five = channel(5)?;
-    let look = entry(five, 0, Seen::Saw(INACTIVE));
-    let mut line = open_lines(rt.alloc(), 8, 1)?;
-    assert!(rt; keeps_look(&mut line, five));
-    assert!(rt; is_line(&line, five, &[look; 2], (6, 0, 1)));
-    Ok(())
+fn kept_look(rt: HostRuntime) {
+    assert!(rt; keeps_look(rt.alloc(), ChannelNo::at(5)));
 }
 
 /// Whether two lines of one table answer in turn: what one did the other meets at its next call.
@@ -199,11 +219,18 @@ fn answer_in_turn(line: &mut Line<Global>, other: &mut Line<Global>, channel: Ch
         && answers(other, channel, &activate)
 }
 
+/// Whether a line and the one that is split from it answer in turn.
+fn split_in_turn(alloc: Global, channel: ChannelNo) -> bool {
+    let Ok(mut line) = open_lines(alloc, 8, 2) else {
+        return false;
+    };
+    let Ok(mut second) = line.split(4) else {
+        return false;
+    };
+    answer_in_turn(&mut line, &mut second, channel)
+}
+
 #[test]
-fn other_line(rt: HostRuntime) -> Result<(), Fail> {
-    let five = channel(5)?;
-    let mut line = open_lines(rt.alloc(), 8, 2)?;
-    let mut second = line.split(4)?;
-    assert!(rt; answer_in_turn(&mut line, &mut second, five));
-    Ok(())
+fn other_line(rt: HostRuntime) {
+    assert!(rt; split_in_turn(rt.alloc(), ChannelNo::at(5)));
 }

@@ -4,8 +4,7 @@ use pp_channel::{ChannelNo, Event};
 use pp_machine::{Machine, Outcome, PpNo, PpState, Profile, Trace};
 use pp_word::Word18;
 use std::alloc::Global;
-use std::test::Fail;
-use test_bench::{HANDOFF_PAIR, channel, first, put_words, word};
+use test_bench::{HANDOFF_PAIR, first, put_words, word};
 
 fn entry(turn: u64, pp: PpNo, channel: ChannelNo, event: Event) -> Trace {
     Trace {
@@ -34,41 +33,47 @@ fn stops(machine: &mut Machine<Global>, n: PpNo) -> bool {
 }
 
 /// Whether `HANDOFF_PAIR` goes as it should in a list of turns and two steps after it.
-fn goes_by_turns(alloc: Global, profile: Profile, four: ChannelNo, five: ChannelNo) -> bool {
+fn goes_by_turns(machine: &mut Machine<Global>) -> bool {
     let (zero, one) = (first(), first().next());
+    let (four, five) = (ChannelNo::at(4), ChannelNo::at(5));
     let history = [Event::Activate, Event::Put(word(7)), Event::Take(word(7))];
-    let Ok(mut machine) = HANDOFF_PAIR.machine(alloc, profile) else {
-        return false;
-    };
     machine.run_turns(&[one, zero, zero, zero, one]).is_ok()
         && machine.turns() == 5
         && machine.events() == entries(five, [1, 3, 4]).as_slice()
         && machine.channel(five).history() == history.as_slice()
         && machine.channel(four).history().is_empty()
-        && stops(&mut machine, zero)
+        && stops(machine, zero)
         && machine.turns() == 7
 }
 
 #[test]
-fn turn_list(rt: HostRuntime) -> Result<(), Fail> {
-    let (four, five) = (channel(4)?, channel(5)?);
-    assert!(rt; goes_by_turns(rt.alloc(), Profile::Ten, four, five));
-    assert!(rt; goes_by_turns(rt.alloc(), Profile::Twenty, four, five));
-    Ok(())
+fn turn_list(rt: HostRuntime) {
+    for profile in &[Profile::Ten, Profile::Twenty] {
+        let is_right = match HANDOFF_PAIR.machine(rt.alloc(), *profile) {
+            Ok(mut machine) => goes_by_turns(&mut machine),
+            Err(_) => false,
+        };
+        assert!(rt; is_right);
+    }
 }
 
 /// How a processor ends whose place 0100 is a word, with A = 777777.
-fn end_of(alloc: Global, profile: Profile, code: u16) -> Result<PpState, Fail> {
-    let mut machine = Machine::new(alloc, profile, 4096)?;
+fn end_of(alloc: Global, profile: Profile, code: u16) -> Option<PpState> {
+    let Ok(mut machine) = Machine::new(alloc, profile, 4096) else {
+        return None;
+    };
     let pp = machine.pp_mut(first());
     put_words(pp, 0o100, &[code]);
     pp.start(word(0o100), Word18::truncated(0o777_777));
-    machine.run_barrel(1000)?;
-    Ok(machine.pp(first()).state())
+    if machine.run_barrel(1000).is_ok() {
+        Some(machine.pp(first()).state())
+    } else {
+        None
+    }
 }
 
 /// How many of all words end at each fault, with any other among the first, stopped, and running.
-fn ends_of_words(alloc: Global, profile: Profile) -> Result<([u32; 5], u32, u32), Fail> {
+fn ends_of_words(alloc: Global, profile: Profile) -> Option<([u32; 5], u32, u32)> {
     let mut faults = [0u32; 5];
     let mut stopped = 0u32;
     let mut running = 0u32;
@@ -82,16 +87,15 @@ fn ends_of_words(alloc: Global, profile: Profile) -> Result<([u32; 5], u32, u32)
             }
         }
     }
-    Ok((faults, stopped, running))
+    Some((faults, stopped, running))
 }
 
 /// Twelve codes name a channel: 52 numbers d are no channel of the smaller machine, and 40 none of
 /// the greater one (decimal).
 #[test]
-fn every_word(rt: HostRuntime) -> Result<(), Fail> {
-    let ten = ends_of_words(rt.alloc(), Profile::Ten)?;
-    assert_eq!(rt; ten, ([0, 64, 64, 624, 128], 2, 3214));
-    let twenty = ends_of_words(rt.alloc(), Profile::Twenty)?;
-    assert_eq!(rt; twenty, ([0, 64, 64, 480, 128], 2, 3358));
-    Ok(())
+fn every_word(rt: HostRuntime) {
+    let ten = ends_of_words(rt.alloc(), Profile::Ten);
+    assert_eq!(rt; ten, Some(([0, 64, 64, 624, 128], 2, 3214)));
+    let twenty = ends_of_words(rt.alloc(), Profile::Twenty);
+    assert_eq!(rt; twenty, Some(([0, 64, 64, 480, 128], 2, 3358)));
 }

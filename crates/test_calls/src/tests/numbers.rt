@@ -68,9 +68,12 @@ fn wrong_place() -> Option<usize> {
 #[test]
 fn numbers_of_all(rt: HostRuntime) {
     let (processors, channels) = (&NUMBERS_OF_PROCESSORS, &NUMBERS_OF_CHANNELS);
-    assert!(rt; PROCESSORS == 20 && CHANNELS == 24);
-    assert_eq!(rt; wrong_number(None, processors, channels), None);
-    assert_eq!(rt; wrong_place(), None);
+    assert!(rt;
+        PROCESSORS == 20
+            && CHANNELS == 24
+            && wrong_number(None, processors, channels).is_none()
+            && wrong_place().is_none()
+    );
 }
 
 /// Whether a profile has exactly these processors and channels, at the places that they have in the

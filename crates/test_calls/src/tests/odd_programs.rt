@@ -5,7 +5,6 @@ use pp_draw::{Window, run_seeing_steps, write_drawing};
 use pp_machine::{CentralFault, Machine, PROCESSORS, PpNo, Profile};
 use pp_run::Order;
 use std::alloc::Global;
-use std::test::Fail;
 use test_bench::{Chance, put_program};
 
 /// How many runs are drawn.
@@ -42,41 +41,70 @@ fn odd_machine(alloc: Global, chance: &mut Chance) -> Result<Machine<Global>, Ce
     Ok(machine)
 }
 
-/// The drawing of a machine's run in a window of turns.
-fn drawing(alloc: Global, mut machine: Machine<Global>, window: Window) -> Result<String, Fail> {
-    let order = Order::of_run(alloc, &[], machine.profile(), window.to)?;
-    let steps = run_seeing_steps(alloc, &mut machine, &order, window)?;
+/// The drawing of a machine's run in a window of turns, if it is well-formed.
+fn drawing(alloc: Global, machine: &mut Machine<Global>, window: Window) -> Option<String> {
+    let order = Order::of_run(alloc, &[], machine.profile(), window.to).ok()?;
+    let steps = run_seeing_steps(alloc, machine, &order, window).ok()?;
     let mut written = Vec::new(alloc);
-    write_drawing(&mut written, &machine, &[true; PROCESSORS], &steps, window)?;
-    Ok(String::from_utf8(written)?)
-}
-
-#[test]
-fn odd_programs_are_drawn(rt: HostRuntime) -> Result<(), Fail> {
-    let mut chance = Chance::new(1);
-    let mut loses_words = false;
-    for run in 0..RUNS {
-        let machine = odd_machine(rt.alloc(), &mut chance)?;
-        let from = u32::from(chance.next() % 100);
-        let to = from + u32::from(chance.next() % 500);
-        let drawing = drawing(rt.alloc(), machine, Window { from, to })?;
-        assert!(rt; is_well_formed(rt.alloc(), &drawing)?, "run {run}");
-        loses_words |= drawing.contains(" lost ");
+    write_drawing(&mut written, machine, &[true; PROCESSORS], &steps, window).ok()?;
+    let text = String::from_utf8(written).ok()?;
+    if is_well_formed(alloc, &text) {
+        Some(text)
+    } else {
+        None
     }
-    assert!(rt; loses_words, "in some runs");
-    Ok(())
 }
 
-/// A window with its ends exchanged has no turns, and nothing of the machine is in its lanes.
+/// Whether the drawing of an odd program's run shows words that were lost; nothing if it is not
+/// well-formed.
+fn loses_words(alloc: Global, chance: &mut Chance) -> Option<bool> {
+    let Ok(mut machine) = odd_machine(alloc, chance) else {
+        return None;
+    };
+    let from = u32::from(chance.next() % 100);
+    let to = from + u32::from(chance.next() % 500);
+    match drawing(alloc, &mut machine, Window { from, to }) {
+        Some(drawing) => Some(drawing.contains(" lost ")),
+        None => None,
+    }
+}
+
 #[test]
-fn a_window_with_its_ends_exchanged(rt: HostRuntime) -> Result<(), Fail> {
-    let mut machine = Machine::new(rt.alloc(), Profile::Ten, 64)?;
-    let pp = machine.pp_mut(PpNo::at(0));
-    put_program(pp, 0o100, &[0o7405, 0o7505, 0o0300]);
-    let drawing = drawing(rt.alloc(), machine, Window { from: 30, to: 20 })?;
-    assert!(rt; is_well_formed(rt.alloc(), &drawing)?);
-    assert!(rt; drawing.contains("turns 30 to 20"));
-    assert!(rt; drawing.contains("<rect class='u' y='30' width='0' height='1'/>"));
-    assert!(rt; !drawing.contains("<rect class='i' x='0' y"));
-    Ok(())
+fn odd_programs_are_drawn(rt: HostRuntime) {
+    let mut chance = Chance::new(1);
+    let mut is_lost = false;
+    for run in 0..RUNS {
+        let loses_words = loses_words(rt.alloc(), &mut chance);
+        assert!(rt; loses_words.is_some(), "run {run}");
+        is_lost |= loses_words == Some(true);
+    }
+    assert!(rt; is_lost, "in some runs");
+}
+
+/// Whether a drawing has no turns, and nothing of the machine is in its lanes.
+fn has_no_turns(drawing: &str) -> bool {
+    drawing.contains("turns 30 to 20")
+        && drawing.contains("<rect class='u' y='30' width='0' height='1'/>")
+        && !drawing.contains("<rect class='i' x='0' y")
+}
+
+/// Whether the drawing of a window with its ends exchanged is so.
+fn is_exchanged(alloc: Global) -> bool {
+    let Ok(mut machine) = Machine::new(alloc, Profile::Ten, 64) else {
+        return false;
+    };
+    put_program(
+        machine.pp_mut(PpNo::at(0)),
+        0o100,
+        &[0o7405, 0o7505, 0o0300],
+    );
+    match drawing(alloc, &mut machine, Window { from: 30, to: 20 }) {
+        Some(drawing) => has_no_turns(&drawing),
+        None => false,
+    }
+}
+
+#[test]
+fn a_window_with_its_ends_exchanged(rt: HostRuntime) {
+    assert!(rt; is_exchanged(rt.alloc()));
 }

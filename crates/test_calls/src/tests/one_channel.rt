@@ -2,7 +2,6 @@
 
 use pp_channel::{ChanOp, Channel, Event, Reply};
 use std::alloc::Global;
-use std::test::Fail;
 use test_bench::{EMPTY, FULL, INACTIVE, word};
 
 /// Whether a channel answers these operations so.
@@ -30,9 +29,11 @@ fn one_session(rt: HostRuntime) {
         Event::Put(word(5)),
     ];
     let mut channel = Channel::new(rt.alloc());
-    assert!(rt; answers(&mut channel, &calls));
-    assert!(rt; channel.waiting() == Some(word(5)));
-    assert!(rt; channel.history() == events.as_slice());
+    assert!(rt;
+        answers(&mut channel, &calls)
+            && channel.waiting() == Some(word(5))
+            && channel.history() == events.as_slice()
+    );
 }
 
 /// What a copy and its channel show alike: a session with a word that waits.
@@ -41,26 +42,34 @@ fn waits_alike(channel: &Channel<Global>, copy: &Channel<Global>) -> bool {
         && copy.next_event(&ChanOp::Take) == Some(Event::Take(word(5)))
 }
 
-/// A copy goes on alone.
-#[test]
-fn a_copy(rt: HostRuntime) -> Result<(), Fail> {
-    let begin = [
-        (ChanOp::Activate, Reply::Done),
-        (ChanOp::Put(word(5)), Reply::Done),
-    ];
+/// Whether a copy of a channel goes on alone.
+fn goes_on_alone(channel: &Channel<Global>) -> bool {
     let calls = [
         (ChanOp::Probe, Reply::Flags(FULL)),
         (ChanOp::Take, Reply::Word(word(5))),
         (ChanOp::Probe, Reply::Flags(EMPTY)),
         (ChanOp::Disconnect, Reply::Done),
     ];
+    match channel.copy() {
+        Ok(mut copy) => {
+            waits_alike(channel, &copy)
+                && answers(&mut copy, &calls)
+                && copy.flags() == INACTIVE
+                && copy.history().len() == 4
+                && channel.history().len() == 2
+        }
+        Err(_) => false,
+    }
+}
+
+#[test]
+fn a_copy(rt: HostRuntime) {
+    let begin = [
+        (ChanOp::Activate, Reply::Done),
+        (ChanOp::Put(word(5)), Reply::Done),
+    ];
     let mut channel = Channel::new(rt.alloc());
-    assert!(rt; answers(&mut channel, &begin));
-    let mut copy = channel.copy()?;
-    assert!(rt; waits_alike(&channel, &copy) && answers(&mut copy, &calls));
-    let lengths = (copy.history().len(), channel.history().len());
-    assert!(rt; copy.flags() == INACTIVE && lengths == (4, 2));
-    Ok(())
+    assert!(rt; answers(&mut channel, &begin) && goes_on_alone(&channel));
 }
 
 #[test]
@@ -80,6 +89,5 @@ fn held_where_not_ready(rt: HostRuntime) {
         (ChanOp::Function(some), Reply::Held(FULL)),
     ];
     let mut channel = Channel::new(rt.alloc());
-    assert!(rt; answers(&mut channel, &calls));
-    assert_eq!(rt; channel.history().len(), 2);
+    assert!(rt; answers(&mut channel, &calls) && channel.history().len() == 2);
 }

@@ -1,10 +1,9 @@
 //! A processor by its calls alone.
 
-use pp_channel::{ChanOp, Reply};
+use pp_channel::{ChanOp, ChannelNo, Reply};
 use pp_machine::{Answer, Block, BlockKind, Need, Outcome, Pp, PpState, Profile, fits};
 use pp_word::Word18;
-use std::test::Fail;
-use test_bench::{EMPTY, INACTIVE, channel, put_words, word};
+use test_bench::{EMPTY, INACTIVE, put_words, word};
 
 /// P, A and the state of a processor.
 pub(crate) type Shown = (u16, u32, PpState);
@@ -26,39 +25,46 @@ fn program(pp: &Pp) -> (u16, u16) {
     (pp.get(word(0o200)).get(), pp.get(word(0o201)).get())
 }
 
-/// Whatever a processor did before, it waits for its first word, and its memory stays.
-#[test]
-fn a_processor_waits_for_a_load(rt: HostRuntime) -> Result<(), Fail> {
-    for (profile, number) in [(Profile::Ten, 0o13), (Profile::Twenty, 0o33)] {
-        let last = channel(number)?;
-        let block = Block {
-            kind: BlockKind::Input { channel: last },
-            place: word(0),
-        };
-        let mut pp = started(profile, 0o0200, &[0o7005, 0o0300], 0o123_456);
-        pp.wait_load(last);
-        assert!(rt; pp.profile() == profile && program(&pp) == (0o7005, 0o0300));
-        assert!(rt; shown(&pp) == (0, 0o10_000, PpState::Running));
-        assert!(rt; pp.block() == Some(block));
-        assert!(rt; pp.wants() == Need::Channel(last, ChanOp::Take));
-    }
-    Ok(())
+/// Whether a processor, whatever it did before, waits for its first word, and its memory stays.
+fn waits_for_a_load(profile: Profile, last: ChannelNo) -> bool {
+    let block = Block {
+        kind: BlockKind::Input { channel: last },
+        place: word(0),
+    };
+    let mut pp = started(profile, 0o0200, &[0o7005, 0o0300], 0o123_456);
+    pp.wait_load(last);
+    pp.profile() == profile
+        && program(&pp) == (0o7005, 0o0300)
+        && shown(&pp) == (0, 0o10_000, PpState::Running)
+        && pp.block() == Some(block)
+        && pp.wants() == Need::Channel(last, ChanOp::Take)
 }
 
 #[test]
-fn input_then_stop(rt: HostRuntime) {
+fn a_processor_waits_for_a_load(rt: HostRuntime) {
+    assert!(rt; waits_for_a_load(Profile::Ten, ChannelNo::at(11)));
+    assert!(rt; waits_for_a_load(Profile::Twenty, ChannelNo::at(23)));
+}
+
+/// Whether IAN takes a word once there is one, and no answer that is not its own.
+fn takes_a_word(profile: Profile) -> bool {
     let answers = [
         Answer::Channel(Reply::Held(INACTIVE)),
         Answer::Channel(Reply::Word(word(0o0003))),
         Answer::Channel(Reply::Done),
     ];
-    for profile in [Profile::Ten, Profile::Twenty] {
-        let mut pp = started(profile, 0o0200, &[0o7005, 0o0300], 0);
-        assert!(rt; pp.replay(&answers) == 2 && shown(&pp) == (0o201, 3, PpState::Running));
-        let mut pp = started(profile, 0o0200, &[0o7005, 0o0300], 0);
-        assert!(rt; pp.replay(&[Answer::Local]) == 0);
-        assert!(rt; shown(&pp) == (0o200, 0, PpState::Running) && program(&pp) == (0o7005, 0o0300));
-    }
+    let mut pp = started(profile, 0o0200, &[0o7005, 0o0300], 0);
+    let mut other = pp.copy();
+    pp.replay(&answers) == 2
+        && shown(&pp) == (0o201, 3, PpState::Running)
+        && other.replay(&[Answer::Local]) == 0
+        && shown(&other) == (0o200, 0, PpState::Running)
+        && program(&other) == (0o7005, 0o0300)
+}
+
+#[test]
+fn input_then_stop(rt: HostRuntime) {
+    assert!(rt; takes_a_word(Profile::Ten) && takes_a_word(Profile::Twenty));
 }
 
 /// Whether a block begins in a processor's next step.
@@ -87,38 +93,46 @@ fn step_decoded(pp: &mut Pp, answer: Answer) -> Option<Outcome> {
     }
 }
 
-/// IAN, and IAM of one word, each held once.
-#[test]
-fn steps_decoded_once(rt: HostRuntime) {
-    let held = Answer::Channel(Reply::Held(EMPTY));
-    let mut pp = started(Profile::Ten, 0o0200, &[0o7005, 0o7105, 0o0300], 2);
-    assert!(rt; step_decoded(&mut pp, Answer::Local).is_none());
-    assert!(rt; step_decoded(&mut pp, held) == Some(Outcome::Held));
-    assert!(rt; shown(&pp) == (0o200, 2, PpState::Running));
-    let one = Answer::Channel(Reply::Word(word(1)));
-    assert!(rt; step_decoded(&mut pp, one) == Some(Outcome::Moved));
-    assert!(rt; shown(&pp) == (0o201, 1, PpState::Running));
-    assert!(rt; step_decoded(&mut pp, held).is_none());
-    assert!(rt; step_decoded(&mut pp, Answer::Local) == Some(Outcome::Moved));
-    assert!(rt; step_decoded(&mut pp, held) == Some(Outcome::Held) && pp.block().is_some());
-    assert!(rt; step_decoded(&mut pp, Answer::Channel(Reply::Word(word(0o7777)))).is_some());
-    assert!(rt; shown(&pp) == (0o203, 0, PpState::Running) && pp.block().is_none());
-    assert!(rt; pp.get(word(0o300)).get() == 0o7777);
+const HELD: Answer = Answer::Channel(Reply::Held(EMPTY));
+
+/// Whether IAN, and IAM of one word, go as they should, each held once.
+fn decodes_once(pp: &mut Pp) -> bool {
+    step_decoded(pp, Answer::Local).is_none()
+        && step_decoded(pp, HELD) == Some(Outcome::Held)
+        && shown(pp) == (0o200, 2, PpState::Running)
+        && step_decoded(pp, Answer::Channel(Reply::Word(word(1)))) == Some(Outcome::Moved)
+        && shown(pp) == (0o201, 1, PpState::Running)
+        && step_decoded(pp, HELD).is_none()
+        && step_decoded(pp, Answer::Local) == Some(Outcome::Moved)
+        && step_decoded(pp, HELD) == Some(Outcome::Held)
+        && pp.block().is_some()
+        && step_decoded(pp, Answer::Channel(Reply::Word(word(0o7777)))).is_some()
+        && shown(pp) == (0o203, 0, PpState::Running)
+        && pp.block().is_none()
+        && pp.get(word(0o300)).get() == 0o7777
 }
 
 #[test]
-fn input_block_by_steps(rt: HostRuntime) -> Result<(), Fail> {
-    let channel = channel(5)?;
+fn steps_decoded_once(rt: HostRuntime) {
+    let words = [0o7005, 0o7105, 0o0300];
+    assert!(rt; decodes_once(&mut started(Profile::Ten, 0o0200, &words, 2)));
+}
+
+#[test]
+fn input_block_by_steps(rt: HostRuntime) {
+    let channel = ChannelNo::at(5);
     let block = Block {
         kind: BlockKind::Input { channel },
         place: word(0o0300),
     };
     let need = Need::Channel(channel, ChanOp::Take);
     let mut pp = started(Profile::Ten, 0o0200, &[0o7105, 0o0300, 0o0300], 2);
-    assert!(rt; begins(&mut pp, block));
+    let is_begun = begins(&mut pp, block);
     let before = pp.copy();
-    assert!(rt; ends(&mut pp, &need, Answer::Channel(Reply::Held(INACTIVE))));
-    assert!(rt; shown(&pp) == (0o202, 2, PpState::Running));
-    assert!(rt; shown(&before) == (0o200, 2, PpState::Running));
-    Ok(())
+    assert!(rt;
+        is_begun
+            && ends(&mut pp, &need, Answer::Channel(Reply::Held(INACTIVE)))
+            && shown(&pp) == (0o202, 2, PpState::Running)
+            && shown(&before) == (0o200, 2, PpState::Running)
+    );
 }

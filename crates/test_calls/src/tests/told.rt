@@ -73,24 +73,24 @@ pub(crate) fn first_unlawful(lines: &[Told], form: Form) -> Option<usize> {
 pub(crate) fn text_of(alloc: Global, lines: &[Told], form: Form) -> Result<String, AllocError> {
     let mut text = String::new(alloc);
     for line in lines {
-        let channel = NUMBERS.get(line.place).copied().unwrap_or(0);
-        let (turn, number) = (line.turn, line.number);
-        let head = match form {
-            Form::ByTurn => format!(in alloc; "{turn:06} PP00 CH{channel:02o} ")?,
-            Form::ByNumber => format!(in alloc; "CH{channel:02o} {number:06} PP00 ")?,
-        };
-        text.push_str(head.as_str())?;
-        text.push_str(event_text(alloc, &line.event)?.as_str())?;
+        push_line(&mut text, line, form)?;
     }
     Ok(text)
 }
 
-fn event_text(alloc: Global, event: &Event) -> Result<String, AllocError> {
-    match event {
-        Event::Activate => format!(in alloc; "ACN\n"),
-        Event::Disconnect => format!(in alloc; "DCN\n"),
-        Event::Put(word) => format!(in alloc; "PUT {:04o}\n", word.get()),
-        Event::Take(word) => format!(in alloc; "TAK {:04o}\n", word.get()),
-        Event::Function(word) => format!(in alloc; "FNC {:04o}\n", word.get()),
+fn push_line(text: &mut String, line: &Told, form: Form) -> Result<(), AllocError> {
+    let channel = NUMBERS.get(line.place).copied().unwrap_or(0);
+    let (turn, number) = (line.turn, line.number);
+    match form {
+        Form::ByTurn => write!(text, "{turn:06} PP00 CH{channel:02o} ")?,
+        Form::ByNumber => write!(text, "CH{channel:02o} {number:06} PP00 ")?,
     }
+    let (name, word) = match &line.event {
+        Event::Activate => return text.push_str("ACN\n"),
+        Event::Disconnect => return text.push_str("DCN\n"),
+        Event::Put(word) => ("PUT", word),
+        Event::Take(word) => ("TAK", word),
+        Event::Function(word) => ("FNC", word),
+    };
+    writeln!(text, "{name} {:04o}", word.get())
 }

@@ -4,8 +4,7 @@ use super::processor::shown;
 use pp_machine::{Machine, Outcome, PROCESSORS, Pp, PpNo, PpState, Profile};
 use pp_word::Word18;
 use std::alloc::Global;
-use std::test::Fail;
-use test_bench::{processor, word};
+use test_bench::word;
 
 /// A processor each of whose steps adds 1 to A, whatever P is.
 fn count_steps(pp: &mut Pp) {
@@ -55,7 +54,7 @@ fn make_steps(
 /// Turns of the barrel come to the first ten processors, or to all.
 #[test]
 fn rounds_of_each_profile(rt: HostRuntime) {
-    for (profile, turns, steps) in [
+    for &(profile, turns, steps) in &[
         (Profile::Ten, 9, (9, 10, [1, 0])),
         (Profile::Ten, 13, (3, 10, [2, 1])),
         (Profile::Ten, 50_007, (7, 10, [5001, 5000])),
@@ -67,39 +66,36 @@ fn rounds_of_each_profile(rt: HostRuntime) {
     }
 }
 
-/// The machine of ten, after 1000 turns of the barrel (decimal) and three of these processors,
-/// which it leaves out.
-fn turned_behind(alloc: Global, one: PpNo, other: PpNo) -> Result<Machine<Global>, Fail> {
-    let mut machine = Machine::new(alloc, Profile::Ten, 1)?;
-    count_steps(machine.pp_mut(other));
-    count_steps(machine.pp_mut(one));
-    machine.run_barrel(1000)?;
-    machine.run_turns(&[one, other, one])?;
-    Ok(machine)
-}
-
-/// Whether two steps more of the last of these processors are made, both have then made theirs, and
+/// Whether the machine of ten, after 1000 turns of the barrel (decimal) and three of two processors
+/// that it leaves out, makes two steps more of the last of them, both have then made theirs, and
 /// those between them are as new.
-fn steps_behind(alloc: Global, first_behind: PpNo, last: PpNo) -> Result<bool, Fail> {
-    let mut machine = turned_behind(alloc, first_behind, last)?;
+fn steps_behind(machine: &mut Machine<Global>, first_behind: PpNo, last: PpNo) -> bool {
+    count_steps(machine.pp_mut(last));
+    count_steps(machine.pp_mut(first_behind));
+    let is_turned = machine.run_barrel(1000).is_ok()
+        && machine
+            .run_turns(&[first_behind, last, first_behind])
+            .is_ok();
     for place in 11..19 {
         if shown(machine.pp(PpNo::at(place))) != (0, 0, PpState::Stopped) {
-            return Ok(false);
+            return false;
         }
     }
-    let is_right = machine.step(last) == Ok(Outcome::Moved)
+    is_turned
+        && machine.step(last) == Ok(Outcome::Moved)
         && machine.step(last) == Ok(Outcome::Moved)
         && shown(machine.pp(first_behind)) == (2, 2, PpState::Running)
         && shown(machine.pp(last)) == (3, 3, PpState::Running)
-        && machine.turns() == 1005;
-    Ok(is_right)
+        && machine.turns() == 1005
 }
 
 /// Only a list of turns and a step come to a processor that the machine of ten lacks. The others of
 /// these stay as new, before the last one that was lent and after the first.
 #[test]
-fn steps_behind_the_barrel(rt: HostRuntime) -> Result<(), Fail> {
-    let (first_behind, last) = (processor(0o20)?, processor(0o31)?);
-    assert!(rt; steps_behind(rt.alloc(), first_behind, last)?);
-    Ok(())
+fn steps_behind_the_barrel(rt: HostRuntime) {
+    let is_right = match Machine::new(rt.alloc(), Profile::Ten, 1) {
+        Ok(mut machine) => steps_behind(&mut machine, PpNo::at(10), PpNo::at(19)),
+        Err(_) => false,
+    };
+    assert!(rt; is_right);
 }

@@ -17,67 +17,72 @@ fn eighteen(number: u32) -> Word18 {
     Word18::truncated(number)
 }
 
+const MOST: u64 = 0o77_777_777_777_777_777_777;
+
 #[test]
 fn ranges(rt: HostRuntime) {
-    let most = 0o77_777_777_777_777_777_777;
-    assert!(rt; Word6::new(0o77) == Some(six(0o77)) && Word6::new(0o100).is_none());
-    assert!(rt; Word12::new(0o7777) == Some(twelve(0o7777)) && Word12::new(0o10_000).is_none());
-    assert!(rt; Word18::new(0o777_777) == Some(eighteen(0o777_777)));
-    assert!(rt; Word18::new(0o1_000_000).is_none());
-    assert!(rt; Word60::new(most) == Some(Word60::truncated(most)));
-    assert!(rt; Word60::new(most + 1).is_none());
+    assert!(rt;
+        Word6::new(0o77) == Some(six(0o77))
+            && Word6::new(0o100).is_none()
+            && Word12::new(0o7777) == Some(twelve(0o7777))
+            && Word12::new(0o10_000).is_none()
+            && Word18::new(0o777_777) == Some(eighteen(0o777_777))
+            && Word18::new(0o1_000_000).is_none()
+            && Word60::new(MOST) == Some(Word60::truncated(MOST))
+            && Word60::new(MOST + 1).is_none()
+    );
 }
 
+/// Constants, the greatest words, and numbers of more bits, which are cut off.
 #[test]
-fn greatest_words(rt: HostRuntime) {
-    let most = 0o77_777_777_777_777_777_777;
-    assert!(rt; six(0o77).get() == 0o77 && twelve(0o7777).get() == 0o7777);
-    assert!(rt; eighteen(0o777_777).get() == 0o777_777 && Word60::truncated(most).get() == most);
-}
-
-#[test]
-fn constants(rt: HostRuntime) {
-    assert!(rt; Word12::ZERO.get() == 0 && Word18::ZERO.get() == 0 && Word60::ZERO.get() == 0);
-    assert!(rt; Word18::ONE.get() == 1);
-}
-
-#[test]
-fn truncations(rt: HostRuntime) {
-    assert!(rt; six(0o177).get() == 0o77);
-    assert!(rt; twelve(0o12345).get() == 0o2345);
-    assert!(rt; eighteen(0o1_234_567).get() == 0o234_567);
-    assert!(rt; Word60::truncated(0o100_000_000_000_000_000_005).get() == 5);
+fn values(rt: HostRuntime) {
+    assert!(rt;
+        Word12::ZERO.get() == 0
+            && Word18::ZERO.get() == 0
+            && Word60::ZERO.get() == 0
+            && Word18::ONE.get() == 1
+            && six(0o77).get() == 0o77
+            && twelve(0o7777).get() == 0o7777
+            && eighteen(0o777_777).get() == 0o777_777
+            && Word60::truncated(MOST).get() == MOST
+            && six(0o177).get() == 0o77
+            && twelve(0o12345).get() == 0o2345
+            && eighteen(0o1_234_567).get() == 0o234_567
+            && Word60::truncated(0o100_000_000_000_000_000_005).get() == 5
+    );
 }
 
 #[test]
 fn conversions(rt: HostRuntime) {
-    assert!(rt; eighteen(0o123_456).low() == twelve(0o3456));
-    assert!(rt; Word12::from(six(0o52)) == twelve(0o52));
-    assert!(rt; Word18::from(six(0o52)) == eighteen(0o52));
-    assert!(rt; Word18::from(twelve(0o7052)) == eighteen(0o7052));
+    assert!(rt;
+        eighteen(0o123_456).low() == twelve(0o3456)
+            && Word12::from(six(0o52)) == twelve(0o52)
+            && Word18::from(six(0o52)) == eighteen(0o52)
+            && Word18::from(twelve(0o7052)) == eighteen(0o7052)
+    );
 }
 
 #[test]
 fn two_zeros(rt: HostRuntime) {
-    let all_ones = eighteen(0o777_777);
-    let five = eighteen(5);
-    assert!(rt; add18(all_ones, Word18::ZERO) == Word18::ZERO);
-    assert!(rt; sub18(all_ones, Word18::ZERO) == all_ones);
-    assert!(rt; sub18(five, five) == Word18::ZERO);
-    assert!(rt; add18(all_ones, all_ones) == all_ones);
-    assert!(rt; add18(five, complement18(five)) == Word18::ZERO);
+    let (zero, all_ones, five) = (Word18::ZERO, eighteen(0o777_777), eighteen(5));
+    assert!(rt;
+        add18(all_ones, zero) == zero
+            && sub18(all_ones, zero) == all_ones
+            && sub18(five, five) == zero
+            && add18(all_ones, all_ones) == all_ones
+            && add18(five, complement18(five)) == zero
+    );
 }
 
 #[test]
 fn shifts(rt: HostRuntime) {
-    let table = [
+    for &(before, d, after) in &[
         (0o770_000, 0o06, 0o000_077),
         (0o000_100, 0o71, 0o000_001),
         (0o770_000, 0o22, 0o770_000),
         (0o770_000, 0o77, 0o770_000),
         (0o770_000, 0o40, 0o000_000),
-    ];
-    for (before, d, after) in table {
+    ] {
         assert!(rt;
             shift18(eighteen(before), six(d)) == eighteen(after),
             "by {d}"
@@ -87,29 +92,38 @@ fn shifts(rt: HostRuntime) {
 
 #[test]
 fn logic(rt: HostRuntime) {
-    let word = eighteen(0o770_000);
-    let mask = eighteen(0o070_707);
-    assert!(rt; and18(word, mask) == eighteen(0o070_000));
-    assert!(rt; xor18(word, mask) == eighteen(0o700_707));
-    assert!(rt; clear18(word, mask) == eighteen(0o700_000));
+    let (word, mask) = (eighteen(0o770_000), eighteen(0o070_707));
+    assert!(rt;
+        and18(word, mask) == eighteen(0o070_000)
+            && xor18(word, mask) == eighteen(0o700_707)
+            && clear18(word, mask) == eighteen(0o700_000)
+    );
 }
 
 #[test]
 fn addresses(rt: HostRuntime) {
     let last = twelve(0o7777);
-    assert!(rt; index_address(last, twelve(1)) == twelve(1));
-    assert!(rt; index_address(twelve(0o100), twelve(0o25)) == twelve(0o125));
-    assert!(rt; relative(last, six(0o37)) == twelve(0o36));
-    assert!(rt; relative(twelve(0o10), six(0o76)) == twelve(0o7));
-    assert!(rt; next(last) == Word12::ZERO);
+    assert!(rt;
+        index_address(last, twelve(1)) == twelve(1)
+            && index_address(twelve(0o100), twelve(0o25)) == twelve(0o125)
+            && relative(last, six(0o37)) == twelve(0o36)
+            && relative(twelve(0o10), six(0o76)) == twelve(0o7)
+            && next(last) == Word12::ZERO
+    );
 }
 
 #[test]
 fn codes(rt: HostRuntime) {
     let (op, d) = decode(twelve(0o5217));
-    assert!(rt; op == Opcode::SBM && op.code() == 0o52 && d == six(0o17));
-    assert!(rt; op.is_long() && !Opcode::PSN25.is_long());
-    assert!(rt; Opcode::PSN24.mnemonic() == "PSN" && Opcode::FNC.mnemonic() == "FNC");
+    assert!(rt;
+        op == Opcode::SBM
+            && op.code() == 0o52
+            && d == six(0o17)
+            && op.is_long()
+            && !Opcode::PSN25.is_long()
+            && Opcode::PSN24.mnemonic() == "PSN"
+            && Opcode::FNC.mnemonic() == "FNC"
+    );
 }
 
 #[test]

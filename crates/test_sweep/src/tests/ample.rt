@@ -3,25 +3,28 @@
 
 use pp_machine::Profile;
 use pp_runner::Limits;
-use pp_sim::{DeckFault, barrel_text, read_deck, threads_text};
-use std::alloc::Global;
+use pp_sim::{barrel_text, read_deck, threads_text};
+use std::alloc::{AllocError, Global};
 use std::fs::Files;
 use std::sync::Wait;
-use std::test::Fail;
 use std::thread::Threads;
 use test_bench::{BLOCK, HANDOFF, HANDOFF_ON_TWENTY, HANDOFF_TEXT, LONG_PATIENCE, Rationed};
 
-/// The text of a run with one thread per processor, as long as allowed.
-pub fn text_by_threads<R: AllocGlobal + Files + Threads + Wait + Sync>(
+/// How many requests for memory a run with one thread per processor makes, as long as allowed, if
+/// it has this text after so many other bytes. Lines, logs, answers and text grow.
+pub(crate) fn requests_by_threads<R: AllocGlobal + Files + Threads + Wait + Sync>(
     rt: &R,
-    heap: &Rationed<Global>,
     profile: Profile,
     deck: &str,
-) -> Result<Vec<u8>, Fail> {
-    let limits = Limits::new(100_000, LONG_PATIENCE).ok_or("no limits")?;
+    (before, text): (usize, &str),
+) -> Option<u64> {
+    let limits = Limits::new(100_000, LONG_PATIENCE)?;
+    let heap = Rationed::new(rt.alloc());
     let (mut reader, mut writer) = (deck.as_bytes(), Vec::new(rt.alloc()));
-    threads_text(rt, heap, profile, &mut reader, &mut writer, limits)?;
-    Ok(writer)
+    let is_right = threads_text(rt, &heap, profile, &mut reader, &mut writer, limits).is_ok()
+        && writer.ends_with(text.as_bytes())
+        && writer.len() == before.saturating_add(text.len());
+    if is_right { Some(heap.asked()) } else { None }
 }
 
 /// The text of the deck `BLOCK` in every schedule, worked by hand.
@@ -42,30 +45,24 @@ CH05 INACTIVE
 ";
 
 #[test]
-fn largest_central_memory_by_threads(rt: HostRuntime) -> Result<(), Fail> {
-    let deck = format!(in rt.alloc(); "CENTRAL 400000\n{BLOCK}")?;
-    for profile in [Profile::Ten, Profile::Twenty] {
-        let heap = Rationed::new(rt.alloc());
-        let text = text_by_threads(&rt, &heap, profile, &deck)?;
-        assert!(rt; text.as_slice() == BLOCK_TEXT.as_bytes());
-        assert!(rt; heap.asked() > 40, "lines, logs and answers grow");
-    }
-    Ok(())
+fn largest_central_memory_by_threads(rt: HostRuntime) {
+    let is_right = match format!(in rt.alloc(); "CENTRAL 400000\n{BLOCK}") {
+        Ok(deck) => {
+            requests_by_threads(&rt, Profile::Ten, &deck, (0, BLOCK_TEXT)) > Some(40)
+                && requests_by_threads(&rt, Profile::Twenty, &deck, (0, BLOCK_TEXT)) > Some(40)
+        }
+        Err(_) => false,
+    };
+    assert!(rt; is_right);
 }
 
 /// PP 0 and PP 1 make function codes on channel 5 as fast as they can, 63 of them and a jump back.
 /// The channel is inactive, so neither waits for the other, and the number of events is the same in
 /// every schedule.
-fn deck_of_functions(alloc: Global) -> Result<String, Fail> {
-    let mut deck = String::new(alloc);
-    for section in ["PP 0\n0100", "PP 1\n0100"] {
-        deck.push_str(section)?;
-        for _ in 0..63u8 {
-            deck.push_str(" 7605")?;
-        }
-        deck.push_str(" 0100 0100\nSTART 0100\n")?;
-    }
-    Ok(deck)
+fn deck_of_functions(alloc: Global) -> Result<String, AllocError> {
+    let codes = " 7605".repeat(alloc, 63)?;
+    let program = format!(in alloc; "0100{codes} 0100 0100\nSTART 0100\n")?;
+    format!(in alloc; "PP 0\n{program}PP 1\n{program}")
 }
 
 /// Both have made 1,562 rounds of 64 steps and 32 steps more (decimal).
@@ -75,16 +72,15 @@ PP01 P=0140 A=000000 STEPS
 CH05 INACTIVE
 ";
 
+/// A line of 26 bytes for each event.
 #[test]
-fn many_events_by_threads(rt: HostRuntime) -> Result<(), Fail> {
-    let heap = Rationed::new(rt.alloc());
-    let deck = deck_of_functions(rt.alloc())?;
-    let text = text_by_threads(&rt, &heap, Profile::Ten, &deck)?;
-    assert!(rt; text.ends_with(ENDS.as_bytes()));
-    // A line of 26 bytes for each event.
+fn many_events_by_threads(rt: HostRuntime) {
     let events = 2 * (1562 * 63 + 32);
-    assert!(rt; text.len() == events * 26 + ENDS.len());
-    Ok(())
+    let is_right = match deck_of_functions(rt.alloc()) {
+        Ok(deck) => { requests_by_threads(&rt, Profile::Ten, &deck, (events * 26, ENDS)).is_some() }
+        Err(_) => false,
+    };
+    assert!(rt; is_right);
 }
 
 /// Whether a run of one turn more than the program takes has this text, and asks for memory more
@@ -104,27 +100,29 @@ fn a_million_and_one_turns(rt: HostRuntime) {
     assert!(rt; ends_after_a_million(rt.alloc(), Profile::Twenty, HANDOFF_ON_TWENTY));
 }
 
-/// The size of the central memory of a deck.
-fn central_size(heap: &Rationed<Global>, text: &[u8]) -> Result<u32, DeckFault> {
-    Ok(
-        read_deck(heap, Profile::Ten, text)?
-            .machine
-            .central()
-            .size(),
-    )
+/// Whether a text is a deck with a central memory of this size.
+fn has_central(heap: &Rationed<Global>, text: &[u8], size: u32) -> bool {
+    match read_deck(heap, Profile::Ten, text) {
+        Ok(deck) => deck.machine.central().size() == size,
+        Err(_) => false,
+    }
+}
+
+/// Whether each front of a text is a deck, and for each a machine grows.
+fn are_decks(alloc: Global, text: &[u8]) -> bool {
+    let heap = Rationed::new(alloc);
+    for size in 0..=text.len() {
+        if !has_central(&heap, text.get(..size).unwrap_or(&[]), 0o10000) {
+            return false;
+        }
+    }
+    heap.asked() > text.len() as u64
 }
 
 /// A comment of each length up to 2,000 bytes is a deck.
 #[test]
-fn decks_of_each_size(rt: HostRuntime) -> Result<(), Fail> {
-    let heap = Rationed::new(rt.alloc());
-    let text = vec![in rt.alloc(); b'*'; 2000]?;
-    for size in 0..=2000usize {
-        let deck = text.get(..size).unwrap_or(&[]);
-        assert!(rt; central_size(&heap, deck) == Ok(0o10000), "{size} bytes");
-    }
-    assert!(rt; heap.asked() > 2000, "a machine grows");
-    Ok(())
+fn decks_of_each_size(rt: HostRuntime) {
+    assert!(rt; are_decks(rt.alloc(), &[b'*'; 2000]));
 }
 
 /// Sizes of central memory (octal), and the lines that ask for them.
@@ -140,7 +138,7 @@ const SIZES: [(&str, u32); 6] = [
 #[test]
 fn decks_with_central_memory(rt: HostRuntime) {
     let heap = Rationed::new(rt.alloc());
-    for (line, size) in SIZES {
-        assert!(rt; central_size(&heap, line.as_bytes()) == Ok(size), "{line}");
+    for (line, size) in &SIZES {
+        assert!(rt; has_central(&heap, line.as_bytes(), *size), "{line}");
     }
 }

@@ -5,7 +5,6 @@ use pp_sim::run_program;
 use std::fs::Files;
 use std::io::{self, ErrorKind, Read};
 use std::sync::Wait;
-use std::test::Fail;
 use std::thread::Threads;
 use test_bench::{
     Failure, HANDOFF, HANDOFF_ON_TWENTY, HANDOFF_TEXT, Sink, Source, WORDS_OF_A_RUN,
@@ -27,45 +26,47 @@ const KINDS: [ErrorKind; 12] = [
     ErrorKind::Other,
 ];
 
+/// Whether a reader that fails in this way after each of some parts of a deck, in pieces of three
+/// sizes, ends a run.
+fn tells_reader<R: AllocGlobal + Files + Threads + Wait + Sync>(rt: &R, kind: ErrorKind) -> bool {
+    for front in ["", "PP", "words\n", &HANDOFF[..71], HANDOFF] {
+        for piece in [1, 7, 1000usize] {
+            if !is_read_fault(rt, &WORDS_OF_A_RUN, front.as_bytes(), piece, kind) {
+                return false;
+            }
+        }
+    }
+    true
+}
+
+/// Whether a writer that fails in this way, after each of some parts of the text, in pieces of
+/// three sizes, ends a run.
+fn tells_writer<R: AllocGlobal + Files + Threads + Wait + Sync>(rt: &R, kind: ErrorKind) -> bool {
+    let run: Run = (&WORDS_OF_A_RUN, HANDOFF);
+    for room in [0, 1, 21, 100, 148usize] {
+        for piece in [1, 7, 1000usize] {
+            let front = HANDOFF_TEXT.as_bytes().get(..room).unwrap_or(&[]);
+            if !is_write_fault(rt, run, front, piece, Failure::Error(kind)) {
+                return false;
+            }
+        }
+    }
+    true
+}
+
 /// A fault of the reader comes before every fault of the deck that it gave the first part of, and
 /// no error is tried again.
 #[test]
-fn readers_that_give_up(rt: HostRuntime) {
-    for kind in KINDS {
-        for front in ["", "PP", "words\n", &HANDOFF[..71], HANDOFF] {
-            for piece in [1, 7, 1000usize] {
-                let front = front.as_bytes();
-                assert!(rt;
-                    is_read_fault(&rt, &WORDS_OF_A_RUN, front, piece, kind),
-                    "{kind:?}"
-                );
-            }
-        }
+fn devices_that_give_up(rt: HostRuntime) {
+    for kind in &KINDS {
+        assert!(rt; tells_reader(&rt, *kind), "{kind:?}");
+        assert!(rt; tells_writer(&rt, *kind), "{kind:?}");
     }
 }
 
-/// The same run on ten processors and on twenty, each with its text. Both texts have 149 bytes.
-const RUNS: [(Run, &str); 2] = [
-    ((&WORDS_OF_A_RUN, HANDOFF), HANDOFF_TEXT),
-    ((&WORDS_OF_TWENTY, HANDOFF), HANDOFF_ON_TWENTY),
-];
-
-#[test]
-fn writers_that_give_up(rt: HostRuntime) {
-    let (run, text) = RUNS[0];
-    for kind in KINDS {
-        for room in [0, 1, 21, 100, 148usize] {
-            for piece in [1, 7, 1000usize] {
-                let front = text.as_bytes().get(..room).unwrap_or(&[]);
-                let failure = Failure::Error(kind);
-                assert!(rt; is_write_fault(&rt, run, front, piece, failure), "{kind:?}");
-            }
-        }
-    }
-}
-
-/// Whether a writer that is full after the text is not noticed.
-fn fits<R: AllocGlobal + Files + Threads + Wait + Sync>(
+/// Whether a writer that is full after the text is not noticed, and one that cannot be flushed then
+/// is a fault.
+fn flushes_after<R: AllocGlobal + Files + Threads + Wait + Sync>(
     rt: &R,
     (words, input): Run,
     text: &[u8],
@@ -74,16 +75,16 @@ fn fits<R: AllocGlobal + Files + Threads + Wait + Sync>(
     ends(rt, words, &mut input.as_bytes(), &mut output, 0, b"")
         && output.taken() == text
         && output.failures() == 0
+        && is_write_fault(rt, (words, input), text, 1, Failure::Flush)
 }
 
 /// The whole text is taken byte by byte, and then a flush that fails is a fault of the writer.
 #[test]
 fn flushes(rt: HostRuntime) {
-    for (run, text) in RUNS {
-        let text = text.as_bytes();
-        assert!(rt; fits(&rt, run, text));
-        assert!(rt; is_write_fault(&rt, run, text, 1, Failure::Flush));
-    }
+    let text = HANDOFF_TEXT.as_bytes();
+    assert!(rt; flushes_after(&rt, (&WORDS_OF_A_RUN, HANDOFF), text));
+    let text = HANDOFF_ON_TWENTY.as_bytes();
+    assert!(rt; flushes_after(&rt, (&WORDS_OF_TWENTY, HANDOFF), text));
 }
 
 /// An output that fills up at the end of the text is not noticed, and one that fails is not touched
@@ -104,68 +105,83 @@ fn is_untold<R: AllocGlobal + Files + Threads + Wait + Sync>(
     room: usize,
     status: u8,
 ) -> bool {
+    let (taken, failures) = match status {
+        0 => (room, 0),
+        3 => (room, 1),
+        _ => (0, 0),
+    };
     let failure = Failure::Error(ErrorKind::BrokenPipe);
     let mut input = deck.as_bytes();
     let mut output = Sink::new(rt.alloc(), room, 1000, failure);
     let mut error = Sink::new(rt.alloc(), 0, 1000, failure);
     let words = ["ppsim", "barrel", "--turns", turns];
-    let taken = if status == 0 || status == 3 { room } else { 0 };
     run_program(rt, rt.alloc(), &words, &mut input, &mut output, &mut error) == status
-        && output.failures() == if status == 3 { 1 } else { 0 }
+        && output.failures() == failures
         && (error.failures() > 0) == (status != 0)
         && output.taken().len() == taken
 }
 
 #[test]
 fn errors_that_are_not_told(rt: HostRuntime) {
-    for (turns, deck, room, status) in UNTOLD {
+    for &(turns, deck, room, status) in &UNTOLD {
         assert!(rt; is_untold(&rt, turns, deck, room, status), "{status}");
     }
 }
 
-/// Whether a run on `count` spaces, after which the reader gives up, ends so, and how often it did.
-fn ends_on_spaces<R: AllocGlobal + Files + Threads + Wait + Sync>(
-    rt: &R,
-    count: usize,
-    status: u8,
-    error: &[u8],
-) -> Result<(bool, u32), Fail> {
-    let spaces = vec![in rt.alloc(); b' '; count]?;
-    let mut input = Source::new(&spaces, 1000, Some(ErrorKind::BrokenPipe));
-    let mut output = Vec::new(rt.alloc());
-    let is_ended = ends(rt, &WORDS_OF_A_RUN, &mut input, &mut output, status, error);
-    Ok((is_ended && output.is_empty(), input.errors()))
-}
-
-/// What a deck that is too long is answered.
-const TOO_LONG: &[u8] = b"ppsim: deck fault 1 at line 0\n";
-
-/// The byte past the longest deck is the last that is read: an error after it is not met.
-#[test]
-fn reader_that_gives_up_late(rt: HostRuntime) -> Result<(), Fail> {
-    assert!(rt; ends_on_spaces(&rt, 1_048_577, 1, TOO_LONG)? == (true, 0));
-    assert!(rt; ends_on_spaces(&rt, 1_048_576, 3, b"ppsim: read fault\n")? == (true, 1));
-    Ok(())
-}
-
-/// Gives spaces without end, and counts them.
+/// Gives spaces, at most `piece` a call, and then an error. Counts both.
 #[derive(Drop)]
 struct Spaces {
+    left: usize,
+    piece: usize,
     given: usize,
+    errors: u32,
 }
 
 impl Read for Spaces {
     fn read(&mut self, buf: &mut [u8]) -> io::Result<usize> {
-        buf.fill(b' ');
-        self.given = self.given.saturating_add(buf.len());
-        Ok(buf.len())
+        if self.left == 0 {
+            self.errors = self.errors.saturating_add(1);
+            return Err(io::Error::from(ErrorKind::BrokenPipe));
+        }
+        let count = buf.len().min(self.piece).min(self.left);
+        buf[..count].fill(b' ');
+        self.left -= count;
+        self.given = self.given.saturating_add(count);
+        Ok(count)
     }
 }
 
+/// Whether a run on so many spaces, in such pieces, ends so, after it was given so many, and met
+/// so many errors.
+fn ends_on_spaces<R: AllocGlobal + Files + Threads + Wait + Sync>(
+    rt: &R,
+    (left, piece): (usize, usize),
+    (status, error): (u8, &[u8]),
+    (given, errors): (usize, u32),
+) -> bool {
+    let mut input = Spaces {
+        left,
+        piece,
+        given: 0,
+        errors: 0,
+    };
+    let mut output = Vec::new(rt.alloc());
+    ends(rt, &WORDS_OF_A_RUN, &mut input, &mut output, status, error)
+        && output.is_empty()
+        && (input.given, input.errors) == (given, errors)
+}
+
+/// What a deck that is too long is answered.
+const TOO_LONG: (u8, &[u8]) = (1, b"ppsim: deck fault 1 at line 0\n");
+
+/// The byte past the longest deck is the last that is read: an error after it is not met. Spaces
+/// may come without end.
 #[test]
-fn spaces_without_end(rt: HostRuntime) {
-    let mut reader = Spaces { given: 0 };
-    let mut writer = Vec::new(rt.alloc());
-    assert!(rt; ends(&rt, &WORDS_OF_A_RUN, &mut reader, &mut writer, 1, TOO_LONG));
-    assert!(rt; reader.given == 1_048_577 && writer.is_empty());
+fn spaces_past_the_longest_deck(rt: HostRuntime) {
+    let fault: (u8, &[u8]) = (3, b"ppsim: read fault\n");
+    assert!(rt;
+        ends_on_spaces(&rt, (1_048_577, 1000), TOO_LONG, (1_048_577, 0))
+            && ends_on_spaces(&rt, (1_048_576, 1000), fault, (1_048_576, 1))
+            && ends_on_spaces(&rt, (usize::MAX, usize::MAX), TOO_LONG, (1_048_577, 0))
+    );
 }

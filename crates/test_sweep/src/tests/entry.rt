@@ -11,7 +11,7 @@ use std::thread::Threads;
 use test_bench::{HANDOFF, HANDOFF_TEXT, Source};
 
 /// A runtime that hands a program these words.
-#[derive(Clone, Copy)]
+#[derive(Drop)]
 struct Words<'a, R> {
     rt: &'a R,
     words: &'a [&'a [u8]],
@@ -88,30 +88,39 @@ impl<R: Threads> Threads for Words<'_, R> {}
 
 impl<R: Wait> Wait for Words<'_, R> {}
 
-/// Whether a run with these words has this status, this output and this standard error, and asks
-/// the reader so often. In place, since the runtime has threads in a test alone.
-macro_rules! ends {
-    ($rt:ident, $words:expr, $status:expr, $output:expr, $error:expr, $calls:expr) => {{
-        let words: &[&[u8]] = $words;
-        let mut input = Source::new(HANDOFF.as_bytes(), 1, None);
-        let mut written = Vec::new($rt.alloc());
-        let mut told = Vec::new($rt.alloc());
-        let given = (Words { rt: &$rt, words }, $rt.alloc());
-        run_main(&given, &mut input, &mut written, &mut told) == ExitCode::from($status)
-            && written.as_slice() == $output.as_bytes()
-            && told.as_slice() == $error.as_bytes()
-            && input.calls() as usize == $calls
-    }};
-}
+/// Words, and the status, the output, the standard error and the number of reads of their run.
+const RUNS: [(&[&[u8]], u8, &str, &str, usize); 2] = [
+    (
+        &[b"ppsim", b"barrel", b"--turns", b"4\xff"],
+        2,
+        "",
+        "ppsim: a word is not UTF-8\n",
+        0,
+    ),
+    (
+        &[b"ppsim", b"barrel", b"--turns", b"40"],
+        0,
+        HANDOFF_TEXT,
+        "",
+        HANDOFF.len() + 1,
+    ),
+];
 
-#[test]
-fn a_word_that_is_not_utf8(rt: HostRuntime) {
-    let words: [&[u8]; 4] = [b"ppsim", b"barrel", b"--turns", b"4\xff"];
-    assert!(rt; ends!(rt, &words, 2, "", "ppsim: a word is not UTF-8\n", 0));
-}
-
+/// In place, since the runtime has threads in a test alone.
 #[test]
 fn words_of_a_run(rt: HostRuntime) {
-    let words: [&[u8]; 4] = [b"ppsim", b"barrel", b"--turns", b"40"];
-    assert!(rt; ends!(rt, &words, 0, HANDOFF_TEXT, "", HANDOFF.len() + 1));
+    for &(words, status, output, error, calls) in &RUNS {
+        let mut input = Source::new(HANDOFF.as_bytes(), 1, None);
+        let mut written = Vec::new(rt.alloc());
+        let mut told = Vec::new(rt.alloc());
+        let given = (Words { rt: &rt, words }, rt.alloc());
+        let ended = run_main(&given, &mut input, &mut written, &mut told);
+        assert!(rt;
+            ended == ExitCode::from(status)
+                && written.as_slice() == output.as_bytes()
+                && told.as_slice() == error.as_bytes()
+                && input.calls() as usize == calls,
+            "{status}"
+        );
+    }
 }

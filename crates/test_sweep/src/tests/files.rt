@@ -2,65 +2,90 @@
 
 use super::runs::ends;
 use pp_sim::run_program;
-use std::fs::{File, Files, OpenOptions};
-use std::io::{Read, Write};
+use std::fs::{Files, OpenOptions};
+use std::io;
 use std::sync::Wait;
-use std::test::Fail;
 use std::thread::Threads;
 use test_bench::{HANDOFF, Source, WORDS_OF_A_RUN};
+
+/// A file that may be written alone, or read alone.
+fn opened<R: Files>(rt: &R, path: &str, is_written: bool) -> io::Result<R::File> {
+    OpenOptions::new()
+        .read(!is_written)
+        .write(is_written)
+        .open(rt, path)
+}
 
 /// Whether a run onto a file ends so.
 fn ends_onto<R: AllocGlobal + Files + Threads + Wait + Sync>(
     rt: &R,
-    file: &mut impl Write,
-    status: u8,
-    error: &[u8],
+    path: &str,
+    is_written: bool,
+    (status, error): (u8, &[u8]),
 ) -> bool {
+    let Ok(mut file) = opened(rt, path, is_written) else {
+        return false;
+    };
     ends(
         rt,
         &WORDS_OF_A_RUN,
         &mut HANDOFF.as_bytes(),
-        file,
+        &mut file,
         status,
         error,
     )
 }
 
+/// Whether a run whose standard error is a full device has status 1 for its deck.
+fn ends_untold<R: AllocGlobal + Files + Threads + Wait + Sync>(rt: &R) -> bool {
+    let Ok(mut error) = opened(rt, "/dev/full", true) else {
+        return false;
+    };
+    let mut output = Vec::new(rt.alloc());
+    let mut input = "PP 12".as_bytes();
+    let words = &WORDS_OF_A_RUN;
+    run_program(rt, rt.alloc(), words, &mut input, &mut output, &mut error) == 1
+        && output.is_empty()
+}
+
 /// A device that is full, and a file that may be read alone, as a closed output may not be written.
+/// The standard error may fail too.
 #[test]
-fn outputs(rt: HostRuntime) -> Result<(), Fail> {
-    let mut full = OpenOptions::new().write(true).open(&rt, "/dev/full")?;
-    assert!(rt; ends_onto(&rt, &mut full, 3, b"ppsim: write fault\n"));
-    let mut unwritable = File::open(&rt, "/dev/null")?;
-    assert!(rt; ends_onto(&rt, &mut unwritable, 3, b"ppsim: write fault\n"));
-    let mut null = OpenOptions::new().write(true).open(&rt, "/dev/null")?;
-    assert!(rt; ends_onto(&rt, &mut null, 0, b""));
-    Ok(())
+fn outputs(rt: HostRuntime) {
+    let fault: (u8, &[u8]) = (3, b"ppsim: write fault\n");
+    assert!(rt;
+        ends_onto(&rt, "/dev/full", true, fault)
+            && ends_onto(&rt, "/dev/null", false, fault)
+            && ends_onto(&rt, "/dev/null", true, (0, b""))
+            && ends_untold(&rt)
+    );
 }
 
 /// Whether a run on a file ends so, without an output.
 fn ends_on<R: AllocGlobal + Files + Threads + Wait + Sync>(
     rt: &R,
-    file: &mut impl Read,
-    status: u8,
-    error: &[u8],
+    path: &str,
+    is_written: bool,
+    (status, error): (u8, &[u8]),
 ) -> bool {
+    let Ok(mut file) = opened(rt, path, is_written) else {
+        return false;
+    };
     let mut output = Vec::new(rt.alloc());
-    ends(rt, &WORDS_OF_A_RUN, file, &mut output, status, error) && output.is_empty()
+    ends(rt, &WORDS_OF_A_RUN, &mut file, &mut output, status, error) && output.is_empty()
 }
 
 /// A folder, a file that may be written alone, zeros without end, and nothing at all.
 #[test]
-fn inputs(rt: HostRuntime) -> Result<(), Fail> {
-    let mut folder = File::open(&rt, "/")?;
-    assert!(rt; ends_on(&rt, &mut folder, 3, b"ppsim: read fault\n"));
-    let mut unreadable = OpenOptions::new().write(true).open(&rt, "/dev/null")?;
-    assert!(rt; ends_on(&rt, &mut unreadable, 3, b"ppsim: read fault\n"));
-    let mut zeros = File::open(&rt, "/dev/zero")?;
-    assert!(rt; ends_on(&rt, &mut zeros, 1, b"ppsim: deck fault 1 at line 0\n"));
-    let mut nothing = File::open(&rt, "/dev/null")?;
-    assert!(rt; ends_on(&rt, &mut nothing, 0, b""));
-    Ok(())
+fn inputs(rt: HostRuntime) {
+    let fault: (u8, &[u8]) = (3, b"ppsim: read fault\n");
+    let too_long: (u8, &[u8]) = (1, b"ppsim: deck fault 1 at line 0\n");
+    assert!(rt;
+        ends_on(&rt, "/", false, fault)
+            && ends_on(&rt, "/dev/null", true, fault)
+            && ends_on(&rt, "/dev/zero", false, too_long)
+            && ends_on(&rt, "/dev/null", false, (0, b""))
+    );
 }
 
 /// Whether a run with these words ends so, without an output, and reads nothing of the input.
@@ -77,27 +102,26 @@ fn ends_on_path<R: AllocGlobal + Files + Threads + Wait + Sync>(
         && input.calls() == 0
 }
 
+/// Command lines with a path, and the status and standard error of each.
+const PATHS: [(&[&str], u8, &[u8]); 4] = [
+    (&["ppsim", "list", "/"], 3, b"ppsim: /: cannot be read\n"),
+    (
+        &["ppsim", "list", "/none/at all"],
+        3,
+        b"ppsim: /none/at all: cannot be read\n",
+    ),
+    (
+        &["ppsim", "list", "/dev/zero"],
+        1,
+        b"ppsim: deck fault 1 at line 0\n",
+    ),
+    (&["ppsim", "barrel", "--turns", "40", "/dev/null"], 0, b""),
+];
+
 /// Folders, files that are not there, zeros without end, and nothing at all, by their paths.
 #[test]
 fn paths(rt: HostRuntime) {
-    let folder = ["ppsim", "list", "/"];
-    assert!(rt; ends_on_path(&rt, &folder, 3, b"ppsim: /: cannot be read\n"));
-    let none = ["ppsim", "list", "/none/at all"];
-    assert!(rt; ends_on_path(&rt, &none, 3, b"ppsim: /none/at all: cannot be read\n"));
-    let zeros = ["ppsim", "list", "/dev/zero"];
-    assert!(rt; ends_on_path(&rt, &zeros, 1, b"ppsim: deck fault 1 at line 0\n"));
-    let nothing = ["ppsim", "barrel", "--turns", "40", "/dev/null"];
-    assert!(rt; ends_on_path(&rt, &nothing, 0, b""));
-}
-
-/// The error may fail too.
-#[test]
-fn full_error(rt: HostRuntime) -> Result<(), Fail> {
-    let mut error = OpenOptions::new().write(true).open(&rt, "/dev/full")?;
-    let mut output = Vec::new(rt.alloc());
-    let mut input = "PP 12".as_bytes();
-    let words = &WORDS_OF_A_RUN;
-    let status = run_program(&rt, rt.alloc(), words, &mut input, &mut output, &mut error);
-    assert!(rt; status == 1 && output.is_empty());
-    Ok(())
+    for &(words, status, error) in &PATHS {
+        assert!(rt; ends_on_path(&rt, words, status, error), "{words:?}");
+    }
 }

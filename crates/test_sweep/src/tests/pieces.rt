@@ -1,26 +1,16 @@
 //! Texts that are longer than a piece in which they go out, and writers that give up in the middle.
 
+use super::requests::LONG_TEXT;
 use super::runs::{Run, ends, is_write_fault};
-use std::alloc::Global;
+use std::alloc::AllocError;
 use std::fs::Files;
 use std::io::{self, ErrorKind, Write};
 use std::sync::Wait;
-use std::test::Fail;
 use std::thread::Threads;
 use test_bench::{Failure, SESSIONS, report_of_sessions, text_of_sessions};
 
-/// A thousand sessions in the barrel, and by threads: about 42,000 bytes.
-const BARREL: [&str; 4] = ["ppsim", "barrel", "--turns", "30000"];
-
+/// A thousand sessions by threads: about 42,000 bytes, as those of `LONG_TEXT` in the barrel.
 const THREADS: [&str; 6] = ["ppsim", "threads", "--steps", "3000", "--patience", "5"];
-
-/// These runs, and their texts.
-fn runs(alloc: Global) -> Result<[(Run, String); 2], Fail> {
-    Ok([
-        ((&BARREL, SESSIONS), text_of_sessions(alloc, 1000)?),
-        ((&THREADS, SESSIONS), report_of_sessions(alloc, 1000)?),
-    ])
-}
 
 /// Takes all, and remembers how often it was called and the most bytes that it was given at once.
 #[derive(Drop)]
@@ -60,14 +50,6 @@ fn comes_in_pieces<R: AllocGlobal + Files + Threads + Wait + Sync>(
         && tray.calls < 10
 }
 
-#[test]
-fn texts_in_pieces(rt: HostRuntime) -> Result<(), Fail> {
-    for (run, text) in &runs(rt.alloc())? {
-        assert!(rt; comes_in_pieces(&rt, *run, text));
-    }
-    Ok(())
-}
-
 /// How many bytes a writer takes before it fails: none, most of a first piece, what is about a
 /// piece, and more.
 const ROOMS: [usize; 11] = [
@@ -81,7 +63,7 @@ fn tells_failure<R: AllocGlobal + Files + Threads + Wait + Sync>(
     text: &[u8],
     failure: Failure,
 ) -> bool {
-    for room in ROOMS {
+    for &room in &ROOMS {
         for piece in [1000, 1_000_000usize] {
             let front = text.get(..room).unwrap_or(&[]);
             if front.len() != room || !is_write_fault(rt, run, front, piece, failure) {
@@ -92,12 +74,39 @@ fn tells_failure<R: AllocGlobal + Files + Threads + Wait + Sync>(
     true
 }
 
+/// Whether a run has this text, which comes in pieces, and each writer that gives up is a fault.
+fn goes_out<R: AllocGlobal + Files + Threads + Wait + Sync>(
+    rt: &R,
+    run: Run,
+    text: Result<String, AllocError>,
+) -> bool {
+    let Ok(text) = text else {
+        return false;
+    };
+    comes_in_pieces(rt, run, &text)
+        && tells_failure(
+            rt,
+            run,
+            text.as_bytes(),
+            Failure::Error(ErrorKind::Interrupted),
+        )
+        && tells_failure(rt, run, text.as_bytes(), Failure::TakesNothing)
+}
+
 #[test]
-fn writers_that_give_up_between_pieces(rt: HostRuntime) -> Result<(), Fail> {
-    let error = Failure::Error(ErrorKind::Interrupted);
-    for (run, text) in &runs(rt.alloc())? {
-        assert!(rt; tells_failure(&rt, *run, text.as_bytes(), error));
-        assert!(rt; tells_failure(&rt, *run, text.as_bytes(), Failure::TakesNothing));
-    }
-    Ok(())
+fn texts_in_pieces(rt: HostRuntime) {
+    assert!(rt;
+        goes_out(
+            &rt,
+            (&LONG_TEXT, SESSIONS),
+            text_of_sessions(rt.alloc(), 1000)
+        )
+    );
+    assert!(rt;
+        goes_out(
+            &rt,
+            (&THREADS, SESSIONS),
+            report_of_sessions(rt.alloc(), 1000)
+        )
+    );
 }

@@ -1,6 +1,6 @@
 //! Each case again, with one request refused, with a reader that fails, with a writer that fails.
 
-use super::cases::{AT_ONCE, CASES};
+use super::cases::{AT_ONCE, cases};
 use super::runs::{Run, ends, is_read_fault, is_write_fault, requests_refused, whole};
 use std::fs::Files;
 use std::io::ErrorKind;
@@ -10,13 +10,9 @@ use test_bench::{Failure, Sink, Source};
 
 #[test]
 fn each_request_refused(rt: HostRuntime) {
-    for (words, input, least) in CASES {
-        if least > 0 {
-            assert!(rt;
-                requests_refused(&rt, (words, input)) > Some(least),
-                "{words:?}"
-            );
-        }
+    for &(words, input, least) in cases() {
+        let is_right = least == 0 || requests_refused(&rt, (words, input)) > Some(least);
+        assert!(rt; is_right, "{words:?}");
     }
 }
 
@@ -38,13 +34,6 @@ fn tells_reader<R: AllocGlobal + Files + Threads + Wait + Sync>(
         }
     }
     true
-}
-
-#[test]
-fn readers_that_fail(rt: HostRuntime) {
-    for (words, input, _) in CASES {
-        assert!(rt; tells_reader(&rt, (words, input)), "{words:?}");
-    }
 }
 
 /// Whether a writer that fails in this way after each byte of the output, and one that can't be
@@ -74,13 +63,6 @@ fn tells_writers<R: AllocGlobal + Files + Threads + Wait + Sync>(rt: &R, run: Ru
             && tells_writer(rt, run, &output, Failure::TakesNothing)
 }
 
-#[test]
-fn writers_that_fail(rt: HostRuntime) {
-    for (words, input, _) in CASES {
-        assert!(rt; tells_writers(&rt, (words, input)), "{words:?}");
-    }
-}
-
 /// Whether a run ends as ever over a reader that gives one byte a call and a writer that takes one,
 /// and asks once for each byte and once for the end.
 fn byte_by_byte<R: AllocGlobal + Files + Threads + Wait + Sync>(
@@ -95,55 +77,47 @@ fn byte_by_byte<R: AllocGlobal + Files + Threads + Wait + Sync>(
         && reader.calls() as usize == input.len().saturating_add(1)
 }
 
+/// Readers and writers that fail, and sound ones of one byte.
 #[test]
-fn sound_devices_of_one_byte(rt: HostRuntime) {
-    for (words, input, _) in CASES {
+fn devices_of_each_case(rt: HostRuntime) {
+    for &(words, input, _) in cases() {
+        assert!(rt; tells_reader(&rt, (words, input)), "{words:?}");
+        assert!(rt; tells_writers(&rt, (words, input)), "{words:?}");
         assert!(rt; byte_by_byte(&rt, (words, input)), "{words:?}");
     }
 }
 
-/// Answers that need no memory but what reading the words needs, which is not refused here.
-#[test]
-fn answers_ask_for_nothing(rt: HostRuntime) {
-    for words in AT_ONCE {
-        assert!(rt;
-            requests_refused(&rt, (words, "PP 0\n")) == Some(1),
-            "{words:?}"
-        );
-    }
-}
-
-/// Whether nothing is read, and a writer that takes nothing is met exactly if there is a text.
+/// Whether a run has this status, nothing is read, and a writer that takes nothing is met exactly
+/// if there is a text.
 fn is_at_once<R: AllocGlobal + Files + Threads + Wait + Sync>(
     rt: &R,
     words: &'static [&str],
+    status: u8,
 ) -> bool {
-    let (status, output, error) = whole(rt, (words, "PP 0\n"));
+    let (found, output, error) = whole(rt, (words, "PP 0\n"));
     let mut reader = Source::new(b"PP 0\n", 1, None);
     let mut writer = Sink::new(rt.alloc(), 0, 1, Failure::TakesNothing);
-    let is_answered = if status == 0 {
-        ends(
-            rt,
-            words,
-            &mut reader,
-            &mut writer,
-            3,
-            b"ppsim: write fault\n",
-        )
+    let (ended, failures, told) = if status == 0 {
+        (3, 1, b"ppsim: write fault\n".as_slice())
     } else {
-        status == 2 && ends(rt, words, &mut reader, &mut writer, 2, &error)
+        (status, 0, error.as_slice())
     };
-    let failures = if output.is_empty() { 0 } else { 1 };
-    is_answered
-        && output.is_empty() == (status == 2)
+    ends(rt, words, &mut reader, &mut writer, ended, told)
+        && found == status
+        && output.is_empty() == (failures == 0)
         && reader.calls() == 0
         && writer.failures() == failures
 }
 
-/// Help and refusals read nothing. Help that cannot be written is a write fault.
+/// Help and refusals read nothing, and need no memory but what reading the words needs, which is
+/// not refused here. Help that cannot be written is a write fault.
 #[test]
 fn answers_at_once(rt: HostRuntime) {
-    for words in AT_ONCE {
-        assert!(rt; is_at_once(&rt, words), "{words:?}");
+    for &(words, status) in &AT_ONCE {
+        let requests = requests_refused(&rt, (words, "PP 0\n"));
+        assert!(rt;
+            requests == Some(1) && is_at_once(&rt, words, status),
+            "{words:?}"
+        );
     }
 }

@@ -6,7 +6,6 @@ use pp_sim::{TextFault, threads_text};
 use std::alloc::Global;
 use std::fs::Files;
 use std::sync::Wait;
-use std::test::Fail;
 use std::thread::Threads;
 use test_bench::{BLOCK, Rationed};
 
@@ -20,37 +19,28 @@ fn with_little<R: AllocGlobal + Files + Threads + Wait + Sync>(
 ) -> Option<bool> {
     let (mut reader, mut writer) = (BLOCK.as_bytes(), Vec::new(rt.alloc()));
     let done = threads_text(rt, heap, profile, &mut reader, &mut writer, limits);
-    let Ok(text) = String::from_utf8(writer) else {
-        return Some(false);
-    };
-    let is_without = if done.is_ok() {
-        text.contains(" MEMORY\n")
-    } else {
-        matches!(done, Err(TextFault::Memory)) && text.is_empty()
-    };
-    if is_without {
-        return None;
+    let text = str::from_utf8(&writer).unwrap_or("");
+    match done {
+        Ok(()) if text.contains(" MEMORY\n") => None,
+        Err(TextFault::Memory) if writer.is_empty() => None,
+        Ok(()) => Some(text.contains("CH05 000000 PP00 ACN\n")),
+        Err(_) => Some(false),
     }
-    Some(done.is_ok() && text.contains("CH05 000000 PP00 ACN\n"))
 }
 
 /// The number of the first request that a run does not make, if each before it is refused as it
 /// should be.
 fn requests_refused<R: AllocGlobal + Files + Threads + Wait + Sync>(
     rt: &R,
-    heap: &Rationed<Global>,
     profile: Profile,
-    limits: Limits,
 ) -> Option<u64> {
-    heap.refuse_each(|_| with_little(rt, heap, profile, limits))
+    let limits = Limits::new(100, 1000)?;
+    let heap = Rationed::new(rt.alloc());
+    heap.refuse_each(|_| with_little(rt, &heap, profile, limits))
 }
 
 #[test]
-fn text_refused(rt: HostRuntime) -> Result<(), Fail> {
-    let limits = Limits::new(100, 1000).ok_or("no limits")?;
-    let heap = Rationed::new(rt.alloc());
-    for profile in [Profile::Ten, Profile::Twenty] {
-        assert!(rt; requests_refused(&rt, &heap, profile, limits).is_some());
-    }
-    Ok(())
+fn text_refused(rt: HostRuntime) {
+    assert!(rt; requests_refused(&rt, Profile::Ten).is_some());
+    assert!(rt; requests_refused(&rt, Profile::Twenty).is_some());
 }
