@@ -7,7 +7,7 @@ mod barrel;
 mod channel;
 mod deck;
 mod lines;
-mod locked;
+pub(crate) mod locked;
 mod machine;
 mod no_memory;
 mod refusal;

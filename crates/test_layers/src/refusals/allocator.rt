@@ -1,16 +1,15 @@
 //! The allocator of the tests: it refuses the request that it is armed for, and that one alone.
 
-use std::alloc::{AllocError, Allocator, Global};
+use std::alloc::{Allocator, Global};
+use std::process::Abort;
 use std::thread::{self, Threads};
 use test_bench::Rationed;
 
 /// Whether a list grows to the first hundred squares.
-fn has_squares(heap: &Rationed<Global>) -> bool {
-    let mut squares = Vec::new(heap);
+fn has_squares<A: Allocator>(rt: &impl Abort, alloc: A) -> bool {
+    let mut squares = Vec::new(alloc);
     for number in 0..100u64 {
-        if squares.push(number * number).is_err() {
-            return false;
-        }
+        squares.push(number * number).expect(rt, "memory");
     }
     squares.len() == 100 && squares.last() == Some(&9801)
 }
@@ -18,7 +17,7 @@ fn has_squares(heap: &Rationed<Global>) -> bool {
 #[test]
 fn refuses_nothing_until_armed(rt: HostRuntime) {
     let heap = Rationed::new(rt.alloc());
-    assert!(rt; has_squares(&heap) && heap.asked() > 0 && !heap.has_refused());
+    assert!(rt; has_squares(&rt, &heap) && heap.asked() > 0 && !heap.has_refused());
 }
 
 /// Whether a request is refused.
@@ -44,34 +43,35 @@ fn refuses_that_request_alone(rt: HostRuntime) {
 }
 
 /// Whether a list stays as it was when a growth is refused, and grows after that.
-fn grows_after_refusal(heap: &Rationed<Global>) -> Result<bool, AllocError> {
-    let mut list = Vec::with_capacity(heap, 2)?;
-    list.push(7u8)?;
-    list.push(8)?;
+fn grows_after_refusal<A: Allocator>(rt: &impl Abort, heap: &Rationed<Global>, alloc: A) -> bool {
+    let mut list = Vec::from_array(alloc, [7u8, 8]).expect(rt, "a list");
     heap.refuse(1);
-    let is_refused = list.reserve(100).is_err() && heap.has_refused();
+    let is_refused = list.reserve(100).is_err();
     let is_kept = list.as_slice() == [7, 8].as_slice();
-    list.reserve(100)?;
-    list.push(9)?;
-    Ok(is_refused && is_kept && list.as_slice() == [7, 8, 9].as_slice())
+    assert!(rt; is_refused && is_kept && heap.has_refused());
+    list.reserve(100).expect(rt, "room");
+    list.push(9).expect(rt, "room");
+    list.as_slice() == [7, 8, 9].as_slice()
 }
 
 #[test]
 fn a_refused_growth_leaves_the_list(rt: HostRuntime) {
     let heap = Rationed::new(rt.alloc());
-    assert!(rt; matches!(grows_after_refusal(&heap), Ok(true)) && heap.asked() == 2);
+    assert!(rt; grows_after_refusal(&rt, &heap, &heap) && heap.asked() == 2);
+}
+
+/// Whether three requests are counted, and nothing that is given back, up to a new count.
+fn counts(heap: &Rationed<Global>) -> bool {
+    let begin = heap.asked();
+    let is_granted = !is_refused(heap) && !is_refused(heap) && !is_refused(heap);
+    let end = heap.asked();
+    heap.refuse(0);
+    is_granted && begin == 0 && end == 3 && heap.asked() == 0
 }
 
 #[test]
 fn counts_requests_and_no_returns(rt: HostRuntime) {
-    let heap = Rationed::new(rt.alloc());
-    assert!(rt; heap.asked() == 0);
-    for _ in 0..3u8 {
-        assert!(rt; !is_refused(&heap));
-    }
-    assert!(rt; heap.asked() == 3);
-    heap.refuse(0);
-    assert!(rt; heap.asked() == 0);
+    assert!(rt; counts(&Rationed::new(rt.alloc())));
 }
 
 /// Whether a request is made of the inner allocator too, but for one that is refused.

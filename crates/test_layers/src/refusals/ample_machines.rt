@@ -4,6 +4,7 @@
 use pp_machine::{Central, Machine, Profile};
 use pp_word::{Word18, Word60};
 use std::alloc::{Allocator, Global};
+use std::process::Abort;
 use test_bench::{Pair, Rationed, first};
 
 /// Whether the last word of a central memory holds what is put there, and none comes after it.
@@ -15,35 +16,47 @@ fn holds_its_last_word<A: Allocator>(central: &mut Central<A>, size: u32) -> boo
     let word = Word60::truncated(u64::from(size));
     central.size() == size
         && central.write(last, word)
+        && !central.write(behind, word)
         && central.read(last) == Some(word)
         && central.read(behind).is_none()
 }
 
-/// Whether a new machine has a central memory of this size.
-fn has_size(heap: &Rationed<Global>, profile: Profile, size: u32) -> bool {
-    match Machine::new(heap, profile, size) {
-        Ok(machine) => machine.central().size() == size,
-        Err(_) => false,
-    }
+/// The size of the central memory of a new machine.
+fn size_of<A: Allocator + Copy>(rt: &impl Abort, alloc: A, profile: Profile, size: u32) -> u32 {
+    let machine = Machine::new(alloc, profile, size).expect(rt, "a machine");
+    machine.central().size()
 }
 
-/// Whether a central memory and machines of this size are made, and hold `size` words.
-fn is_made(heap: &Rationed<Global>, size: u32) -> bool {
-    let Ok(mut central) = Central::new(heap, size) else {
-        return false;
-    };
-    holds_its_last_word(&mut central, size)
-        && has_size(heap, Profile::Ten, size)
-        && has_size(heap, Profile::Twenty, size)
+/// Whether a central memory of this size is made, and holds its last word without a request.
+fn is_made<A: Allocator + Copy>(
+    rt: &impl Abort,
+    heap: &Rationed<Global>,
+    alloc: A,
+    size: u32,
+) -> bool {
+    heap.refuse(0);
+    let mut central = Central::new(alloc, size).expect(rt, "words");
+    let is_asked = heap.asked() > 0;
+    heap.refuse(1);
+    let is_held = holds_its_last_word(&mut central, size);
+    let is_asked_again = heap.asked() > 0;
+    heap.refuse(0);
+    is_held && is_asked && !is_asked_again
 }
 
 #[test]
 fn sizes(rt: HostRuntime) {
     let heap = Rationed::new(rt.alloc());
-    for size in [1, 2, 0o7777, 0o10000, 0o10001, 0o12345, 12_345, 0o400_000] {
-        assert!(rt; is_made(&heap, size), "{size}");
+    for size in [
+        1, 2, 0o41, 0o7777, 0o10000, 0o10001, 0o12345, 12_345, 0o400_000,
+    ] {
+        assert!(rt;
+            is_made(&rt, &heap, &heap, size)
+                && size_of(&rt, &heap, Profile::Ten, size) == size
+                && size_of(&rt, &heap, Profile::Twenty, size) == size,
+            "{size}"
+        );
     }
-    assert!(rt; heap.asked() > 8, "words are asked for");
 }
 
 /// The number of the fault when a central memory of this size is asked for, and this request is
@@ -73,10 +86,7 @@ const LATE: Pair = Pair {
 };
 
 /// Whether the first event of `turns` turns comes in turn `late`, and PP 0 is past it then.
-fn is_late(heap: &Rationed<Global>, profile: Profile, turns: u32, late: u64) -> bool {
-    let Ok(mut machine) = LATE.machine(heap, profile) else {
-        return false;
-    };
+fn is_late<A: Allocator>(machine: &mut Machine<A>, turns: u32, late: u64) -> bool {
     let is_run = machine.run_barrel(turns).is_ok();
     match machine.events().first() {
         Some(entry) => is_run && entry.turn == late && machine.pp(first()).p().get() == 0o105,
@@ -84,12 +94,25 @@ fn is_late(heap: &Rationed<Global>, profile: Profile, turns: u32, late: u64) -> 
     }
 }
 
+/// The same of a new machine.
+fn has_late_event<A: Allocator + Copy>(
+    rt: &impl Abort,
+    alloc: A,
+    (profile, turns, late): (Profile, u32, u64),
+) -> bool {
+    let mut machine = LATE.machine(alloc, profile).expect(rt, "a machine");
+    is_late(&mut machine, turns, late)
+}
+
 #[test]
 fn a_late_event(rt: HostRuntime) {
     let heap = Rationed::new(rt.alloc());
     // One step loads A, and two go with each number from 177777 down to 1 (octal).
     let late = 1 + 2 * 65_535;
-    assert!(rt; is_late(&heap, Profile::Ten, 1_400_000, 10 * late));
-    assert!(rt; is_late(&heap, Profile::Twenty, 2_800_000, 20 * late));
-    assert!(rt; heap.asked() > 0);
+    for run in [
+        (Profile::Ten, 1_400_000, 10 * late),
+        (Profile::Twenty, 2_800_000, 20 * late),
+    ] {
+        assert!(rt; has_late_event(&rt, &heap, run) && heap.asked() > 0);
+    }
 }

@@ -1,14 +1,14 @@
 //! The machine's own turns, and its dead start, when growths are refused.
 
-ghost use Rattle.std.specs.Prelude.{◌≡◌, IfOk, IfSome};
-ghost use Rattle.pp_machine.specs.DeadStart.{IsBeforeFirstTurn, WaitsWithin};
+ghost use Rattle.pp_machine.specs.DeadStart.{WaitsWithin};
 
-use crate::refusals::machine::{FLAPPING, RationedMachine, Twins, are_same};
+use crate::refusals::machine::{FLAPPING, RationedMachine, are_same, twins};
 use crate::refusals::refusal::unless_refused;
 use pp_channel::Memory;
-use pp_machine::{CentralFault, Machine, PROCESSORS, PpNo, Profile};
-use std::alloc::{Allocator, Global};
-use test_bench::{HANDOFF_PAIR, Pair, Rationed, first, put_program, waiting};
+use pp_machine::{Machine, PROCESSORS, PpNo, Profile};
+use std::alloc::Global;
+use std::process::Abort;
+use test_bench::{HANDOFF_PAIR, Pair, Rationed, waiting};
 
 /// PP 0 loads PP 1 at dead start, with the three words after its program.
 const LOADER: Pair = Pair {
@@ -31,21 +31,6 @@ fn step_in_turn(machine: &mut Machine<Global>, turns: u64) -> Result<(), Memory>
     Ok(())
 }
 
-/// A machine with two programs started, on which no turn was taken.
-fn before_first_turn<A: Allocator + Copy>(
-    programs: Pair,
-    alloc: A,
-    profile: Profile,
-) -> Result<Machine<A>, CentralFault>
-    ensures fresh { IfOk result (λ machine. IsBeforeFirstTurn machine) }
-    ensures profile { IfOk result (λ machine. machine.profile ≡ profile) }
-{
-    let mut machine = Machine::new(alloc, profile, 0o10000)?;
-    put_program(machine.pp_mut(first()), 0o100, programs.zero);
-    put_program(machine.pp_mut(first().next()), 0o200, programs.one);
-    Ok(machine)
-}
-
 /// All processors of a profile but 0 wait, or none.
 fn others(profile: Profile, wait: bool) -> [bool; PROCESSORS]
     ensures { WaitsWithin profile result }
@@ -55,21 +40,6 @@ fn others(profile: Profile, wait: bool) -> [bool; PROCESSORS]
 
 /// Two programs, whether all processors but 0 wait, and how many turns of the barrel are run.
 type Run = (Pair, bool, u32);
-
-/// The machine of such a run before its first turn.
-fn started<A: Allocator + Copy>(
-    (programs, wait, _): Run,
-    alloc: A,
-    profile: Profile,
-) -> Option<Machine<A>> {
-    let Ok(mut machine) = before_first_turn(programs, alloc, profile) else {
-        return None;
-    };
-    match machine.dead_start(&others(profile, wait)) {
-        Ok(()) => Some(machine),
-        Err(_) => None,
-    }
-}
 
 /// As for lists of turns.
 fn run_cut(
@@ -87,68 +57,50 @@ fn run_cut(
 }
 
 /// The same of a new machine and its twin, with this request refused.
-fn round_refused(
+fn round_refused<R: AllocGlobal + Abort>(
+    rt: &R,
     heap: &Rationed<Global>,
-    alloc: Global,
     profile: Profile,
     number: u64,
-    run: Run,
+    (programs, wait, turns): Run,
 ) -> Option<bool> {
-    heap.refuse(0);
-    let mut twin = started(run, alloc, profile)?;
-    let mut machine = started(run, heap, profile)?;
+    let waiting = others(profile, wait);
+    let (mut machine, mut twin) = twins(rt, heap, profile, programs);
+    let is_started = (
+        machine.dead_start(&waiting).is_ok(),
+        twin.dead_start(&waiting).is_ok(),
+    );
+    assert!(rt; is_started == (true, true));
     heap.refuse(number);
-    run_cut(heap, &mut machine, &mut twin, run.2)
-}
-
-/// The number of the first request that is not made.
-fn rounds_refused(alloc: Global, profile: Profile, run: Run) -> Option<u64> {
-    let heap = Rationed::new(alloc);
-    heap.refuse_each(|number| round_refused(&heap, alloc, profile, number, run))
+    run_cut(heap, &mut machine, &mut twin, turns)
 }
 
 #[test]
 fn barrel_refused(rt: HostRuntime) {
-    for (profile, handoff, flapping, loading) in [
-        (Profile::Ten, 40, 1405, 90),
-        (Profile::Twenty, 80, 2805, 180),
+    let heap = Rationed::new(rt.alloc());
+    for (programs, wait, ten, twenty, least) in [
+        (HANDOFF_PAIR, false, 40, 80, 2),
+        (FLAPPING, false, 1405, 2805, 8),
+        (LOADER, true, 90, 180, 2),
     ] {
-        let last = rounds_refused(rt.alloc(), profile, (HANDOFF_PAIR, false, handoff));
-        assert!(rt; last > Some(2));
-        let last = rounds_refused(rt.alloc(), profile, (FLAPPING, false, flapping));
-        assert!(rt; last > Some(8), "the lists grow again and again");
-        let last = rounds_refused(rt.alloc(), profile, (LOADER, true, loading));
-        assert!(rt; last > Some(2));
-    }
-}
-
-/// A machine and its twin, each before its first turn.
-fn twins<'a>(heap: &'a Rationed<Global>, alloc: Global, profile: Profile) -> Option<Twins<'a>>
-    ensures fresh { IfSome result (λ twins.
-        IsBeforeFirstTurn twins.0 × IsBeforeFirstTurn twins.1) }
-    ensures profile { IfSome result (λ twins.
-        (twins.0.profile ≡ profile) × (twins.1.profile ≡ profile)) }
-{
-    heap.refuse(0);
-    let Ok(twin) = before_first_turn(HANDOFF_PAIR, alloc, profile) else {
-        return None;
-    };
-    match before_first_turn(HANDOFF_PAIR, heap, profile) {
-        Ok(machine) => Some((machine, twin)),
-        Err(_) => None,
+        for (profile, turns) in [(Profile::Ten, ten), (Profile::Twenty, twenty)] {
+            let run = (programs, wait, turns);
+            let last = heap.refuse_each(|number| round_refused(&rt, &heap, profile, number, run));
+            assert!(rt; last > Some(least), "the lists grow again and again");
+        }
     }
 }
 
 /// Nothing where this request is refused as all processors but one are to wait, and the machine is
 /// as one that was never started; else whether they wait.
-fn waiting_refused(
+fn waiting_refused<R: AllocGlobal + Abort>(
+    rt: &R,
     heap: &Rationed<Global>,
-    alloc: Global,
     profile: Profile,
     number: u64,
 ) -> Option<bool> {
     let waiting = others(profile, true);
-    let (mut machine, mut twin) = twins(heap, alloc, profile)?;
+    let (mut machine, mut twin) = twins(rt, heap, profile, HANDOFF_PAIR);
     heap.refuse(number);
     let is_refused = machine.dead_start(&waiting).is_err();
     let is_right = is_refused == heap.has_refused()
@@ -156,16 +108,11 @@ fn waiting_refused(
     unless_refused(is_right && are_same(&machine, &twin), is_refused)
 }
 
-/// The number of the first request that no dead start makes.
-fn dead_starts_refused(alloc: Global, profile: Profile) -> Option<u64> {
-    let heap = Rationed::new(alloc);
-    heap.refuse_each(|number| waiting_refused(&heap, alloc, profile, number))
-}
-
 #[test]
 fn dead_start_refused(rt: HostRuntime) {
-    let last = dead_starts_refused(rt.alloc(), Profile::Ten);
-    assert!(rt; last > Some(9), "nine channels grow");
-    let last = dead_starts_refused(rt.alloc(), Profile::Twenty);
-    assert!(rt; last > Some(19), "nineteen channels grow");
+    let heap = Rationed::new(rt.alloc());
+    for (profile, channels) in [(Profile::Ten, 9), (Profile::Twenty, 19)] {
+        let last = heap.refuse_each(|number| waiting_refused(&rt, &heap, profile, number));
+        assert!(rt; last > Some(channels), "each of these channels grows");
+    }
 }

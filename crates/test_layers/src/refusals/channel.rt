@@ -2,7 +2,7 @@
 
 use crate::refusals::refusal::unless_refused;
 use pp_channel::{ChanOp, Channel, Event, Memory, Reply};
-use std::alloc::Global;
+use std::alloc::{Allocator, Global};
 use test_bench::{EMPTY, FULL, INACTIVE, Rationed, word};
 
 /// Channels over an allocator that refuses a request.
@@ -79,7 +79,7 @@ fn act_refused(rt: HostRuntime) {
 }
 
 /// Whether a channel is at its second word of a session: Activate, Put 0005.
-pub(crate) fn is_full(channel: &RationedChannel) -> bool {
+pub(crate) fn is_full<A: Allocator>(channel: &Channel<A>) -> bool {
     let events = [Event::Activate, Event::Put(word(5))];
     channel.history() == events.as_slice()
         && channel.flags() == FULL
@@ -92,23 +92,26 @@ fn fill(channel: &mut RationedChannel, number: u16) -> bool {
     channel.act(ChanOp::Activate) == done && channel.act(ChanOp::Put(word(number))) == done
 }
 
-/// Nothing if this request of a copy is refused; else whether it is as its channel. The channel
-/// stays.
-fn copy(heap: &Rationed<Global>, number: u64) -> Option<bool> {
-    heap.refuse(0);
-    let mut channel = Channel::new(heap);
-    let is_filled = fill(&mut channel, 5);
-    heap.refuse(number);
-    match channel.copy() {
-        Ok(copy) => Some(is_filled && is_full(&copy) && is_full(&channel)),
-        Err(_) => unless_refused(is_filled && is_full(&channel), true),
+/// Nothing if a copy is refused; else whether it is as its channel. The channel stays.
+fn copy(channel: &RationedChannel) -> Option<bool> {
+    let is_copied = match channel.copy() {
+        Ok(copy) => Some(is_full(&copy)),
+        Err(_) => None,
+    };
+    if is_full(channel) {
+        is_copied
+    } else {
+        Some(false)
     }
 }
 
 #[test]
 fn copy_refused(rt: HostRuntime) {
     let heap = Rationed::new(rt.alloc());
-    assert!(rt; heap.refuse_each(|number| copy(&heap, number)) > Some(1));
+    let mut channel = Channel::new(&heap);
+    let is_filled = fill(&mut channel, 5);
+    let last = heap.refuse_each(|_| copy(&channel));
+    assert!(rt; is_filled && last > Some(1));
 }
 
 /// Whether a channel answers these operations so, none has an event, and nothing is asked for.
@@ -145,20 +148,21 @@ fn without_event() -> ([(ChanOp, Reply); 4], [(ChanOp, Reply); 4]) {
 }
 
 /// Whether such operations ask for nothing, on a new channel and once it is full.
-fn asks_for_nothing(heap: &Rationed<Global>) -> bool {
+fn asks_for_nothing(heap: &Rationed<Global>, channel: &mut RationedChannel) -> bool {
     let (inactive, full) = without_event();
-    let mut channel = Channel::new(heap);
-    let is_inactive = answers(heap, &mut channel, &inactive)
+    let is_inactive = answers(heap, channel, &inactive)
         && channel.waiting().is_none()
         && channel.history().is_empty();
     heap.refuse(0);
     is_inactive
-        && fill(&mut channel, 0o7777)
-        && answers(heap, &mut channel, &full)
+        && fill(channel, 0o7777)
+        && answers(heap, channel, &full)
         && channel.waiting() == Some(word(0o7777))
 }
 
 #[test]
 fn no_event_asks_for_nothing(rt: HostRuntime) {
-    assert!(rt; asks_for_nothing(&Rationed::new(rt.alloc())));
+    let heap = Rationed::new(rt.alloc());
+    let mut channel = Channel::new(&heap);
+    assert!(rt; asks_for_nothing(&heap, &mut channel));
 }

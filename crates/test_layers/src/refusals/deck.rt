@@ -5,7 +5,7 @@ use pp_channel::ChannelNo;
 use pp_deck::{Deck, DeckCode, DeckFault, read_deck};
 use pp_machine::{Machine, Profile};
 use pp_word::{Word12, Word18, Word60};
-use std::alloc::{AllocError, Allocator, Global};
+use std::alloc::{Allocator, Global};
 use test_bench::{Rationed, first};
 
 const DECK: &[u8] = b"CENTRAL 7\nCM 5 00010002000300040005\nPP 1\n0200 7005 0300\nSTART 0200\n";
@@ -26,23 +26,6 @@ const NO_MEMORY: DeckFault = DeckFault {
     line: 0,
     code: DeckCode::Memory,
 };
-
-/// Nothing if the deck is refused for lack of memory; else whether it is loaded.
-fn load(heap: &Rationed<Global>, profile: Profile) -> Option<bool> {
-    match read_deck(heap, profile, DECK) {
-        Ok(deck) => Some(is_loaded(&deck)),
-        Err(fault) => unless_refused(fault == NO_MEMORY, true),
-    }
-}
-
-#[test]
-fn deck_refused(rt: HostRuntime) {
-    let heap = Rationed::new(rt.alloc());
-    for profile in [Profile::Ten, Profile::Twenty] {
-        let last = heap.refuse_each(|_| load(&heap, profile));
-        assert!(rt; last > Some(1), "a machine grows");
-    }
-}
 
 /// PP 0 has a program, and the nine others, or nineteen, wait for theirs.
 const DEAD_START: &[u8] =
@@ -68,20 +51,30 @@ fn is_dead_started<A: Allocator>(deck: &Deck<A>, opened: u64) -> bool {
         && deck.machine.pp(first().next()).block().is_some()
 }
 
-/// The same of this deck.
-fn load_at_dead_start(heap: &Rationed<Global>, profile: Profile, opened: u64) -> Option<bool> {
-    match read_deck(heap, profile, DEAD_START) {
+/// Nothing if one of both decks is refused for lack of memory; else whether it is loaded, `DECK` if
+/// no channel is to be open.
+fn load<A: Allocator + Copy>(alloc: A, profile: Profile, text: &[u8], opened: u64) -> Option<bool> {
+    match read_deck(alloc, profile, text) {
+        Ok(deck) if opened == 0 => Some(is_loaded(&deck)),
         Ok(deck) => Some(is_dead_started(&deck, opened)),
         Err(fault) => unless_refused(fault == NO_MEMORY, true),
     }
 }
 
 #[test]
-fn dead_start_refused(rt: HostRuntime) {
+fn deck_refused(rt: HostRuntime) {
     let heap = Rationed::new(rt.alloc());
-    for (profile, opened) in [(Profile::Ten, 9), (Profile::Twenty, 19u64)] {
-        let last = heap.refuse_each(|_| load_at_dead_start(&heap, profile, opened));
-        assert!(rt; last > Some(opened), "each of these channels grows");
+    for (profile, text, opened, least) in [
+        (Profile::Ten, DECK, 0, 1),
+        (Profile::Twenty, DECK, 0, 1),
+        (Profile::Ten, DEAD_START, 9, 9),
+        (Profile::Twenty, DEAD_START, 19, 19),
+    ] {
+        let last = heap.refuse_each(|_| load(&heap, profile, text, opened));
+        assert!(rt;
+            last > Some(least),
+            "a machine grows, and each channel that is open"
+        );
     }
 }
 
@@ -134,11 +127,13 @@ fn faulty_decks_refused(rt: HostRuntime) {
 }
 
 #[test]
-fn texts_that_ask_for_nothing(rt: HostRuntime) -> Result<(), AllocError> {
-    let long = vec![in rt.alloc(); b' '; 1_048_577]?;
+fn texts_that_ask_for_nothing(rt: HostRuntime) {
+    let long = vec![in rt.alloc(); b' '; 1_048_577].expect(&rt, "a text");
     let heap = Rationed::new(rt.alloc());
-    assert!(rt; code_of(&heap, &long, 1) == Some((0, DeckCode::TooLong)) && heap.asked() == 0);
-    let odd = b"PP 12\n\x80".as_slice();
-    assert!(rt; code_of(&heap, odd, 1) == Some((2, DeckCode::NotAscii)) && heap.asked() == 0);
-    Ok(())
+    for (text, fault) in [
+        (long.as_slice(), (0, DeckCode::TooLong)),
+        (b"PP 12\n\x80".as_slice(), (2, DeckCode::NotAscii)),
+    ] {
+        assert!(rt; code_of(&heap, text, 1) == Some(fault) && heap.asked() == 0);
+    }
 }

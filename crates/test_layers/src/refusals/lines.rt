@@ -1,18 +1,16 @@
 //! Lines whose growths are refused.
 
-ghost use Rattle.std.specs.Prelude.{◌≡◌, ◌+◌, IfSome};
+ghost use Rattle.std.specs.Prelude.{◌≡◌, ◌+◌};
 
 use crate::refusals::refusal::unless_refused;
 use pp_channel::{ChanOp, Channel, ChannelNo, Event, Seen};
 use pp_line::{Entry, Line, open_lines};
-use std::alloc::Global;
+use std::alloc::{Allocator, Global};
+use std::process::Abort;
 use test_bench::{FULL, Rationed, word};
 
-/// Lines over an allocator that refuses a request.
-type RationedLine<'a> = Line<&'a Rationed<Global>>;
-
 /// Makes calls on channel 5; whether all are answered.
-fn act(line: &mut RationedLine, ops: &[ChanOp]) -> bool
+fn act<A: Allocator + Copy>(line: &mut Line<A>, ops: &[ChanOp]) -> bool
     ensures shares { line.new.view.shares ≡ line.old.view.shares }
     ensures whole { line.new.view.whole ≡ line.old.view.whole }
     ensures table { line.new.table ≡ line.old.table }
@@ -25,50 +23,39 @@ fn act(line: &mut RationedLine, ops: &[ChanOp]) -> bool
     true
 }
 
-/// Whether a line has this log, this room, `seen` events of channel 5 seen and `shares` shares, and
-/// keeps its last look, or has none.
-fn is_line(
-    line: &RationedLine,
-    log: &[(u64, Seen)],
-    (room, seen, shares, keeps): (u32, u64, u32, bool),
+/// Whether a line has this log, and this room, so many events of channel 5 seen, so many shares,
+/// and whether it keeps its last look.
+fn is_line<A: Allocator + Copy>(
+    line: &Line<A>,
+    log: &[Entry],
+    shown: (u32, u64, u32, bool),
 ) -> bool {
-    let five = ChannelNo::at(5);
-    let entries = line.log();
-    for (place, (number, what)) in log.iter().enumerate() {
-        let entry = Entry {
-            channel: five,
-            number: *number,
-            what: *what,
-        };
-        if entries.get(place) != Some(&entry) {
-            return false;
-        }
-    }
-    entries.len() == log.len()
-        && line.room() == room
-        && line.seen(five) == seen
-        && line.shares() == shares
-        && line.kept() == keeps
+    let seen = line.seen(ChannelNo::at(5));
+    line.log() == log && (line.room(), seen, line.shares(), line.kept()) == shown
 }
 
-/// The log of a line after the calls of the worked row: two events, and the look of the put that is
-/// held in the place of the probe's.
-fn log_of_row() -> [(u64, Seen); 3] {
+fn entry(number: u64, what: Seen) -> Entry {
+    Entry {
+        channel: ChannelNo::at(5),
+        number,
+        what,
+    }
+}
+
+/// The log of a line after the calls of the worked row, two events, and the look of the put that is
+/// held in the place of the probe's; and that of its child, which takes the word.
+fn log_of_row() -> [Entry; 4] {
     [
-        (0, Seen::Did(Event::Activate)),
-        (1, Seen::Did(Event::Put(word(1)))),
-        (2, Seen::Saw(FULL)),
+        entry(0, Seen::Did(Event::Activate)),
+        entry(1, Seen::Did(Event::Put(word(1)))),
+        entry(2, Seen::Saw(FULL)),
+        entry(2, Seen::Did(Event::Take(word(1)))),
     ]
 }
 
-/// The log of its child, which takes the word.
-fn log_of_child() -> [(u64, Seen); 1] {
-    [(2, Seen::Did(Event::Take(word(1))))]
-}
-
 /// Nothing if a line is refused; else whether it is as new.
-fn open(heap: &Rationed<Global>) -> Option<bool> {
-    match open_lines(heap, 8, 2) {
+fn open<A: Allocator + Copy>(alloc: A) -> Option<bool> {
+    match open_lines(alloc, 8, 2) {
         Ok(line) => Some(line.room() == 8 && line.shares() == 2),
         Err(_) => None,
     }
@@ -77,14 +64,15 @@ fn open(heap: &Rationed<Global>) -> Option<bool> {
 #[test]
 fn open_refused(rt: HostRuntime) {
     let heap = Rationed::new(rt.alloc());
-    assert!(rt; heap.refuse_each(|_| open(&heap)) > Some(1));
+    let last = heap.refuse_each(|_| open(&heap));
+    assert!(rt; last > Some(1));
 }
 
 /// A line after the calls of the worked row before the split: two events, a look, and a put that is
 /// held.
-fn opened<'a>(heap: &'a Rationed<Global>) -> Option<RationedLine<'a>>
-    ensures shares { IfSome result (λ line. line.view.shares ≡ 2) }
-    ensures whole { IfSome result (λ line. line.view.whole ≡ 2) }
+fn opened<A: Allocator + Copy>(rt: &impl Abort, alloc: A) -> Line<A>
+    ensures shares { result.view.shares ≡ 2 }
+    ensures whole { result.view.whole ≡ 2 }
 {
     let ops = [
         ChanOp::Activate,
@@ -92,68 +80,71 @@ fn opened<'a>(heap: &'a Rationed<Global>) -> Option<RationedLine<'a>>
         ChanOp::Probe,
         ChanOp::Put(word(2)),
     ];
-    let Ok(mut line) = open_lines(heap, 8, 2) else {
-        return None;
-    };
-    if act(&mut line, &ops) {
-        Some(line)
-    } else {
-        None
-    }
+    let mut line = open_lines(alloc, 8, 2).expect(rt, "a line");
+    assert!(rt; act(&mut line, &ops));
+    line
 }
 
-/// Nothing if this request of a split is refused, which leaves the line as it was; else whether the
-/// child is as it should be.
-fn split(heap: &Rationed<Global>, number: u64) -> Option<bool> {
-    heap.refuse(0);
-    let mut line = opened(heap)?;
-    heap.refuse(number);
+/// Nothing if a split is refused, which leaves the line as it was; else whether the child is as it
+/// should be.
+fn split<A: Allocator + Copy>(line: &mut Line<A>) -> Option<bool> {
+    if line.shares() != 2 {
+        return Some(false);
+    }
     match line.split(4) {
         Ok(child) => Some(is_line(&child, &[], (4, 2, 1, true))),
-        Err(_) => unless_refused(is_line(&line, &log_of_row(), (5, 2, 2, false)), true),
+        Err(_) => {
+            let [one, other, look, _] = log_of_row();
+            unless_refused(is_line(line, &[one, other, look], (5, 2, 2, false)), true)
+        }
     }
 }
 
+/// The line is refused its child again and again, up to a split without a refusal.
 #[test]
 fn split_refused(rt: HostRuntime) {
     let heap = Rationed::new(rt.alloc());
-    assert!(rt; heap.refuse_each(|number| split(&heap, number)) > Some(1));
+    let mut line = opened(&rt, &heap);
+    let last = heap.refuse_each(|_| split(&mut line));
+    assert!(rt; last > Some(1));
 }
 
 /// The line of the worked row, and its child, which has taken the word.
-fn family<'a>(heap: &'a Rationed<Global>) -> Option<(RationedLine<'a>, RationedLine<'a>)>
-    ensures table { IfSome result (λ lines. lines.1.table ≡ lines.0.table) }
-    ensures shares { IfSome result (λ lines.
-        lines.0.view.shares + lines.1.view.shares ≡ lines.0.view.whole) }
+fn family<A: Allocator + Copy>(rt: &impl Abort, alloc: A) -> (Line<A>, Line<A>)
+    ensures table { result.1.table ≡ result.0.table }
+    ensures shares { result.0.view.shares + result.1.view.shares ≡ result.0.view.whole }
 {
-    let mut line = opened(heap)?;
-    let mut child = line.split(4).ok()?;
-    if act(&mut child, &[ChanOp::Take]) {
-        Some((line, child))
-    } else {
-        None
-    }
+    let mut line = opened(rt, alloc);
+    let mut child = line.split(4).expect(rt, "a child");
+    assert!(rt; act(&mut child, &[ChanOp::Take]));
+    (line, child)
 }
 
 /// Whether both lines are as they were before the join.
-fn are_kept(line: &RationedLine, child: &RationedLine) -> bool {
-    is_line(line, &log_of_row(), (5, 2, 1, false))
-        && is_line(child, &log_of_child(), (3, 3, 1, false))
+fn are_kept<A: Allocator + Copy>(line: &Line<A>, child: &Line<A>) -> bool {
+    let [one, other, look, taken] = log_of_row();
+    is_line(line, &[one, other, look], (5, 2, 1, false))
+        && is_line(child, &[taken], (3, 3, 1, false))
 }
 
-/// What a line shows once its child has joined it: entries, room and shares.
-fn shown(line: &RationedLine) -> (usize, u32, u32) {
-    (line.log().len(), line.room(), line.shares())
+/// Whether the line is whole, as it is after the join and before the close.
+fn is_whole<A: Allocator + Copy>(line: &Line<A>) -> bool {
+    is_line(line, &log_of_row(), (5, 3, 2, true))
 }
 
 /// Nothing where this request of a join is refused, which leaves both lines as they were; else
 /// whether the line is as it should be.
-fn join(heap: &Rationed<Global>, number: u64) -> Option<bool> {
+fn join<A: Allocator + Copy>(
+    rt: &impl Abort,
+    heap: &Rationed<Global>,
+    alloc: A,
+    number: u64,
+) -> Option<bool> {
     heap.refuse(0);
-    let (line, child) = family(heap)?;
+    let (line, child) = family(rt, alloc);
     heap.refuse(number);
     match line.join(child) {
-        Ok(both) => Some(shown(&both) == (4, 5, 2)),
+        Ok(both) => Some(is_whole(&both)),
         Err((line, child, _memory)) => unless_refused(are_kept(&line, &child), true),
     }
 }
@@ -161,15 +152,19 @@ fn join(heap: &Rationed<Global>, number: u64) -> Option<bool> {
 #[test]
 fn join_refused(rt: HostRuntime) {
     let heap = Rationed::new(rt.alloc());
-    assert!(rt; heap.refuse_each(|number| join(&heap, number)) > Some(1));
+    let last = heap.refuse_each(|number| join(&rt, &heap, &heap, number));
+    assert!(rt; last > Some(1));
 }
 
 /// The line of the worked row, whole again.
-fn whole_line<'a>(heap: &'a Rationed<Global>) -> Option<RationedLine<'a>>
-    ensures { IfSome result (λ line. line.view.shares ≡ line.view.whole) }
+fn whole_line<A: Allocator + Copy>(rt: &impl Abort, alloc: A) -> Line<A>
+    ensures { result.view.shares ≡ result.view.whole }
 {
-    let (line, child) = family(heap)?;
-    line.join(child).ok()
+    let (line, child) = family(rt, alloc);
+    match line.join(child) {
+        Ok(line) => line,
+        Err(_) => panic!(rt; "no memory for a join"),
+    }
 }
 
 /// Whether the channel at place 5 has the history that the row leaves, and no other has any.
@@ -184,18 +179,11 @@ fn have_history_of_row(channels: &[Channel<&Rationed<Global>>]) -> bool {
     true
 }
 
-/// Whether the line is as it was before the close.
-fn is_whole(line: &RationedLine) -> bool {
-    let [one, other, look] = log_of_row();
-    let [taken] = log_of_child();
-    is_line(line, &[one, other, look, taken], (5, 3, 2, true))
-}
-
 /// Nothing where this request of a close is refused, which leaves the line as it was; else whether
 /// the channels are as they should be.
-fn close(heap: &Rationed<Global>, number: u64) -> Option<bool> {
+fn close(rt: &impl Abort, heap: &Rationed<Global>, number: u64) -> Option<bool> {
     heap.refuse(0);
-    let line = whole_line(heap)?;
+    let line = whole_line(rt, heap);
     heap.refuse(number);
     match line.close() {
         Ok(channels) => Some(have_history_of_row(&channels)),
@@ -206,11 +194,12 @@ fn close(heap: &Rationed<Global>, number: u64) -> Option<bool> {
 #[test]
 fn close_refused(rt: HostRuntime) {
     let heap = Rationed::new(rt.alloc());
-    assert!(rt; heap.refuse_each(|number| close(&heap, number)) > Some(1));
+    let last = heap.refuse_each(|number| close(&rt, &heap, number));
+    assert!(rt; last > Some(1));
 }
 
 /// Whether a line makes every operation, one of them held, and then keeps a look.
-fn makes_all(line: &mut RationedLine) -> bool {
+fn makes_all<A: Allocator + Copy>(line: &mut Line<A>) -> bool {
     let ops = [
         ChanOp::Function(word(0o12)),
         ChanOp::Activate,
@@ -224,20 +213,28 @@ fn makes_all(line: &mut RationedLine) -> bool {
     line.keep();
     // Five events, and the look of the held Put in the place of the probe's.
     is_answered
-        && shown(line) == (6, 2, 2)
-        && (line.seen(ChannelNo::at(5)), line.kept(), line.whole()) == (5, true, 2)
+        && line.log().len() == 6
+        && line.room() == 2
+        && line.seen(ChannelNo::at(5)) == 5
+        && line.kept()
+        && line.shares() == 2
+        && line.whole() == 2
 }
 
 /// Whether such a line asks for no memory.
-fn asks_for_nothing(heap: &Rationed<Global>) -> bool {
-    let Ok(mut line) = open_lines(heap, 8, 2) else {
-        return false;
-    };
+fn asks_for_nothing<A: Allocator + Copy>(
+    rt: &impl Abort,
+    heap: &Rationed<Global>,
+    alloc: A,
+) -> bool {
+    let mut line = open_lines(alloc, 8, 2).expect(rt, "a line");
     heap.refuse(1);
-    makes_all(&mut line) && heap.asked() == 0
+    let is_made = makes_all(&mut line);
+    is_made && heap.asked() == 0
 }
 
 #[test]
 fn a_line_asks_for_nothing(rt: HostRuntime) {
-    assert!(rt; asks_for_nothing(&Rationed::new(rt.alloc())));
+    let heap = Rationed::new(rt.alloc());
+    assert!(rt; asks_for_nothing(&rt, &heap, &heap));
 }

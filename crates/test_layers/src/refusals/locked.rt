@@ -3,19 +3,17 @@
 use crate::refusals::channel::is_full;
 use crate::refusals::refusal::unless_refused;
 use pp_channel::{ChanOp, Channel, Locked, Memory, Numbered, Reply};
-use std::alloc::Global;
+use std::alloc::{Allocator, Global};
+use std::process::Abort;
 use std::sync::Wait;
 use test_bench::{INACTIVE, Rationed, numbered, word};
 
-/// A channel behind a lock, over an allocator that refuses a request.
-type RationedLock<'a> = Locked<&'a Rationed<Global>>;
-
 /// The same operations behind the lock and on a channel in ample memory, which answer the same,
 /// until a request is refused. Gives how many were made, or nothing if an answer is another.
-fn act_until_refused(
+fn act_until_refused<A: Allocator>(
     rt: &impl Wait,
     heap: &Rationed<Global>,
-    locked: &RationedLock,
+    locked: &Locked<A>,
     kept: &mut Channel<Global>,
     operations: &[ChanOp],
 ) -> Option<usize> {
@@ -41,7 +39,7 @@ fn act_until_refused(
 }
 
 /// Whether two channels show the same.
-fn is_same(channel: &Channel<&Rationed<Global>>, kept: &Channel<Global>) -> bool {
+fn is_same<A: Allocator>(channel: &Channel<A>, kept: &Channel<Global>) -> bool {
     channel.history() == kept.history()
         && channel.flags() == kept.flags()
         && channel.waiting() == kept.waiting()
@@ -60,51 +58,52 @@ fn every_operation() -> [ChanOp; 7] {
     ]
 }
 
-/// The same of a channel that is locked for them, and how many were made; nothing if it does not
-/// show what the other does afterwards.
-fn act_behind_lock<'a>(
-    rt: &impl Wait,
-    heap: &'a Rationed<Global>,
-    channel: Channel<&'a Rationed<Global>>,
+/// The same of a channel that is locked for them, which shows what the other does afterwards, and
+/// how many were made.
+fn act_behind_lock<R: Wait + Abort, A: Allocator>(
+    rt: &R,
+    heap: &Rationed<Global>,
+    channel: Channel<A>,
     kept: &mut Channel<Global>,
     operations: &[ChanOp],
-) -> Option<(Channel<&'a Rationed<Global>>, usize)> {
+) -> (Channel<A>, usize) {
     let locked = Locked::new(channel);
     let made = act_until_refused(rt, heap, &locked, kept, operations);
+    let made = made.expect(rt, "the same answers");
     let channel = locked.into_inner();
-    match made {
-        Some(made) if is_same(&channel, kept) => Some((channel, made)),
-        _ => None,
-    }
+    assert!(rt; is_same(&channel, kept));
+    (channel, made)
 }
 
 /// Operations of which a request may be refused, and then those that are left. Nothing if one is
 /// refused and the channel is as it should be before and after these; else whether it is.
-fn operations_refused(rt: &impl Wait, heap: &Rationed<Global>, alloc: Global) -> Option<bool> {
+fn operations_refused<R: AllocGlobal + Wait + Abort, A: Allocator>(
+    rt: &R,
+    heap: &Rationed<Global>,
+    alloc: A,
+) -> Option<bool> {
     let operations = every_operation();
-    let mut kept = Channel::new(alloc);
-    let begun = act_behind_lock(rt, heap, Channel::new(heap), &mut kept, &operations);
-    let Some((channel, made)) = begun else {
-        return Some(false);
-    };
+    let mut kept = Channel::new(rt.alloc());
+    let (channel, made) = act_behind_lock(rt, heap, Channel::new(alloc), &mut kept, &operations);
     let rest = operations.get(made..).unwrap_or(&[]);
-    let is_done = match act_behind_lock(rt, heap, channel, &mut kept, rest) {
-        Some((_, made)) => made == rest.len() && kept.history().len() == 5,
-        None => false,
-    };
+    let (_, left) = act_behind_lock(rt, heap, channel, &mut kept, rest);
+    let is_done = left == rest.len() && kept.history().len() == 5;
     unless_refused(is_done, heap.has_refused())
 }
 
 #[test]
 fn locked_act_refused(rt: HostRuntime) {
-    let alloc = rt.alloc();
-    let heap = Rationed::new(alloc);
-    let last = heap.refuse_each(|_| operations_refused(&rt, &heap, alloc));
+    let heap = Rationed::new(rt.alloc());
+    let last = heap.refuse_each(|_| operations_refused(&rt, &heap, &heap));
     assert!(rt; last > Some(2), "the history grows more than once");
 }
 
 /// Whether operations behind a lock have these answers.
-fn answers(rt: &impl Wait, locked: &RationedLock, calls: &[(ChanOp, Numbered)]) -> bool {
+pub(crate) fn answers<A: Allocator>(
+    rt: &impl Wait,
+    locked: &Locked<A>,
+    calls: &[(ChanOp, Numbered)],
+) -> bool {
     for (op, answer) in calls {
         if locked.act(rt, *op) != Ok(*answer) {
             return false;
@@ -114,8 +113,8 @@ fn answers(rt: &impl Wait, locked: &RationedLock, calls: &[(ChanOp, Numbered)]) 
 }
 
 /// How many events are left by operations behind a new lock, if they have these answers.
-fn left_by(rt: &impl Wait, heap: &Rationed<Global>, calls: &[(ChanOp, Numbered)]) -> Option<usize> {
-    let locked = Locked::new(Channel::new(heap));
+fn left_by<A: Allocator>(rt: &impl Wait, alloc: A, calls: &[(ChanOp, Numbered)]) -> Option<usize> {
+    let locked = Locked::new(Channel::new(alloc));
     let is_answered = answers(rt, &locked, calls);
     let count = locked.into_inner().history().len();
     is_answered.then_some(count)
@@ -134,12 +133,18 @@ fn locked_without_event_asks_for_nothing(rt: HostRuntime) {
     ];
     let heap = Rationed::new(rt.alloc());
     heap.refuse(1);
-    assert!(rt; left_by(&rt, &heap, &calls) == Some(0) && heap.asked() == 0);
+    let (left, untouched) = (left_by(&rt, &heap, &calls), left_by(&rt, &heap, &[]));
+    assert!(rt; left == Some(0) && untouched == Some(0) && heap.asked() == 0);
 }
 
 /// Whether a channel comes out of its lock full, without a request, and goes on.
-fn goes_on(rt: &impl Wait, heap: &Rationed<Global>, calls: &[(ChanOp, Numbered)]) -> bool {
-    let locked = Locked::new(Channel::new(heap));
+fn goes_on<A: Allocator>(
+    rt: &impl Wait,
+    heap: &Rationed<Global>,
+    alloc: A,
+    calls: &[(ChanOp, Numbered)],
+) -> bool {
+    let locked = Locked::new(Channel::new(alloc));
     let is_answered = answers(rt, &locked, calls);
     heap.refuse(1);
     let mut channel = locked.into_inner();
@@ -156,5 +161,6 @@ fn a_session_behind_a_lock_goes_on(rt: HostRuntime) {
         (ChanOp::Activate, numbered(Reply::Done, 0)),
         (ChanOp::Put(word(5)), numbered(Reply::Done, 1)),
     ];
-    assert!(rt; goes_on(&rt, &Rationed::new(rt.alloc()), &calls));
+    let heap = Rationed::new(rt.alloc());
+    assert!(rt; goes_on(&rt, &heap, &heap, &calls));
 }

@@ -1,10 +1,14 @@
 //! A machine whose growths are refused.
 
+ghost use Rattle.std.specs.Prelude.{◌≡◌, IfOk};
+ghost use Rattle.pp_machine.specs.DeadStart.{IsBeforeFirstTurn};
+
 use crate::refusals::refusal::unless_refused;
 use pp_channel::{CHANNELS, ChannelNo, Memory};
 use pp_machine::{Central, CentralFault, Machine, Outcome, PROCESSORS, Pp, PpNo, Profile};
-use std::alloc::Global;
-use test_bench::{HANDOFF_PAIR, Pair, Rationed, first, word};
+use std::alloc::{Allocator, Global};
+use std::process::Abort;
+use test_bench::{HANDOFF_PAIR, Pair, Rationed, first, put_program, word};
 
 /// PP 1 activates channel 5 and disconnects it, again and again; PP 0 is held.
 pub(crate) const FLAPPING: Pair = Pair {
@@ -18,21 +22,35 @@ pub(crate) type RationedMachine<'a> = Machine<&'a Rationed<Global>>;
 /// Such a machine, and its twin in ample memory.
 pub(crate) type Twins<'a> = (RationedMachine<'a>, Machine<Global>);
 
-/// Both, new and with these programs.
-fn twins<'a>(
+/// A machine with two programs started, on which no turn was taken.
+fn before_first_turn<A: Allocator + Copy>(
+    programs: Pair,
+    alloc: A,
+    profile: Profile,
+) -> Result<Machine<A>, CentralFault>
+    ensures fresh { IfOk result (λ machine. IsBeforeFirstTurn machine) }
+    ensures profile { IfOk result (λ machine. machine.profile ≡ profile) }
+{
+    let mut machine = Machine::new(alloc, profile, 0o10000)?;
+    put_program(machine.pp_mut(first()), 0o100, programs.zero);
+    put_program(machine.pp_mut(first().next()), 0o200, programs.one);
+    Ok(machine)
+}
+
+/// Two such machines, the first over an allocator that refuses nothing yet.
+pub(crate) fn twins<'a, R: AllocGlobal + Abort>(
+    rt: &R,
     heap: &'a Rationed<Global>,
-    alloc: Global,
     profile: Profile,
     programs: Pair,
-) -> Option<Twins<'a>> {
+) -> Twins<'a>
+    ensures fresh { IsBeforeFirstTurn result.0 × IsBeforeFirstTurn result.1 }
+    ensures profile { (result.0.profile ≡ profile) × (result.1.profile ≡ profile) }
+{
     heap.refuse(0);
-    let Ok(twin) = programs.machine(alloc, profile) else {
-        return None;
-    };
-    match programs.machine(heap, profile) {
-        Ok(machine) => Some((machine, twin)),
-        Err(_) => None,
-    }
+    let machine = before_first_turn(programs, heap, profile);
+    let twin = before_first_turn(programs, rt.alloc(), profile);
+    (machine.expect(rt, "a machine"), twin.expect(rt, "a twin"))
 }
 
 /// Whether two processors show the same.
@@ -50,7 +68,7 @@ pub(crate) fn is_same(one: &Pp, other: &Pp) -> bool {
 }
 
 /// Whether two machines show the same processors, histories, turns and events.
-pub(crate) fn are_same(machine: &RationedMachine, twin: &Machine<Global>) -> bool {
+pub(crate) fn are_same<A: Allocator>(machine: &Machine<A>, twin: &Machine<Global>) -> bool {
     for place in 0..PROCESSORS {
         let n = PpNo::at(place);
         if !is_same(machine.pp(n), twin.pp(n)) {
@@ -87,11 +105,13 @@ fn making_refused(rt: HostRuntime) {
     let heap = Rationed::new(rt.alloc());
     let (refused, made) = ((Some(CentralFault::Memory), true), (None, false));
     for profile in [Profile::Ten, Profile::Twenty] {
-        assert!(rt; making(&heap, profile, 1) == [refused, refused]);
-        assert!(rt; making(&heap, profile, 2) == [made, refused]);
-        assert!(rt; making(&heap, profile, 3) == [made, refused]);
-        for number in 4..10u64 {
-            assert!(rt; making(&heap, profile, number) == [made, made]);
+        for number in 1..10u64 {
+            let central = if number == 1 { refused } else { made };
+            let machine = if number <= 3 { refused } else { made };
+            assert!(rt;
+                making(&heap, profile, number) == [central, machine],
+                "{number}"
+            );
         }
     }
 }
@@ -109,8 +129,9 @@ fn faults(heap: &Rationed<Global>, size: u32) -> [Option<CentralFault>; 3] {
 fn a_bad_size_comes_before_memory(rt: HostRuntime) {
     let heap = Rationed::new(rt.alloc());
     heap.refuse(1);
-    assert!(rt; faults(&heap, 0) == [Some(CentralFault::BadSize); 3]);
-    assert!(rt; faults(&heap, 0o400_001) == [Some(CentralFault::BadSize); 3]);
+    for size in [0, 0o400_001] {
+        assert!(rt; faults(&heap, size) == [Some(CentralFault::BadSize); 3]);
+    }
     assert!(rt; heap.asked() == 0);
 }
 
@@ -165,28 +186,6 @@ fn take_steps(
     unless_refused(true, heap.has_refused())
 }
 
-/// The same of a new machine and its twin, with this request refused.
-fn steps_refused(
-    heap: &Rationed<Global>,
-    alloc: Global,
-    profile: Profile,
-    number: u64,
-) -> Option<bool> {
-    let (mut machine, mut twin) = twins(heap, alloc, profile, HANDOFF_PAIR)?;
-    heap.refuse(number);
-    take_steps(heap, &mut machine, &mut twin)
-}
-
-#[test]
-fn step_refused(rt: HostRuntime) {
-    let alloc = rt.alloc();
-    let heap = Rationed::new(alloc);
-    for profile in [Profile::Ten, Profile::Twenty] {
-        let last = heap.refuse_each(|number| steps_refused(&heap, alloc, profile, number));
-        assert!(rt; last > Some(2), "both lists grow");
-    }
-}
-
 /// Whether both machines are the same after these turns, which the first has taken, and after those
 /// that are left, which both take.
 fn go_on_alike(
@@ -220,53 +219,6 @@ fn run_cut(
     unless_refused(is_cut && go_on_alike(machine, twin, made, left), refused)
 }
 
-/// The same of a new machine and its twin, with this request refused.
-fn run_refused(
-    heap: &Rationed<Global>,
-    alloc: Global,
-    profile: Profile,
-    number: u64,
-    programs: Pair,
-    turns: &[PpNo],
-) -> Option<bool> {
-    let (mut machine, mut twin) = twins(heap, alloc, profile, programs)?;
-    heap.refuse(number);
-    run_cut(heap, &mut machine, &mut twin, turns)
-}
-
-/// The number of the first request that is not made.
-fn runs_refused(alloc: Global, profile: Profile, programs: Pair, turns: &[PpNo]) -> Option<u64> {
-    let heap = Rationed::new(alloc);
-    heap.refuse_each(|number| run_refused(&heap, alloc, profile, number, programs, turns))
-}
-
-#[test]
-fn turns_refused(rt: HostRuntime) {
-    let (zero, one) = (first(), first().next());
-    let handoff = [one, zero, zero, zero, one];
-    for profile in [Profile::Ten, Profile::Twenty] {
-        assert!(rt; runs_refused(rt.alloc(), profile, HANDOFF_PAIR, &handoff) > Some(2));
-        let last = runs_refused(rt.alloc(), profile, FLAPPING, &[one; 60]);
-        assert!(rt; last > Some(6), "the lists grow again and again");
-    }
-}
-
-/// How many events each channel has after 600 turns, more than 30 in all, as the machine counts
-/// them and as its histories have them.
-fn event_counts(alloc: Global) -> Option<[usize; CHANNELS]> {
-    let Ok(mut machine) = FLAPPING.machine(alloc, Profile::Ten) else {
-        return None;
-    };
-    let is_run = machine.run_barrel(600).is_ok() && machine.events().len() > 30;
-    let counts = machine.event_counts();
-    for place in 0..CHANNELS {
-        if counts[place] != machine.channel(ChannelNo::at(place)).history().len() {
-            return None;
-        }
-    }
-    is_run.then_some(counts)
-}
-
 /// Whether a run of 600 turns asks for no memory, and does what the other's does.
 fn runs_in_room(
     heap: &Rationed<Global>,
@@ -297,18 +249,80 @@ fn make_room(
     (is_kept && has_room && runs_in_room(heap, machine, twin)).then_some(is_refused)
 }
 
+/// What a machine does while a request may be refused.
+#[derive(Clone, Copy)]
+enum Task<'a> {
+    Steps,
+    Turns(&'a [PpNo]),
+    Room(&'a [usize; CHANNELS]),
+}
+
+/// What is said of the task by the function for it.
+fn perform(
+    heap: &Rationed<Global>,
+    machine: &mut RationedMachine,
+    twin: &mut Machine<Global>,
+    task: Task,
+) -> Option<bool> {
+    match task {
+        Task::Steps => take_steps(heap, machine, twin),
+        Task::Turns(turns) => run_cut(heap, machine, twin, turns),
+        Task::Room(counts) => make_room(heap, machine, twin, counts),
+    }
+}
+
 /// The same of a new machine and its twin, with this request refused.
-fn room_refused(heap: &Rationed<Global>, alloc: Global, number: u64) -> Option<bool> {
-    let counts = event_counts(alloc)?;
-    let (mut machine, mut twin) = twins(heap, alloc, Profile::Ten, FLAPPING)?;
+fn refused<R: AllocGlobal + Abort>(
+    rt: &R,
+    heap: &Rationed<Global>,
+    profile: Profile,
+    programs: Pair,
+    task: Task,
+    number: u64,
+) -> Option<bool> {
+    let (mut machine, mut twin) = twins(rt, heap, profile, programs);
     heap.refuse(number);
-    make_room(heap, &mut machine, &mut twin, &counts)
+    perform(heap, &mut machine, &mut twin, task)
+}
+
+#[test]
+fn steps_refused(rt: HostRuntime) {
+    let heap = Rationed::new(rt.alloc());
+    let (zero, one) = (first(), first().next());
+    let (handoff, flapping) = ([one, zero, zero, zero, one], [one; 60]);
+    for profile in [Profile::Ten, Profile::Twenty] {
+        for (programs, task, least) in [
+            (HANDOFF_PAIR, Task::Steps, 2),
+            (HANDOFF_PAIR, Task::Turns(&handoff), 2),
+            (FLAPPING, Task::Turns(&flapping), 6),
+        ] {
+            let last = heap.refuse_each(|n| refused(&rt, &heap, profile, programs, task, n));
+            assert!(rt; last > Some(least), "the lists grow again and again");
+        }
+    }
+}
+
+/// How many events each channel has, more than 30 in all, as the machine counts them and as its
+/// histories have them.
+fn event_counts(machine: &Machine<Global>) -> Option<[usize; CHANNELS]> {
+    let counts = machine.event_counts();
+    for place in 0..CHANNELS {
+        if counts[place] != machine.channel(ChannelNo::at(place)).history().len() {
+            return None;
+        }
+    }
+    (machine.events().len() > 30).then_some(counts)
 }
 
 #[test]
 fn no_request_with_room(rt: HostRuntime) {
+    let made = FLAPPING.machine(rt.alloc(), Profile::Ten);
+    let mut machine = made.expect(&rt, "a machine");
+    let is_run = machine.run_barrel(600).is_ok();
+    let counts = event_counts(&machine).expect(&rt, "counts");
     let heap = Rationed::new(rt.alloc());
-    for number in 1..10u64 {
-        assert!(rt; room_refused(&heap, rt.alloc(), number) == Some(number < 3));
+    for n in 1..10u64 {
+        let refused = refused(&rt, &heap, Profile::Ten, FLAPPING, Task::Room(&counts), n);
+        assert!(rt; is_run && refused == Some(n < 3));
     }
 }

@@ -1,26 +1,13 @@
-//! Calls of central memory and of a machine that make no event answer as ever when the first
-//! request would be refused. Words and processors hold no allocator and take none.
+//! Calls of a machine that make no event answer as ever when the first request would be refused.
+//! Words and processors hold no allocator and take none.
 
+use crate::refusals::machine::RationedMachine;
 use pp_channel::ChannelNo;
-use pp_machine::{Central, CentralFault, Machine, Outcome, PpState, Profile};
+use pp_machine::{Machine, Outcome, PpState, Profile};
 use pp_word::{Word18, Word60};
 use std::alloc::Global;
-use std::test::Fail;
-use test_bench::{Rationed, channel, first, put_program, put_words};
-
-#[test]
-fn central_asks_for_nothing(rt: HostRuntime) -> Result<(), Fail> {
-    let (last, behind) = (Word18::truncated(0o40), Word18::truncated(0o41));
-    let word = Word60::truncated(0o1234);
-    let heap = Rationed::new(rt.alloc());
-    let mut central = Central::new(&heap, 0o41)?;
-    heap.refuse(1);
-    assert!(rt; central.size() == 0o41);
-    assert!(rt; central.write(last, word) && !central.write(behind, word));
-    assert!(rt; central.read(last) == Some(word) && central.read(behind).is_none());
-    assert!(rt; heap.asked() == 0);
-    Ok(())
-}
+use std::process::Abort;
+use test_bench::{Rationed, first, put_program, put_words};
 
 /// Programs that make no event, with the place where each is loaded and started.
 const PROGRAMS: [(u16, &[u16]); 6] = [
@@ -42,15 +29,13 @@ const ENDS: [(u16, u32, PpState); 6] = [
     (0o102, 3, PpState::Stopped),
 ];
 
-/// A machine over an allocator that refuses a request.
-type RationedMachine<'a> = Machine<&'a Rationed<Global>>;
-
 /// A machine with these programs, and two central words at its end.
 fn loaded<'a>(
+    rt: &impl Abort,
     heap: &'a Rationed<Global>,
     profile: Profile,
-) -> Result<RationedMachine<'a>, CentralFault> {
-    let mut machine = Machine::new(heap, profile, 7)?;
+) -> RationedMachine<'a> {
+    let mut machine = Machine::new(heap, profile, 7).expect(rt, "a machine");
     let mut n = first();
     for (start, words) in PROGRAMS {
         let pp = machine.pp_mut(n);
@@ -59,7 +44,7 @@ fn loaded<'a>(
         put_program(pp, start, words);
         n = n.next();
     }
-    Ok(machine)
+    machine
 }
 
 /// Whether `turns` turns of the barrel are made, and four more steps.
@@ -73,7 +58,8 @@ fn makes_turns(machine: &mut RationedMachine, turns: u32) -> bool {
 }
 
 /// Whether each program has ended as it should, without an event.
-fn have_ended(machine: &RationedMachine, five: ChannelNo) -> bool {
+fn have_ended(machine: &RationedMachine) -> bool {
+    let five = ChannelNo::at(5);
     let mut n = first();
     for end in ENDS {
         let pp = machine.pp(n);
@@ -87,36 +73,38 @@ fn have_ended(machine: &RationedMachine, five: ChannelNo) -> bool {
         && !machine.opened(five)
 }
 
-/// Whether such a machine makes `turns` turns without a request. The words at the end of its
-/// central memory are written, and one of them is copied.
-fn asks_for_nothing(
-    heap: &Rationed<Global>,
-    profile: Profile,
-    turns: u32,
-    five: ChannelNo,
-) -> bool {
+/// Whether such a machine makes `turns` turns. The words at the end of its central memory are
+/// written, and one of them is copied.
+fn goes_on(machine: &mut RationedMachine, turns: u32) -> bool {
     let words = Word60::truncated(0o0001_0002_0003_0004_0005);
     let others = Word60::truncated(0o0006_0007_0010_0011_0012);
-    heap.refuse(0);
-    let Ok(mut machine) = loaded(heap, profile) else {
-        return false;
-    };
-    heap.refuse(1);
     put_words(machine.pp_mut(first().next()), 0o7000, &[1]);
     machine.write_central(Word18::truncated(5), words)
         && machine.write_central(Word18::truncated(6), others)
         && !machine.write_central(Word18::truncated(7), others)
-        && makes_turns(&mut machine, turns)
-        && have_ended(&machine, five)
+        && makes_turns(machine, turns)
+        && have_ended(machine)
         && machine.central().read(Word18::truncated(3)) == Some(words)
-        && heap.asked() == 0
+}
+
+/// Whether it does so without a request.
+fn asks_for_nothing(
+    rt: &impl Abort,
+    heap: &Rationed<Global>,
+    profile: Profile,
+    turns: u32,
+) -> bool {
+    heap.refuse(0);
+    let mut machine = loaded(rt, heap, profile);
+    heap.refuse(1);
+    let is_gone_on = goes_on(&mut machine, turns);
+    is_gone_on && heap.asked() == 0
 }
 
 #[test]
-fn machine_asks_for_nothing(rt: HostRuntime) -> Result<(), Fail> {
-    let five = channel(5)?;
+fn machine_asks_for_nothing(rt: HostRuntime) {
     let heap = Rationed::new(rt.alloc());
-    assert!(rt; asks_for_nothing(&heap, Profile::Ten, 60, five));
-    assert!(rt; asks_for_nothing(&heap, Profile::Twenty, 120, five));
-    Ok(())
+    for (profile, turns) in [(Profile::Ten, 60), (Profile::Twenty, 120)] {
+        assert!(rt; asks_for_nothing(&rt, &heap, profile, turns));
+    }
 }

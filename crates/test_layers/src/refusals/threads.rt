@@ -3,16 +3,15 @@
 ghost use Rattle.pp_runner.specs.Report.{ReportFitsInMemory};
 
 use crate::refusals::machine::is_same;
-use pp_channel::{CHANNELS, Channel, ChannelNo};
+use pp_channel::ChannelNo;
 use pp_deck::read_deck;
 use pp_machine::{Central, Machine, Profile};
 use pp_runner::{End, Gate, Limits, LockedCentral, NoGate, Report, run_threads};
-use pp_word::{Word18, Word60};
 use std::alloc::{Allocator, Global};
+use std::process::Abort;
 use std::sync::Wait;
-use std::test::Fail;
 use std::thread::Threads;
-use test_bench::{BLOCK, Rationed, channel, first};
+use test_bench::{BLOCK, Rationed, first};
 
 /// How many workers of a report ended for lack of memory; nothing if the processor of one is not
 /// that of its load after its answers.
@@ -33,35 +32,17 @@ fn out_of_memory<A: Allocator>(machine: &Machine<A>, report: &Report<A>) -> Opti
     Some(count)
 }
 
-/// Loads a deck and runs it: how many workers ended for lack of memory, and how many events a
-/// channel had; or nothing if it was refused memory. A processor that waits for one that was gives
-/// up.
-fn run_deck<R: Threads + Wait + Sync, G: Gate + Sync, A: Allocator + Copy + Send + Sync>(
-    rt: &R,
-    gate: &G,
-    alloc: A,
-    profile: Profile,
-    text: &str,
+/// Nothing if some workers of a run ended for lack of memory; else whether a channel has events.
+fn has_events<A: Allocator>(
+    machine: &Machine<A>,
+    report: &Report<A>,
     channel: ChannelNo,
-) -> Option<(Option<usize>, usize)>
-    requires { ReportFitsInMemory A.row A.Allocator }
-{
-    let Ok(deck) = read_deck(alloc, profile, text.as_bytes()) else {
-        return None;
-    };
-    if !deck.machine.events().is_empty() {
-        return None;
+) -> Option<bool> {
+    match out_of_memory(machine, report) {
+        Some(0) => Some(!report.channels[channel.index()].history().is_empty()),
+        Some(_) => None,
+        None => Some(false),
     }
-    let limits = Limits::new(100, 1000)?;
-    let Ok(report) = run_threads(rt, alloc, &deck.machine, limits, gate) else {
-        return None;
-    };
-    let count = out_of_memory(&deck.machine, &report);
-    Some((count, events_on(&report.channels, channel)))
-}
-
-fn events_on<A: Allocator>(channels: &[Channel<A>; CHANNELS], channel: ChannelNo) -> usize {
-    channels[channel.index()].history().len()
 }
 
 /// PP 0 sends one word to each of two processors that wait at dead start, and disconnects them.
@@ -90,50 +71,62 @@ PP 31
 START 0100
 ";
 
-/// Decks, and for each a channel that its run uses.
-const DECKS: [(Profile, &str, u8); 4] = [
+/// Decks, and for each the place of a channel that its run uses.
+const DECKS: [(Profile, &str, usize); 4] = [
     (Profile::Ten, BLOCK, 5),
     (Profile::Ten, DEAD_START, 1),
-    (Profile::Twenty, FAR, 0o33),
+    (Profile::Twenty, FAR, 23),
     (Profile::Twenty, DEAD_START, 1),
 ];
 
-/// Nothing if a run is refused memory, or some of its workers are; else whether it has events.
-fn run_with_little<R: Threads + Wait + Sync>(
+/// Loads a deck and runs it. Nothing if the load or the run is refused memory, or some of the
+/// workers are, for which those that wait for them give up; else whether a channel has events.
+fn run_deck<R: Threads + Wait + Sync, G: Gate + Sync, A: Allocator + Copy + Send + Sync>(
     rt: &R,
-    heap: &Rationed<Global>,
+    gate: &G,
+    alloc: A,
     profile: Profile,
     text: &str,
     channel: ChannelNo,
-) -> Option<bool> {
-    match run_deck(rt, &NoGate, heap, profile, text, channel)? {
-        (Some(0), events) => Some(events > 0),
-        (Some(_), _) => None,
-        (None, _) => Some(false),
+) -> Option<bool>
+    requires { ReportFitsInMemory A.row A.Allocator }
+{
+    let Ok(deck) = read_deck(alloc, profile, text.as_bytes()) else {
+        return None;
+    };
+    if !deck.machine.events().is_empty() {
+        return None;
     }
+    let limits = Limits::new(100, 1000)?;
+    let Ok(report) = run_threads(rt, alloc, &deck.machine, limits, gate) else {
+        return None;
+    };
+    has_events(&deck.machine, &report, channel)
 }
 
 /// Each deck is run with each request refused in turn, up to a run without a refusal.
 #[test]
-fn runs_refused(rt: HostRuntime) -> Result<(), Fail> {
-    for (profile, text, number) in DECKS {
-        let channel = channel(number)?;
-        let heap = Rationed::new(rt.alloc());
-        let last = heap.refuse_each(|_| run_with_little(&rt, &heap, profile, text, channel));
+fn runs_refused(rt: HostRuntime) {
+    let heap = Rationed::new(rt.alloc());
+    for (profile, text, place) in DECKS {
+        let channel = ChannelNo::at(place);
+        let last = heap.refuse_each(|_| run_deck(&rt, &NoGate, &heap, profile, text, channel));
         assert!(rt; last > Some(15), "lines, logs and answers grow");
     }
-    Ok(())
 }
 
-/// The size of central memory behind locks, if this request is not refused.
-fn locked_size(heap: &Rationed<Global>, number: u64) -> Option<u32> {
+/// Nothing if this request of central memory behind locks is refused; else whether it has its size.
+fn lock<A: Allocator + Copy>(
+    rt: &impl Abort,
+    heap: &Rationed<Global>,
+    alloc: A,
+    number: u64,
+) -> Option<bool> {
     heap.refuse(0);
-    let Ok(central) = Central::new(heap, 0o41) else {
-        return None;
-    };
+    let central = Central::new(alloc, 0o41).expect(rt, "words");
     heap.refuse(number);
-    match LockedCentral::new(heap, &central) {
-        Ok(locked) => Some(locked.size()),
+    match LockedCentral::new(alloc, &central) {
+        Ok(locked) => Some(locked.size() == 0o41),
         Err(_) => None,
     }
 }
@@ -141,43 +134,13 @@ fn locked_size(heap: &Rationed<Global>, number: u64) -> Option<u32> {
 #[test]
 fn locked_central_refused(rt: HostRuntime) {
     let heap = Rationed::new(rt.alloc());
-    let last = heap.refuse_each(|number| Some(locked_size(&heap, number)? == 0o41));
+    let last = heap.refuse_each(|number| lock(&rt, &heap, &heap, number));
     assert!(rt; last > Some(32), "each bank grows");
 }
 
-/// Whether central memory behind locks has this size, keeps a word at its last address, and has
-/// none after it.
-fn keeps_last(rt: &impl Wait, locked: &LockedCentral<&Rationed<Global>>, size: u32) -> bool {
-    let (last, behind) = (
-        Word18::truncated(size.wrapping_sub(1)),
-        Word18::truncated(size),
-    );
-    let word = Word60::truncated(5);
-    locked.size() == size
-        && locked.write(rt, last, word)
-        && !locked.write(rt, behind, word)
-        && locked.read(rt, last) == Some(word)
-        && locked.read(rt, behind).is_none()
-}
-
-/// The same of a new one, from which on a request is refused.
-fn keeps_last_of_new(rt: &impl Wait, heap: &Rationed<Global>, size: u32) -> bool {
-    let Ok(central) = Central::new(heap, size) else {
-        return false;
-    };
-    let Ok(locked) = LockedCentral::new(heap, &central) else {
-        return false;
-    };
-    heap.refuse(1);
-    keeps_last(rt, &locked, size)
-}
-
-/// The calls between two threads' steps take no memory.
 #[test]
-fn locked_central_asks_for_nothing(rt: HostRuntime) {
-    let heap = Rationed::new(rt.alloc());
-    assert!(rt; keeps_last_of_new(&rt, &heap, 0o41));
-    let limits = Limits::new(5, 6).map(|limits| (limits.steps(), limits.patience()));
+fn limits(rt: HostRuntime) {
+    let limits = Limits::new(5, 6).expect(&rt, "limits");
     NoGate.pass(first(), 0);
-    assert!(rt; limits == Some((5, 6)) && heap.asked() == 0);
+    assert!(rt; limits.steps() == 5 && limits.patience() == 6);
 }

@@ -1,12 +1,11 @@
 //! Gates, which see each try of each worker: workers run at once, and give up as their limits say.
 
-use crate::threads::runs::{counting, has_block, limits, loaded, run};
+use crate::threads::runs::{LONG, counting, has_block, loaded, run};
 use pp_machine::{PROCESSORS, PpNo, Profile};
 use pp_runner::Gate;
 use std::sync::atomic::{AtomicU64, Ordering};
-use std::test::Fail;
 use std::{array, thread};
-use test_bench::{BLOCK, LONG_PATIENCE, channel};
+use test_bench::BLOCK;
 
 /// At turns 0 to 2 processors 0 and 1 each set a flag, and look for the other's.
 #[derive(Drop)]
@@ -45,17 +44,15 @@ impl Gate for Meeting {
 }
 
 #[test]
-fn gate_together(rt: HostRuntime) -> Result<(), Fail> {
-    let (five, limits) = (channel(5)?, limits(LONG_PATIENCE)?);
+fn gate_together(rt: HostRuntime) {
     for profile in [Profile::Ten, Profile::Twenty] {
         let gate = Meeting {
             flags: [zero(), zero(), zero(), zero(), zero(), zero()],
             met: zero(),
         };
-        let report = run(&rt, &gate, limits, loaded(rt.alloc(), profile, BLOCK)?)?;
-        assert!(rt; has_block(&report, five) && gate.met.load(Ordering::SeqCst) == 6);
+        let report = run(&rt, &gate, LONG, loaded(&rt, profile, BLOCK));
+        assert!(rt; has_block(&report) && gate.met.load(Ordering::SeqCst) == 6);
     }
-    Ok(())
 }
 
 /// At turn 0 each processor sets a flag, and waits until the flags of all processors of the profile
@@ -85,18 +82,16 @@ impl Gate for MeetingOfAll {
 /// Nobody gets past turn 0 before all ten or all twenty have come, each with the number of its own
 /// processor.
 #[test]
-fn all_together(rt: HostRuntime) -> Result<(), Fail> {
-    let limits = limits(1)?;
+fn all_together(rt: HostRuntime) {
     for (profile, met) in [(Profile::Ten, 10), (Profile::Twenty, 20)] {
         let gate = MeetingOfAll {
             profile,
             flags: array::from_fn(|_| zero()),
             met: zero(),
         };
-        let _report = run(&rt, &gate, limits, counting(rt.alloc(), profile)?)?;
+        run(&rt, &gate, (100, 1), counting(&rt, profile));
         assert!(rt; gate.met.load(Ordering::SeqCst) == met);
     }
-    Ok(())
 }
 
 /// Looks at a flag more often or less, by the processor and the turn.
@@ -115,14 +110,12 @@ impl Gate for Uneven {
 }
 
 #[test]
-fn uneven_gates(rt: HostRuntime) -> Result<(), Fail> {
-    let (five, limits) = (channel(5)?, limits(LONG_PATIENCE)?);
+fn uneven_gates(rt: HostRuntime) {
     let gate = Uneven { flag: zero() };
     for profile in [Profile::Ten, Profile::Twenty] {
         for _ in 0..200u32 {
-            let report = run(&rt, &gate, limits, loaded(rt.alloc(), profile, BLOCK)?)?;
-            assert!(rt; has_block(&report, five));
+            let report = run(&rt, &gate, LONG, loaded(&rt, profile, BLOCK));
+            assert!(rt; has_block(&report));
         }
     }
-    Ok(())
 }

@@ -1,25 +1,24 @@
 //! Central memory by calls, alone and behind its locks.
 
-use pp_machine::{Central, CentralFault};
+use pp_machine::Central;
 use pp_runner::LockedCentral;
 use pp_word::{Word18, Word60};
-use std::alloc::Global;
+use std::alloc::{Allocator, Global};
+use std::process::Abort;
 use std::sync::Wait;
-use std::test::Fail;
-
-#[test]
-fn central_sizes(rt: HostRuntime) {
-    for size in [0, 0o400_001] {
-        let fault = Central::new(rt.alloc(), size).err();
-        assert!(rt; fault == Some(CentralFault::BadSize));
-    }
-}
+use test_bench::Rationed;
 
 /// Whether central memory of 33 words, the last but one of them loaded, keeps it and a word after
-/// it, and none after its last.
-fn keeps_words(rt: &impl Wait, shared: &LockedCentral<Global>, loaded: Word60) -> bool {
+/// it, and none after its last, without a request.
+fn keeps_words<A: Allocator>(
+    rt: &impl Wait,
+    heap: &Rationed<Global>,
+    shared: &LockedCentral<A>,
+    loaded: Word60,
+) -> bool {
     let (last, behind) = (Word18::truncated(0o40), Word18::truncated(0o41));
     let written = Word60::truncated(0o4321);
+    heap.refuse(1);
     shared.size() == 33
         && shared.read(rt, Word18::truncated(0o37)) == Some(loaded)
         && shared.write(rt, last, written)
@@ -28,16 +27,22 @@ fn keeps_words(rt: &impl Wait, shared: &LockedCentral<Global>, loaded: Word60) -
         && shared.read(rt, behind).is_none()
         && shared.read(rt, last) == Some(written)
         && shared.read(rt, Word18::ZERO) == Some(Word60::ZERO)
+        && heap.asked() == 0
+}
+
+/// Central memory of 33 words behind locks, the last but one of them loaded.
+fn with_word<A: Allocator + Copy>(rt: &impl Abort, alloc: A, loaded: Word60) -> LockedCentral<A> {
+    let mut central = Central::new(alloc, 0o41).expect(rt, "words");
+    assert!(rt; central.write(Word18::truncated(0o37), loaded));
+    LockedCentral::new(alloc, &central).expect(rt, "words behind locks")
 }
 
 #[test]
-fn central_by_calls(rt: HostRuntime) -> Result<(), Fail> {
+fn central_by_calls(rt: HostRuntime) {
     let loaded = Word60::truncated(0o1234);
-    let mut central = Central::new(rt.alloc(), 0o41)?;
-    assert!(rt; central.write(Word18::truncated(0o37), loaded));
-    let shared = LockedCentral::new(rt.alloc(), &central)?;
-    assert!(rt; keeps_words(&rt, &shared, loaded));
-    Ok(())
+    let heap = Rationed::new(rt.alloc());
+    let shared = with_word(&rt, &heap, loaded);
+    assert!(rt; keeps_words(&rt, &heap, &shared, loaded));
 }
 
 /// Sizes of central memory: the least, 512 words, some more, and the greatest.
@@ -48,13 +53,13 @@ fn number(address: u32, round: u8) -> Word60 {
     Word60::truncated(u64::from(address) * 4 + u64::from(round))
 }
 
-/// Central memory of this size, each word the number of its address in round 1.
-fn central_of_numbers(alloc: Global, size: u32) -> Result<Central<Global>, CentralFault> {
-    let mut central = Central::new(alloc, size)?;
+/// Central memory of this size behind locks, each word the number of its address in round 1.
+fn numbered<R: AllocGlobal + Abort>(rt: &R, size: u32) -> LockedCentral<Global> {
+    let mut central = Central::new(rt.alloc(), size).expect(rt, "words");
     for address in 0..size {
         central.write(Word18::truncated(address), number(address, 1));
     }
-    Ok(central)
+    LockedCentral::new(rt.alloc(), &central).expect(rt, "words behind locks")
 }
 
 /// Whether each address below the size gives its number of this round, and no address from there on
@@ -92,11 +97,11 @@ fn keeps_all_words(rt: &impl Wait, shared: &LockedCentral<Global>, size: u32) ->
 }
 
 #[test]
-fn each_address_has_a_word_of_its_own(rt: HostRuntime) -> Result<(), Fail> {
+fn each_address_has_a_word_of_its_own(rt: HostRuntime) {
     for size in SIZES {
-        let central = central_of_numbers(rt.alloc(), size)?;
-        let shared = LockedCentral::new(rt.alloc(), &central)?;
-        assert!(rt; keeps_all_words(&rt, &shared, size), "{size} words");
+        assert!(rt;
+            keeps_all_words(&rt, &numbered(&rt, size), size),
+            "{size} words"
+        );
     }
-    Ok(())
 }

@@ -1,38 +1,26 @@
 //! A channel behind a lock.
 
-use pp_channel::{ChanOp, Channel, Event, Locked, Memory, Numbered, Reply};
+use crate::refusals::locked::answers;
+use pp_channel::{ChanOp, Channel, Event, Locked, Memory, Reply};
 use std::alloc::Global;
 use std::ops::Range;
 use std::sync::Wait;
-use std::test::Fail;
 use std::thread;
 use test_bench::{FULL, numbered, word};
 
 /// How many function codes each of two threads sends.
 const CODES: u16 = 1000;
 
-/// A channel with a function code, and a session in which a word waits.
-fn waiting(alloc: Global) -> Result<Channel<Global>, Memory> {
-    let mut channel = Channel::new(alloc);
-    channel.act(ChanOp::Function(word(0o12)))?;
-    channel.act(ChanOp::Activate)?;
-    channel.act(ChanOp::Put(word(5)))?;
-    Ok(channel)
-}
-
-/// Whether operations behind a lock have these answers.
-fn answers(rt: &impl Wait, locked: &Locked<Global>, calls: &[(ChanOp, Numbered)]) -> bool {
-    for (op, answer) in calls {
-        if locked.act(rt, *op) != Ok(*answer) {
-            return false;
-        }
-    }
-    true
+/// A function code, and a session in which a word waits.
+fn are_waiting(channel: &mut Channel<Global>) -> bool {
+    channel.act(ChanOp::Function(word(0o12))) == Ok(Reply::Done)
+        && channel.act(ChanOp::Activate) == Ok(Reply::Done)
+        && channel.act(ChanOp::Put(word(5))) == Ok(Reply::Done)
 }
 
 /// A copy goes on behind the lock; the channel stays.
 #[test]
-fn one_session_behind_a_lock(rt: HostRuntime) -> Result<(), Fail> {
+fn one_session_behind_a_lock(rt: HostRuntime) {
     let calls = [
         (ChanOp::Probe, numbered(Reply::Flags(FULL), 3)),
         (ChanOp::Put(word(6)), numbered(Reply::Held(FULL), 3)),
@@ -46,12 +34,13 @@ fn one_session_behind_a_lock(rt: HostRuntime) -> Result<(), Fail> {
         Event::Take(word(5)),
         Event::Disconnect,
     ];
-    let channel = waiting(rt.alloc())?;
-    let locked = Locked::new(channel.copy()?);
-    assert!(rt; answers(&rt, &locked, &calls));
-    assert!(rt; locked.into_inner().history() == events.as_slice());
+    let mut channel = Channel::new(rt.alloc());
+    let is_waiting = are_waiting(&mut channel);
+    let locked = Locked::new(channel.copy().expect(&rt, "a copy"));
+    let is_answered = answers(&rt, &locked, &calls);
+    let copy = locked.into_inner();
+    assert!(rt; is_waiting && is_answered && copy.history() == events.as_slice());
     assert!(rt; channel.history().len() == 3);
-    Ok(())
 }
 
 /// Sends function codes, and gives the number of each.
@@ -67,35 +56,30 @@ fn send_codes(
     Ok(numbers)
 }
 
-/// Whether each code stands in the history at its number, and nothing else does.
-fn has_codes(channel: &Channel<Global>, one: &[u64], other: &[u64]) -> bool {
-    for (code, number) in (0..2 * CODES).zip(one.iter().chain(other.iter())) {
-        let event = Event::Function(word(code));
-        if channel.history().get(*number as usize) != Some(&event) {
+/// Whether each of these codes stands in the history at its number.
+fn has_codes(history: &[Event], codes: Range<u16>, numbers: &[u64]) -> bool {
+    for (code, number) in codes.zip(numbers) {
+        if history.get(*number as usize) != Some(&Event::Function(word(code))) {
             return false;
         }
     }
-    let codes = usize::from(2 * CODES);
-    channel.history().len() == codes && one.len() + other.len() == codes
+    numbers.len() == usize::from(CODES)
 }
 
 #[test]
-fn two_threads_at_one_lock(rt: HostRuntime) -> Result<(), Fail> {
+fn two_threads_at_one_lock(rt: HostRuntime) {
     let locked = Locked::new(Channel::new(rt.alloc()));
     let (one, other) = thread::join(
         &rt,
         || send_codes(&rt, &locked, 0..CODES),
         || send_codes(&rt, &locked, CODES..2 * CODES),
     );
-    let (one, other) = (one?, other?);
-    assert!(rt; has_codes(&locked.into_inner(), &one, &other));
-    Ok(())
-}
-
-#[test]
-fn a_new_channel_behind_a_lock(rt: HostRuntime) -> Result<(), Fail> {
-    let locked = Locked::new(Channel::new(rt.alloc()));
+    let (one, other) = (one.expect(&rt, "numbers"), other.expect(&rt, "numbers"));
     let channel = locked.into_inner();
-    assert!(rt; channel.history().is_empty());
-    Ok(())
+    let history = channel.history();
+    assert!(rt;
+        has_codes(history, 0..CODES, &one)
+            && has_codes(history, CODES..2 * CODES, &other)
+            && history.len() == usize::from(2 * CODES)
+    );
 }

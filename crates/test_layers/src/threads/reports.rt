@@ -1,12 +1,10 @@
 //! What the reports of runs hold that their texts do not show.
 
-use crate::threads::runs::{history, limits, loaded, run};
-use pp_channel::{ChannelNo, Event};
+use crate::threads::runs::{LONG, is_taken, loaded, passed, run};
 use pp_machine::Profile;
 use pp_runner::{End, NoGate, Report};
 use std::alloc::Global;
-use std::test::Fail;
-use test_bench::{LONG_PATIENCE, channel, word};
+use test_bench::word;
 
 /// Processor 0 takes a block of words; processor 1 puts two, and disconnects the channel.
 const DISCONNECT_RACE: &str = "\
@@ -21,24 +19,16 @@ START 0200
 
 /// Whether both processors stopped, and A and the words in the block of processor 0 are those of a
 /// history in which the second word was taken, or lost.
-fn is_raced(report: &Report<Global>, five: ChannelNo) -> bool {
-    let begin = [
-        Event::Activate,
-        Event::Put(word(1)),
-        Event::Take(word(1)),
-        Event::Put(word(2)),
-    ];
-    let events = history(report, five);
-    let (a, second) = match events.get(4..) {
-        Some([Event::Disconnect]) => (0o77, 0),
-        Some([Event::Take(taken), Event::Disconnect]) if taken.get() == 2 => (0o76, 2),
-        _ => return false,
-    };
+fn is_raced(report: &Report<Global>) -> bool {
     let [zero, one, ..] = report.ends.as_slice() else {
         return false;
     };
-    events.get(..4) == Some(begin.as_slice())
-        && zero.pp.get(word(0o300)) == word(1)
+    let (a, second) = match is_taken(passed(report, 5, &[1]), 2) {
+        Some(true) => (0o76, 2),
+        Some(false) => (0o77, 0),
+        None => return false,
+    };
+    zero.pp.get(word(0o300)) == word(1)
         && zero.pp.get(word(0o301)) == word(second)
         && zero.pp.a().get() == a
         && zero.finish == End::Stopped
@@ -47,27 +37,26 @@ fn is_raced(report: &Report<Global>, five: ChannelNo) -> bool {
 
 /// The second word is in the memory of the processor that took it, or the zero that ends a block.
 #[test]
-fn a_block_against_a_disconnect(rt: HostRuntime) -> Result<(), Fail> {
-    let (five, limits) = (channel(5)?, limits(LONG_PATIENCE)?);
+fn a_block_against_a_disconnect(rt: HostRuntime) {
     for profile in [Profile::Ten, Profile::Twenty] {
-        let machine = loaded(rt.alloc(), profile, DISCONNECT_RACE)?;
-        let report = run(&rt, &NoGate, limits, machine)?;
-        assert!(rt; is_raced(&report, five));
+        let report = run(&rt, &NoGate, LONG, loaded(&rt, profile, DISCONNECT_RACE));
+        assert!(rt; is_raced(&report));
     }
-    Ok(())
 }
 
-/// A jump that is taken for ever: as many answers as steps are allowed.
-#[test]
-fn a_step_limit(rt: HostRuntime) -> Result<(), Fail> {
-    let limits = limits(LONG_PATIENCE)?;
-    for profile in [Profile::Ten, Profile::Twenty] {
-        let machine = loaded(rt.alloc(), profile, "PP 0\n0100 0400\nSTART 0100\n")?;
-        let report = run(&rt, &NoGate, limits, machine)?;
-        let zero = report.ends.first();
-        assert!(rt;
-            zero.is_some_and(|zero| zero.answers.len() == 100 && zero.finish == End::Steps)
-        );
+/// Whether processor 0 gave as many answers as steps are allowed.
+fn is_at_limit(report: &Report<Global>) -> bool {
+    match report.ends.first() {
+        Some(zero) => zero.answers.len() == 100 && zero.finish == End::Steps,
+        None => false,
     }
-    Ok(())
+}
+
+/// A jump that is taken for ever.
+#[test]
+fn a_step_limit(rt: HostRuntime) {
+    let jump = "PP 0\n0100 0400\nSTART 0100\n";
+    for profile in [Profile::Ten, Profile::Twenty] {
+        assert!(rt; is_at_limit(&run(&rt, &NoGate, LONG, loaded(&rt, profile, jump))));
+    }
 }

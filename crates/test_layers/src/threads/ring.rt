@@ -2,9 +2,8 @@
 
 use crate::threads::runs::{loaded, run};
 use pp_machine::Profile;
-use pp_runner::{End, Limits, NoGate, Report};
+use pp_runner::{End, NoGate, Report};
 use std::alloc::Global;
-use std::test::Fail;
 use test_bench::is_lawful;
 
 /// Each processor activates the channel of its own number. Then again and again it puts a word on
@@ -61,10 +60,7 @@ fn has_gone_round(report: &Report<Global>) -> bool {
 
 /// A processor whose neighbour has made all its steps waits in vain.
 #[test]
-fn ring_of_ten(rt: HostRuntime) -> Result<(), Fail> {
-    let limits = Limits::new(100_000, 1_000_000).ok_or("no limits")?;
-    let machine = loaded(rt.alloc(), Profile::Ten, RING)?;
-    let report = run(&rt, &NoGate, limits, machine)?;
-    assert!(rt; has_gone_round(&report));
-    Ok(())
+fn ring_of_ten(rt: HostRuntime) {
+    let machine = loaded(&rt, Profile::Ten, RING);
+    assert!(rt; has_gone_round(&run(&rt, &NoGate, (100_000, 1_000_000), machine)));
 }

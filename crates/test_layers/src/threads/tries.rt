@@ -1,15 +1,13 @@
 //! The tries of each worker, as a gate sees them.
 
 use crate::threads::gates::{wait_for, zero};
-use crate::threads::runs::{counting, history, limits, loaded, run};
-use pp_channel::{ChannelNo, Event};
+use crate::threads::runs::{counting, loaded, passed, run};
 use pp_machine::{PROCESSORS, PpNo, Profile};
-use pp_runner::{End, Gate, Limits, Report};
+use pp_runner::{End, Gate, Report};
 use std::alloc::Global;
 use std::array;
 use std::sync::atomic::{AtomicU64, Ordering};
-use std::test::Fail;
-use test_bench::{channel, first, word};
+use test_bench::first;
 
 /// Counts the tries of each processor, and those that came with another number than theirs.
 #[derive(Drop)]
@@ -65,15 +63,13 @@ fn have_tried(gate: &Tally, report: &Report<Global>) -> bool {
 /// Each processor passes the gate before each of its tries, with its own number. None is ever held,
 /// so a patience of 1 is enough.
 #[test]
-fn tries_of_all(rt: HostRuntime) -> Result<(), Fail> {
-    let limits = Limits::new(5000, 1).ok_or("no limits")?;
+fn tries_of_all(rt: HostRuntime) {
     for (profile, processors) in [(Profile::Ten, 10), (Profile::Twenty, 20)] {
         let gate = Tally::new();
-        let report = run(&rt, &gate, limits, counting(rt.alloc(), profile)?)?;
+        let report = run(&rt, &gate, (5000, 1), counting(&rt, profile));
         assert!(rt; report.ends.len() == processors && report.channels.len() == 24);
         assert!(rt; have_tried(&gate, &report));
     }
-    Ok(())
 }
 
 /// PP 0 activates channel 5 and is at fault; PP 1 waits in vain.
@@ -91,15 +87,17 @@ fn is_in_vain(gate: &Tally, report: &Report<Global>, patience: u32) -> bool {
 }
 
 #[test]
-fn patience(rt: HostRuntime) -> Result<(), Fail> {
+fn patience(rt: HostRuntime) {
     for patience in [1, 2, 50, 20_011, 1_000_001] {
-        let limits = Limits::new(100, patience).ok_or("no limits")?;
         let gate = Tally::new();
-        let machine = loaded(rt.alloc(), Profile::Ten, IN_VAIN)?;
-        let report = run(&rt, &gate, limits, machine)?;
+        let report = run(
+            &rt,
+            &gate,
+            (100, patience),
+            loaded(&rt, Profile::Ten, IN_VAIN),
+        );
         assert!(rt; is_in_vain(&gate, &report, patience), "patience {patience}");
     }
-    Ok(())
 }
 
 /// PP 0 puts three words on channel 5, at its turns 2, 4 and 6, and PP 1 takes them.
@@ -138,47 +136,31 @@ impl Gate for LastTry {
 }
 
 /// Whether all words were taken, and each of the two processors made its last try.
-fn is_taken(gate: &LastTry, report: &Report<Global>, five: ChannelNo, last_try: u64) -> bool {
-    let events = [
-        Event::Activate,
-        Event::Put(word(1)),
-        Event::Take(word(1)),
-        Event::Put(word(2)),
-        Event::Take(word(2)),
-        Event::Put(word(3)),
-        Event::Take(word(3)),
-    ];
+fn is_passed(gate: &LastTry, report: &Report<Global>, patience: u32) -> bool {
     let [_, one, ..] = report.ends.as_slice() else {
         return false;
     };
     one.finish == End::Stopped
-        && history(report, five) == events.as_slice()
+        && passed(report, 5, &[1, 2, 3]) == Some(&[])
         && gate.turns[0].load(Ordering::SeqCst) == 7
-        && gate.turns[1].load(Ordering::SeqCst) == last_try
+        && gate.turns[1].load(Ordering::SeqCst) == 3 * u64::from(patience)
 }
 
 /// Patience is counted anew at each step, and each try is made, also the last.
 #[test]
-fn each_last_try_is_made(rt: HostRuntime) -> Result<(), Fail> {
-    let five = channel(5)?;
+fn each_last_try_is_made(rt: HostRuntime) {
     for (patience, last_tries) in [
         (1, [0, 1, 2]),
         (2, [1, 3, 5]),
         (3, [2, 5, 8]),
         (50, [49, 99, 149]),
     ] {
-        let limits = limits(patience)?;
         let gate = LastTry {
             last_tries,
             turns: [zero(), zero()],
         };
-        let machine = loaded(rt.alloc(), Profile::Ten, THREE_WORDS)?;
-        let report = run(&rt, &gate, limits, machine)?;
-        let last_try = 3 * u64::from(patience);
-        assert!(rt;
-            is_taken(&gate, &report, five, last_try),
-            "patience {patience}"
-        );
+        let machine = loaded(&rt, Profile::Ten, THREE_WORDS);
+        let report = run(&rt, &gate, (100, patience), machine);
+        assert!(rt; is_passed(&gate, &report, patience), "patience {patience}");
     }
-    Ok(())
 }
