@@ -1,3 +1,6 @@
+//! Worked rows of words, channels, lines, processors and machines; decks as long as allowed; texts
+//! of faults; traces and drawings by the thousand.
+
 mod changed_traces;
 mod channel_numbers;
 mod channel_words;

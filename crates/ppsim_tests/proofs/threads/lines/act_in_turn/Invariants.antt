@@ -1,5 +1,5 @@
 use Rattle.std.proofs.Common.{◌≡◌}
-use Rattle.test_layers.proofs.threads.lines.act_in_turn.Given as goal
+use Rattle.ppsim_tests.proofs.threads.lines.act_in_turn.Given as goal
 
 abbrev pub invariant-loop-turn : goal.invariant-loop-turn
 invariant-loop-turn g l = record {

@@ -1,5 +1,5 @@
 use Rattle.std.proofs.Common.{◌≡◌}
-use Rattle.test_layers.proofs.refusals.lines.act.Given as goal
+use Rattle.ppsim_tests.proofs.refusals.lines.act.Given as goal
 
 abbrev pub invariant-loop-op : goal.invariant-loop-op
 invariant-loop-op g l = record {

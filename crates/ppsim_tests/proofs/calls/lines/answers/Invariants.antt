@@ -1,5 +1,5 @@
 use Rattle.std.proofs.Common.{◌≡◌}
-use Rattle.test_calls.proofs.tests.lines.answers.Given as goal
+use Rattle.ppsim_tests.proofs.calls.lines.answers.Given as goal
 
 abbrev pub invariant-loop-op : goal.invariant-loop-op
 invariant-loop-op l = record {

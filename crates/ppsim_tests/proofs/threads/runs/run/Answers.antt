@@ -1,4 +1,4 @@
-use Rattle.test_layers.proofs.threads.runs.run.Goals as goal
+use Rattle.ppsim_tests.proofs.threads.runs.run.Goals as goal
 
 pub run_threads-requires-sync-R : goal.run_threads-requires-sync-R
 run_threads-requires-sync-R g c κs within = c.type_bounds.sync-R
