@@ -171,25 +171,14 @@ fn findings_in_long_decks(rt: HostRuntime) {
     }
 }
 
-/// Decks that expect much, or one thing at length, and what is said of each.
-const EXPECTING: [(
-    &[u8],
-    &[u8],
-    &[u8],
-    usize,
-    Tested,
-    &[u8],
-    &[u8],
-    &[u8],
-    usize,
-); 5] = [
+/// Decks that expect much, or one thing at length: how each begins, what it then repeats, and its
+/// length. Then how what is said of it begins and ends, which may repeat the same, and its length.
+const EXPECTING: [(&[u8], &[u8], usize, Tested, &[u8], &[u8], usize); 5] = [
     (
         b"CENTRAL 10\n",
         b"*= AT REST\n",
-        b"",
         110_011,
         Tested::Run(0),
-        b"",
         b"",
         b"HELD 10000\n",
         11,
@@ -197,10 +186,8 @@ const EXPECTING: [(
     (
         b"CENTRAL 10\n",
         b"*= AT REST\n",
-        b"",
         110_011,
         Tested::EveryOrder(10),
-        b"",
         b"",
         b"HELD 10000 IN 1 ENDING\n",
         23,
@@ -208,10 +195,8 @@ const EXPECTING: [(
     (
         b"CENTRAL 10\n*! ",
         b"x",
-        b"",
         100_014,
         Tested::Run(0),
-        b"",
         b"",
         b"HELD 1\n",
         7,
@@ -219,22 +204,18 @@ const EXPECTING: [(
     (
         b"CENTRAL 10\n*= ",
         b"x",
-        b"",
         100_014,
         Tested::Run(0),
         b"2: *= ",
-        b"x",
         b"\n  nearest: CM 0 00000000000000000000\nFAILED 1 OF 1\n",
         100_058,
     ),
     (
         b"CENTRAL 10\n*= ",
         b"AT ",
-        b"",
         100_013,
         Tested::EveryOrder(10),
         b"ORDER\n2: *= ",
-        b"AT ",
         b"\n  nearest: AT REST\nFAILED 1 OF 1\n",
         100_045,
     ),
@@ -270,8 +251,11 @@ fn is_long_said(alloc: Global, deck: Long, tested: Tested, said: Long) -> bool {
 
 #[test]
 fn long_expectations(rt: HostRuntime) {
-    for &(front, piece, end, length, tested, before, part, after, size) in &EXPECTING {
-        let (deck, said) = ((front, piece, end, length), (before, part, after, size));
+    for &(front, piece, length, tested, before, after, size) in &EXPECTING {
+        let (deck, said) = (
+            (front, piece, b"".as_slice(), length),
+            (before, piece, after, size),
+        );
         assert!(rt; is_long_said(rt.alloc(), deck, tested, said));
     }
 }

@@ -54,7 +54,7 @@ fn takes_a_word(profile: Profile) -> bool {
         Answer::Channel(Reply::Done),
     ];
     let mut pp = started(profile, 0o0200, &[0o7005, 0o0300], 0);
-    let mut other = pp.copy();
+    let mut other = started(profile, 0o0200, &[0o7005, 0o0300], 0);
     pp.replay(&answers) == 2
         && shown(&pp) == (0o201, 3, PpState::Running)
         && other.replay(&[Answer::Local]) == 0

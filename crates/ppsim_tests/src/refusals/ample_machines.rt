@@ -53,7 +53,8 @@ fn sizes(rt: HostRuntime) {
         assert!(rt;
             is_made(&rt, &heap, &heap, size)
                 && size_of(&rt, &heap, Profile::Ten, size) == size
-                && size_of(&rt, &heap, Profile::Twenty, size) == size,
+                && size_of(&rt, &heap, Profile::Twenty, size) == size
+                && heap.asked() > 0,
             "{size}"
         );
     }

@@ -22,6 +22,15 @@ pub(crate) type RationedMachine<'a> = Machine<&'a Rationed<Global>>;
 /// Such a machine, and its twin in ample memory.
 pub(crate) type Twins<'a> = (RationedMachine<'a>, Machine<Global>);
 
+/// Puts a program into a processor's memory and starts it there.
+fn put<A: Allocator>(machine: &mut Machine<A>, n: PpNo, place: u16, words: &[u16])
+    requires { IsBeforeFirstTurn machine.old }
+    ensures fresh { IsBeforeFirstTurn machine.new }
+    ensures profile { machine.new.profile ≡ machine.old.profile }
+{
+    put_program(machine.pp_mut(n), place, words);
+}
+
 /// A machine with two programs started, on which no turn was taken.
 fn before_first_turn<A: Allocator + Copy>(
     programs: Pair,
@@ -32,8 +41,8 @@ fn before_first_turn<A: Allocator + Copy>(
     ensures profile { IfOk result (λ machine. machine.profile ≡ profile) }
 {
     let mut machine = Machine::new(alloc, profile, 0o10000)?;
-    put_program(machine.pp_mut(first()), 0o100, programs.zero);
-    put_program(machine.pp_mut(first().next()), 0o200, programs.one);
+    put(&mut machine, first(), 0o100, programs.zero);
+    put(&mut machine, first().next(), 0o200, programs.one);
     Ok(machine)
 }
 
@@ -108,10 +117,7 @@ fn making_refused(rt: HostRuntime) {
         for number in 1..10u64 {
             let central = if number == 1 { refused } else { made };
             let machine = if number <= 3 { refused } else { made };
-            assert!(rt;
-                making(&heap, profile, number) == [central, machine],
-                "{number}"
-            );
+            assert!(rt; making(&heap, profile, number) == [central, machine]);
         }
     }
 }
