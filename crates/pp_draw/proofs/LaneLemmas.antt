@@ -39,19 +39,7 @@ pub record LeadsTo {W : Type 0} (contents : W → Option (List ℕ)) (start now 
   pub prints : Prints contents start now printed
   pub rest : printed ++ still_drawn lane phases ≡ whole
 
--- the first of them comes
-pub takes : {W : Type 0} (contents : W → Option (List ℕ)) (start old new : TextWriter W) (whole : List ℕ) (lane after : Lane) (next : Phase) (rest : List Phase)
-    → ((printed : List ℕ) × Prints contents old new printed × ((others : List Phase) → still_drawn lane (next ∷ others) ≡ printed ++ still_drawn after others))
-    → LeadsTo contents start old whole lane (next ∷ rest) → LeadsTo contents start new whole after rest
-takes contents start old new whole lane after next rest h so_far =
-    let (more, prints, same) = h in
-    record {
-      printed = so_far.printed ++ more;
-      prints = prints_then contents start old new so_far.printed more so_far.prints prints;
-      rest = append_assoc so_far.printed more (still_drawn after rest) ∙ ap (λ (t : List ℕ). so_far.printed ++ t) (sym (same rest)) ∙ so_far.rest;
-    }
-
--- or none does
+-- the first of them comes, or none does
 pub takes_if : {W : Type 0} (contents : W → Option (List ℕ)) (start old new : TextWriter W) (whole : List ℕ) (lane after : Lane) (next : Option Phase) (rest : List Phase)
     → ((printed : List ℕ) × Prints contents old new printed × ((others : List Phase) → still_drawn lane (cons_option next others) ≡ printed ++ still_drawn after others))
     → LeadsTo contents start old whole lane (cons_option next rest) → LeadsTo contents start new whole after rest

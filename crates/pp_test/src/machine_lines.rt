@@ -166,7 +166,6 @@ fn print_deeds<W: Write>(text: &mut TextWriter<W>, events: &[Trace])
 }
 
 /// Prints `PP00 CH05 PUT 0007` and a line feed.
-#[tactic(auto, unfolding(crate::specs::RunLines::deed_line))]
 fn print_deed<W: Write>(text: &mut TextWriter<W>, entry: &Trace)
     ensures { Prints W.contents text.old text.new (deed_line entry.now) }
 {

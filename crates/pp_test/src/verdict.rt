@@ -56,7 +56,7 @@ pub(crate) fn print_verdict<W: Write>(text: &mut TextWriter<W>, deck: &[u8], lin
     let tally = print_failures(text, deck, lines);
     print_last_words(text, tally.all, tally.failed);
     text.print(b"\n");
-    tally.all != 0 && tally.failed == 0
+    (tally.all != 0) & (tally.failed == 0)
 }
 
 /// Prints `HELD 5`, `FAILED 2 OF 5` or `no expectations`.

@@ -1,8 +1,8 @@
 -- Texts that are printed one after another.
-use Rattle.std.proofs.Common.{◌≡◌, ℕ, zero, suc, ◌+◌, List, [], ◌∷◌, ◌++◌, Option, refl, sym, ap, ◌∙◌, add-one, append_assoc, arith, subst}
+use Rattle.std.proofs.Common.{◌≡◌, ℕ, zero, suc, ◌+◌, ◌<◌, List, [], ◌∷◌, ◌++◌, Option, get_or, length, take, refl, sym, ap, ◌∙◌, add-one, append_assoc, arith, subst}
 use Rattle.std.specs.Prelude.{if◌then◌else◌}
 use Rattle.std.specs.List.{flat_map, range_with_len}
-use Rattle.std.proofs.lemmas.List.{append-nil}
+use Rattle.std.proofs.lemmas.List.{append-nil, take_more}
 use Rattle.std.proofs.lemmas.List.Concat.{flat_map-append}
 use Rattle.pp_numbers.proofs.GrowingLists.{range_more, tabulate_more}
 use Rattle.pp_numbers.specs.Tables.{tabulate}
@@ -53,6 +53,11 @@ each_below_suc k said = rw (add-one) refl
 pub range_flat : {X : Type 0} (f : ℕ → List X) (a k next : ℕ) → next ≡ a + k
     → flat_map f (range_with_len a k) ++ f next ≡ flat_map f (range_with_len a (k + 1))
 range_flat {X} f a k next is = grind (arith, append-nil, flat_map-append, range_more)
+
+-- what comes of the first things of a list, and of the next
+pub flat_taken : {X : Type 0} (f : X → List ℕ) (xs : List X) (k : ℕ) (d x : X) → k < length xs
+    → x ≡ get_or xs k d → flat_map f (take k xs) ++ f x ≡ flat_map f (take (k + 1) xs)
+flat_taken f xs k d x within is = rw (is, take_more xs k d within, flat_map-append, append-nil) refl
 
 -- the lines of 0, of 1, .. and those of one more number
 pub prints_more : {W X : Type 0} (contents : W → Option (List ℕ)) (a b c : TextWriter W)

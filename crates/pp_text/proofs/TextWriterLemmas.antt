@@ -1,5 +1,6 @@
 -- What a text writer has printed.
-use Rattle.std.proofs.Common.{◌≡◌, ℕ, true, false, List, [], ◌++◌, Option, Result, Ok, Err, arith}
+use Rattle.std.proofs.Common.{◌≡◌, ℕ, true, false, List, [], ◌++◌, Option, Result, Ok, Err, sym, ap, ◌∙◌, append_assoc, arith, length-append}
+use Rattle.std.proofs.Math.Seq.{take-append-le}
 use Rattle.std.proofs.lemmas.List.{append-nil}
 use Rattle.std.proofs.KnownBytes.{Appends-trans}
 use Rattle.std.specs.Result.{is_err}
@@ -32,4 +33,15 @@ prints_sent contents a b (Err fault) going same fails empty out = record {
         let (written, all, had) = so_far.whole going in
         rw (append-nil before, all) (front_then start (contents a.writer.now) (contents b.writer.now) written a.piece had out);
   };
+}
+
+-- what is held back grows, where nothing was printed before
+pub prints_held : {W : Type 0} {contents : W → Option (List ℕ)} {a b : TextWriter W} (piece more : List ℕ) → Prints contents a b [] → piece ≡ b.piece ++ more → Prints contents a (record { writer = b.writer; piece = piece; failed = b.failed }) more
+prints_held {b = b} piece more nothing is = record {
+  same_writer = nothing.same_writer;
+  goes_on = λ start before so_far.
+      let now = rw append-nil at (nothing.goes_on start before so_far) in record {
+        whole = λ going. let (written, all, had) = now.whole going in (written, ap (λ xs. xs ++ more) all ∙ append_assoc written b.piece more ∙ ap (λ xs. written ++ xs) (sym is), had);
+        front = λ failed. let (count, within, had) = now.front failed in (count, omega (arith, within, length-append before more), rw (take-append-le count before more within) had);
+      };
 }

@@ -76,3 +76,12 @@ returns-in_default-step-clause-of_steps g c = λ is. never_so_far (take c.loop-n
 
 pub returns-in_default-find_unsettled-clause-of_steps : goal.returns-in_default-find_unsettled-clause-of_steps
 returns-in_default-find_unsettled-clause-of_steps g c = λ is. never_so_far (take c.loop-n.n-index c.args.order.now) c.args.machine.now (sym (c.loop-n.invariant.printed.verdict [] refl) ∙ is)
+
+pub returns-in_default-clause-cut : goal.returns-in_default-clause-cut
+returns-in_default-clause-cut g c = (c.loop-n.n-index, omega (arith, c.loop-n-test.true, ap length c.processors-n-items.ensures.are), c.loop-n.invariant.run.ran)
+
+pub returns-in_default-step-clause-cut : goal.returns-in_default-step-clause-cut
+returns-in_default-step-clause-cut g c = (c.loop-n.n-index, omega (arith, c.loop-n-test.true, ap length c.processors-n-items.ensures.are), c.in_default-step.ensures.step.unchanged_after_memory ∙ c.loop-n.invariant.run.ran)
+
+pub returns-in_default-find_unsettled-clause-cut : goal.returns-in_default-find_unsettled-clause-cut
+returns-in_default-find_unsettled-clause-cut g c = (c.loop-n.n-index, omega (arith, c.loop-n.auto.n-index-end, ap length c.processors-n-items.ensures.are), c.loop-n.invariant.run.ran)

@@ -80,7 +80,7 @@ loop-n-preserved g c =
     ap (λ (x : Bool). cond x (past ++ step ∷ []) past) chosen ∙ chosen_more choice order t m n low is in
     let parts : past ++ cond b (step ∷ future) future ≡ all = ap (λ (steps : List RunStep). past ++ steps) (sym come) ∙ chosen_parts choice order t m in
     let kind = c.if-is_chosen.kind in
-    let counted : c.in_ok-spells.spells.items ≡ each_spells all = search rules in
+    let counted : c.in_ok-spells.spells.items ≡ each_spells all = c.in_ok-spells.ensures in
     let cursors : c.if-is_chosen.cursors ≡ cond b (slice_set c.loop-n.cursors (processor_index n) (past_step (get_or c.loop-n.cursors (processor_index n) no_cursor) c.step-step.result)) c.loop-n.cursors = elim c.if-is_chosen.branch [
       | then-is_chosen w ↦ rw (w.cursors-is, w.if-is_chosen.true) (search rules)
       | else-is_chosen w ↦ rw (w.cursors-is, w.if-is_chosen.false)

@@ -1,6 +1,7 @@
-use Rattle.std.proofs.Common.{◌≡◌, ◌<◌, ◌+◌, ◌++◌, ℕ, [], ◌∷◌, List, cond, length, sym, subst, ap, ◌∙◌, get_or, take, arith}
+use Rattle.std.proofs.Common.{◌≡◌, ◌<◌, ◌+◌, ◌++◌, ℕ, [], ◌∷◌, List, cond, length, sym, subst, ap, ◌∙◌, ◌≤◌, get_or, take, arith, rules}
 use Rattle.std.specs.Prelude.{Bool}
 use Rattle.std.proofs.lemmas.List.{get_or_read, take_all}
+use Rattle.std.proofs.lemmas.Result.{err_from_is_err_and}
 use Rattle.pp_machine.specs.MachineState.{MachineState}
 use Rattle.pp_machine.specs.MachineStep.{stepped}
 use Rattle.pp_machine.specs.Run.{run}
@@ -66,3 +67,11 @@ loop-n-preserved g c =
 
 pub returns : goal.returns
 returns g c = grind (arith, take_all)
+
+pub returns-in_err-finish : goal.returns-in_err-finish
+returns-in_err-finish g c =
+    let p = err_from_is_err_and c.from_residual-in_err-finish.result c.from_residual-in_err-finish.ensures.1 in
+    let last : length c.args.order.now ≤ c.loop-n.n-index = omega (arith, c.loop-n-test.false, ap length c.processors-n-items.ensures.are) in
+    let (text, prints, lines) = c.loop-n.invariant.printed in
+    let written = c.finish.ensures.written _ _ (prints.goes_on _ [] c.new-text.ensures.nothing) in
+    rw (p.1, p.2) (text, rw (take_all c.loop-n.n-index c.args.order.now last) at lines, search (rules, written))
