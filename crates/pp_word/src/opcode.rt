@@ -93,7 +93,7 @@ pub fn decode(word: Word12) -> (Opcode, Word6)
 /// The operation of a code.
 fn opcode_at(code: u8) -> Opcode
     requires { code < 2 ^ 6 }
-    ensures { result ≡ opcode_at code }
+    ensures { code_of result ≡ code }
 {
     operation!(code:
         0o00 PSN 0o01 LJM 0o02 RJM 0o03 UJN 0o04 ZJN 0o05 NJN 0o06 PJN 0o07 MJN
