@@ -97,9 +97,8 @@ impl<A: Allocator> Central<A> {
             return Some(Word18::ZERO);
         }
         for number in 0..size {
-            let address = Word18::truncated(number);
-            if self.read(address) != other.read(address) {
-                return Some(address);
+            if self.words[number as usize] != other.words[number as usize] {
+                return Some(Word18::truncated(number));
             }
         }
         None
