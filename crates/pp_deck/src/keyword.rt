@@ -26,14 +26,20 @@ impl Keyword {
     pub(crate) fn of(field: &[u8]) -> Keyword
         ensures { result ≡ keyword_of field.now }
     {
-        match field {
-            _ if field == b"CENTRAL".as_slice() => Keyword::Central,
-            b"CM" => Keyword::CentralWords,
-            b"PP" => Keyword::Processor,
-            b"START" => Keyword::Start,
-            b"DEAD" => Keyword::DeadStart,
-            [b'0'..=b'9', ..] => Keyword::Words,
-            _ => Keyword::Unknown,
+        if field == b"CENTRAL".as_slice() {
+            Keyword::Central
+        } else if field == b"CM".as_slice() {
+            Keyword::CentralWords
+        } else if field == b"PP".as_slice() {
+            Keyword::Processor
+        } else if field == b"START".as_slice() {
+            Keyword::Start
+        } else if field == b"DEAD".as_slice() {
+            Keyword::DeadStart
+        } else if matches!(field, [b'0'..=b'9', ..]) {
+            Keyword::Words
+        } else {
+            Keyword::Unknown
         }
     }
 }
