@@ -1,15 +1,17 @@
-use Rattle.std.proofs.Common.{◌≡◌, take, ◌<◌, ℕ, ◌+◌, List, length, refl, ap, ◌∙◌, arith}
+use Rattle.std.proofs.Common.{◌≡◌, take, ◌<◌, ℕ, ◌+◌, List, length, refl, sym, ap, ◌∙◌, subst, arith}
 use Rattle.std.specs.Prelude.{IsTrue, None, Option, replicate}
 use Rattle.std.proofs.lemmas.List.{get_or-replicate, length-take}
 use Rattle.pp_processor.specs.Processor.{Processor}
 use Rattle.pp_numbers.specs.PpNo.{names_processor, processor_count, processor_index, processor_places}
 use Rattle.pp_numbers.specs.Profile.{processor_in_turn}
 use Rattle.pp_machine.specs.MachineState.{MachineState}
+use Rattle.pp_machine.specs.MachineStep.{stepped}
 use Rattle.pp_machine.specs.Run.{barrel}
+use Rattle.pp_run.specs.BareMachine.{StandsFor}
 use Rattle.pp_machine.proofs.RunLemmas.{barrel_more, length-barrel}
 use Rattle.pp_numbers.specs.declared.profile.Profile.{Profile}
 use Rattle.pp_ends.specs.Endings.{after_turns}
-use Rattle.pp_ends.specs.Loops.{AreLoops, loop_of}
+use Rattle.pp_ends.specs.Loops.{AreLoops, TellLoops, loop_of}
 use Rattle.pp_ends.specs.declared.{ending.Ending.Ending, loops.Loop.Loop}
 use Rattle.pp_ends.specs.declared.ending.Ending.TheVariants.{Repeats}
 use Rattle.pp_ends.proofs.LoopLemmas.{loops_more, noted_places}
@@ -55,10 +57,13 @@ loop-turn-preserved g c =
     let names : IsTrue (names_processor n) = processor_places.named_below n c.pp.ensures.within in
     let on = c.loop-turn.invariant.on in
     record {
-      ran = grind (arith, barrel_more);
+      ran = subst (λ (k : MachineState). StandsFor c.step_moves-moved.new.bare k) (ap (λ (q : ℕ). stepped q (after_turns turn m)) is ∙ sym (barrel_more m.profile turn m))
+          (c.step_moves-moved.ensures.stepped (after_turns turn m) c.loop-turn.invariant.ran);
       on = omega (arith, on);
       places = ap length c.note.ensures ∙ noted_places c.loop-turn.loops n c.p-p.result c.step_moves-moved.result ∙ c.loop-turn.invariant.places;
-      loops = grind (arith, loops_more);
+      loops = subst (λ (loops : List (Option Loop)). TellLoops loops c.in-Repeats.from (turn + 1) m) (sym c.note.ensures)
+          (loops_more c.loop-turn.loops c.in-Repeats.from turn n c.p-p.result m c.step_moves-moved.result c.loop-turn.invariant.places on is names p
+          (c.step_moves-moved.ensures.moved (after_turns turn m) c.loop-turn.invariant.ran) c.loop-turn.invariant.loops);
     }
 
 pub returns : goal.returns
