@@ -1,5 +1,5 @@
 -- From what was read, and the answer to it, to what a call promises of every reader.
-use Rattle.std.proofs.Common.{◌≡◌, ◌≢◌, refl, ℕ, ◌≤◌, ◌<◌, Bool, true, false, cond, List, length, take, inl, inr, Option, Some, None, Result, Ok, Err, arith}
+use Rattle.std.proofs.Common.{◌≡◌, ◌≢◌, refl, ℕ, ◌≤◌, ◌<◌, Bool, true, false, cond, List, length, take, inl, inr, Option, Some, None, Result, Ok, Err, subst, arith}
 use Rattle.std.specs.Prelude.{◌⊎◌, IfErr, IfSome, OnOk}
 use Rattle.std.specs.Io.KnownBytes.{Consumes, IsAtEnd, Keeps}
 use Rattle.std.proofs.KnownBytes.{Keeps-refl}
@@ -47,7 +47,9 @@ answers_report profile IsDeckText bytes text written answer old new e is made = 
 pub answers_after : (profile : Profile) (first : List ℕ) (turns : ℕ) (text_after : List ℕ → LoadedDeck → List ℕ) (bytes text : List ℕ) (deck : LoadedDeck) (after : MachineState) (written : Result (Unit {0}) WriteFault) (old new : Option (List ℕ))
     → deck_meaning profile bytes ≡ Ok deck → after ≡ run (run_of first turns deck) deck.machine → HoldsOnEachChannel after → text ≡ text_after (run_of first turns deck) deck
     → IsWritten text written old new → IsAnswerUnless profile NothingPrevents (IsTextAfter first turns text_after) (answer_to written) bytes old new
-answers_after profile first turns text_after bytes text deck after written old new meant ran holds is whole = grind (arith, answers_written)
+answers_after profile first turns text_after bytes text deck after written old new meant ran holds is whole =
+    answers_written profile NothingPrevents (IsTextAfter first turns text_after) bytes text written old new
+    (record { deck = deck; meant = meant; is = record { text_is = is; headline = subst HoldsOnEachChannel ran holds } }) whole
 
 -- what holds of the bytes that were read holds of the first bytes that the reader had
 pub told : (Holds : List ℕ → Type 0) (before after : Option (List ℕ)) (front : List ℕ) (most : ℕ)
