@@ -1,11 +1,9 @@
 -- The options of a command, and the values given to them.
-use Rattle.std.proofs.Common.{◌≡◌, ◌∙◌, inl, inr, subst, ℕ, ◌+◌, ◌<◌, List, [], ◌∷◌, Option, Some, None, add-one, ap, drop, drop-cons, length, map, option_map, refl, slice_index_or, sym, take}
-use Rattle.std.specs.Prelude.{◌-◌, ◌&&◌, ◌||◌, Bool, false, is_some, not, slice_get}
+use Rattle.std.proofs.Common.{◌≡◌, ◌∙◌, inl, inr, subst, ℕ, ◌+◌, ◌<◌, List, [], ◌∷◌, Option, Some, None, add-one, ap, drop, drop-cons, length, map, option_map, refl, slice_index_or, sym}
+use Rattle.std.specs.Prelude.{◌&&◌, ◌||◌, Bool, false, is_some, not}
 use Rattle.std.specs.List.{list_all}
-use Rattle.std.proofs.lemmas.List.{take_rest}
-use Rattle.std.specs.Option.{option_map_or}
 use Rattle.clap.specs.Words.{Rule, Text}
-use Rattle.pp_call.specs.CallWords.{Given, IsRefusal, IsReportedAs, Reading, given_by, given_from, has_required, reading_of_call, reading_of_words, reading_without_command, value_among, whole, with_given, with_word}
+use Rattle.pp_call.specs.CallWords.{Given, IsRefusal, IsReportedAs, Reading, given_from, has_required, reading_of_call, reading_of_words, reading_without_command, value_among, whole, with_given, with_word}
 use Rattle.pp_call.specs.CallWords.Reading.{given, help, refused}
 use Rattle.std.specs.Borrow.{Bor}
 use Rattle.pp_command.specs.CommandLine.{command_named, command_of_form, rule_of_form}
@@ -57,46 +55,41 @@ nothing_from options [] = refl
 nothing_from options (word ∷ words) = nothing_from options words
 
 -- what words come to of which one comes to a request or to nothing
-ended_by : (options : List Rule) (words : List (Bor Text)) (i : ℕ) (d : Bor Text) (so_far : Given) (end : Reading Given) → i < length words → with_word options (slice_index_or words i d).now so_far ≡ end
+ended_by : (options : List Rule) (words : List (Bor Text)) (i : ℕ) (d : Bor Text) (start so_far : Given) (end : Reading Given) → i < length words → with_word options (slice_index_or words i d).now so_far ≡ end
     → given_from options end (map (λ word. word.now) (drop (i + 1) words)) ≡ end
-    → given_from options (given so_far) (map (λ word. word.now) (drop i words)) ≡ given_by options (map (λ word. word.now) words)
-    → reading_of_words options (map (λ word. word.now) words) ≡ with_given (whole options) end
-unfolding reading_of_words
-ended_by options words i d so_far end lt comes stays so =
+    → given_from options (given so_far) (map (λ word. word.now) (drop i words)) ≡ given_from options (given start) (map (λ word. word.now) words)
+    → with_given (whole options) (given_from options (given start) (map (λ word. word.now) words)) ≡ with_given (whole options) end
+ended_by options words i d start so_far end lt comes stays so =
     let here : map (λ word. word.now) (drop i words) ≡ (slice_index_or words i d).now ∷ map (λ word. word.now) (drop (i + 1) words) = rw (drop-cons words i d lt, add-one i) refl in
     let gone : given_from options (given so_far) (map (λ word. word.now) (drop i words)) ≡ end =
     ap (given_from options (given so_far)) here ∙ ap (λ next. given_from options next (map (λ word. word.now) (drop (i + 1) words))) comes ∙ stays in
     ap (with_given (whole options)) (sym so ∙ gone)
 
-pub asking_word : (options : List Rule) (words : List (Bor Text)) (i : ℕ) (d : Bor Text) (so_far : Given) → i < length words → with_word options (slice_index_or words i d).now so_far ≡ help
-    → given_from options (given so_far) (map (λ word. word.now) (drop i words)) ≡ given_by options (map (λ word. word.now) words)
-    → reading_of_words options (map (λ word. word.now) words) ≡ help
-asking_word options words i d so_far lt comes so = ended_by options words i d so_far help lt comes (asked_from options (map (λ word. word.now) (drop (i + 1) words))) so
+pub asking_word : (options : List Rule) (words : List (Bor Text)) (i : ℕ) (d : Bor Text) (start so_far : Given) → i < length words → with_word options (slice_index_or words i d).now so_far ≡ help
+    → given_from options (given so_far) (map (λ word. word.now) (drop i words)) ≡ given_from options (given start) (map (λ word. word.now) words)
+    → with_given (whole options) (given_from options (given start) (map (λ word. word.now) words)) ≡ help
+asking_word options words i d start so_far lt comes so = ended_by options words i d start so_far help lt comes (asked_from options (map (λ word. word.now) (drop (i + 1) words))) so
 
-pub refused_word : (options : List Rule) (words : List (Bor Text)) (i : ℕ) (d : Bor Text) (so_far : Given) → i < length words → with_word options (slice_index_or words i d).now so_far ≡ refused
-    → given_from options (given so_far) (map (λ word. word.now) (drop i words)) ≡ given_by options (map (λ word. word.now) words)
-    → reading_of_words options (map (λ word. word.now) words) ≡ refused
-refused_word options words i d so_far lt comes so = ended_by options words i d so_far refused lt comes (nothing_from options (map (λ word. word.now) (drop (i + 1) words))) so
+pub refused_word : (options : List Rule) (words : List (Bor Text)) (i : ℕ) (d : Bor Text) (start so_far : Given) → i < length words → with_word options (slice_index_or words i d).now so_far ≡ refused
+    → given_from options (given so_far) (map (λ word. word.now) (drop i words)) ≡ given_from options (given start) (map (λ word. word.now) words)
+    → with_given (whole options) (given_from options (given start) (map (λ word. word.now) words)) ≡ refused
+refused_word options words i d start so_far lt comes so = ended_by options words i d start so_far refused lt comes (nothing_from options (map (λ word. word.now) (drop (i + 1) words))) so
 
 -- what the words of a call come to, by what its parts do
-pub called : (words : List (Bor Text)) (name : Bor Text) (got : Option CommandHelp) (found : CommandHelp) (reading : Reading (List (Text × Text))) → slice_get words 0 ≡ Some name
+pub called : (words : List (Bor Text)) (name : Bor Text) (more : List (Bor Text)) (got : Option CommandHelp) (found : CommandHelp) (reading : Reading (List (Text × Text))) → words ≡ name ∷ more
     → option_map (λ found. command_of_form found.form.now) got ≡ command_named name.now → got ≡ Some found
-    → reading_of_words (map rule_of_form found.form.now.options.now) (map (λ word. word.now) (take (length words - 1) (drop 1 words))) ≡ reading
+    → reading_of_words (map rule_of_form found.form.now.options.now) (map (λ word. word.now) more) ≡ reading
     → reading_of_call (map (λ word. word.now) words) ≡ with_given (λ values. given (found.form.now.kind, values)) reading
-called [] name got found reading at by is read = absurd cc
-called (word ∷ words) name got found reading at by is read =
+called words name more got found reading at by is read =
     let named : command_named name.now ≡ Some (command_of_form found.form.now) = sym by ∙ ap (option_map (λ found. command_of_form found.form.now)) is in
-    ap (λ (o : Option (Bor Text)). option_map_or (λ x. reading_of_call (x.now ∷ map (λ word. word.now) words)) o refused) at
-    ∙ rw (named, rw (take_rest (word ∷ words) 1) at read) refl
+    rw (at, named, read) refl
 
-pub uncalled : (words : List (Bor Text)) (name : Bor Text) (got : Option CommandHelp) → slice_get words 0 ≡ Some name
-    → option_map (λ found. command_of_form found.form.now) got ≡ command_named name.now → got ≡ None → reading_of_call (map (λ word. word.now) words) ≡ reading_without_command name.now (map (λ word. word.now) (drop 1 words))
-uncalled [] name got at by is = absurd cc
-uncalled (word ∷ words) name got at by is =
+pub uncalled : (words : List (Bor Text)) (name : Bor Text) (more : List (Bor Text)) (got : Option CommandHelp) → words ≡ name ∷ more
+    → option_map (λ found. command_of_form found.form.now) got ≡ command_named name.now → got ≡ None → reading_of_call (map (λ word. word.now) words) ≡ reading_without_command name.now (map (λ word. word.now) more)
+uncalled words name more got at by is =
     let named : command_named name.now ≡ None = sym by ∙ ap (option_map (λ found. command_of_form found.form.now)) is in
-    ap (λ (o : Option (Bor Text)). option_map_or (λ x. reading_of_call (x.now ∷ map (λ word. word.now) words)) o refused) at
-    ∙ rw named refl
+    rw (at, named) refl
 
-pub no_words : (words : List (Bor Text)) → slice_get words 0 ≡ None → reading_of_call (map (λ word. word.now) words) ≡ refused
-no_words [] at = refl
-no_words (word ∷ words) at = absurd cc
+pub no_words : (words : List (Bor Text)) → length words ≡ 0 → reading_of_call (map (λ word. word.now) words) ≡ refused
+no_words [] none = refl
+no_words (word ∷ words) none = absurd cc

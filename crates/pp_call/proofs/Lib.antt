@@ -1,2 +1,1 @@
 mod CallLemmas
-mod FindLemmas

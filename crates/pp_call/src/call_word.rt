@@ -35,8 +35,10 @@ pub(crate) fn letter_of(word: &str) -> Option<&str> {
 pub(crate) fn is_option(word: &str) -> bool
     ensures { result ≡ is_option word.now }
 {
-    long_of(word).is_some()
-        || after_hyphen(word).is_some_and(|rest| !rest.is_empty() && after_hyphen(rest).is_none())
+    match after_hyphen(word) {
+        Some(rest) => !rest.is_empty() && rest != "-",
+        None => false,
+    }
 }
 
 pub(crate) fn asks_for_help(word: &str) -> bool

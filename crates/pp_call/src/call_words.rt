@@ -1,5 +1,5 @@
-ghost use Rattle.std.specs.Prelude.{◌≡◌, Some, drop, map, slice_get, option_map, IfErr, IfOk, OnOk};
-ghost use Rattle.pp_call.specs.CallWords.{AsksForNone, CallFor, IsAskRefused, IsCallRefused, IsRefusal, IsReportedAs, is_flag, is_topic, is_whole, option_named, reading_of_topics, reading_of_words, reading_without_command, value_among, with_option, with_plain_word, with_value, with_word};
+ghost use Rattle.std.specs.Prelude.{◌≡◌, map, option_map, IfErr, IfOk, OnOk};
+ghost use Rattle.pp_call.specs.CallWords.{AsksForNone, CallFor, IsAskRefused, IsCallRefused, IsRefusal, IsReportedAs, given_from, is_flag, is_topic, is_whole, option_named, reading_of_topics, reading_without_command, value_among, whole, with_given, with_option, with_plain_word, with_value, with_word};
 ghost use Rattle.pp_call.specs.CallWords.Reading.{given};
 ghost use Rattle.pp_command.specs.CommandLine.{rule_of_form};
 
@@ -45,8 +45,12 @@ impl<'a, A: Allocator> CallWords<'a, A> {
     pub(crate) fn given(&self, id: &str) -> Option<&'a str>
         ensures { option_map (λ value. value.now) result ≡ value_among self.now.values id.now }
     {
-        let pair = self.values.iter().find(|pair| pair.0 == id)?;
-        Some(pair.1)
+        for &(name, value) in &self.values {
+            if name == id {
+                return Some(value);
+            }
+        }
+        None
     }
 
     /// Takes the value of an option that has none yet.
@@ -79,14 +83,18 @@ impl<'a, A: Allocator> CallWords<'a, A> {
             (is_flag (rule_of_form option.entry.now).action)
             (option_map (λ value. value.now) value.entry))) }
     {
-        match (option.value, value) {
-            (ValueForm::Flag(_), None) => self.take_value(option.name, "true"),
-            (ValueForm::Flag(_), Some(_)) => Err(CallFault::Refused),
-            (_, Some(value)) => self.take_value(option.name, value),
-            (_, None) => {
-                self.waiting = Some(option);
-                Ok(())
-            }
+        match option.value {
+            ValueForm::Flag(_) => match value {
+                None => self.take_value(option.name, "true"),
+                Some(_) => Err(CallFault::Refused),
+            },
+            _ => match value {
+                Some(value) => self.take_value(option.name, value),
+                None => {
+                    self.waiting = Some(option);
+                    Ok(())
+                }
+            },
         }
     }
 
@@ -139,8 +147,50 @@ impl<'a, A: Allocator> CallWords<'a, A> {
     fn is_whole(&self, options: &'static [OptionForm]) -> bool
         ensures { result ≡ is_whole (map rule_of_form options.entry.now) self.now }
     {
-        self.waiting.is_none()
-            && options.iter().all(|option| !option.required || self.given(option.name).is_some())
+        if self.waiting.is_some() {
+            return false;
+        }
+        for option in options {
+            if option.required && self.given(option.name).is_none() {
+                return false;
+            }
+        }
+        true
+    }
+}
+
+impl<'a, A: Allocator + Copy> CallWords<'a, A> {
+    /// Takes the words after a command's name; or says why one is refused, or what lacks.
+    fn take_words(
+        &mut self,
+        alloc: A,
+        help: &CommandHelp,
+        words: &[&'a str],
+    ) -> Result<(), (CallFault, Text<A>)>
+        ensures taken { OnOk result (with_given
+            (whole (map rule_of_form help.now.form.now.options.now))
+            (given_from (map rule_of_form help.now.form.now.options.now) (given self.old)
+            (map (λ word. word.now) words.now)) ≡ given self.new.values) }
+        ensures refused { IfErr result (λ refusal. IsRefusal (with_given
+            (whole (map rule_of_form help.now.form.now.options.now))
+            (given_from (map rule_of_form help.now.form.now.options.now) (given self.old)
+            (map (λ word. word.now) words.now))) refusal.0) }
+    {
+        let form = help.form;
+        for (place, word) in words.iter().enumerate() {
+            if let Err(fault) = self.take_word(form.options, word) {
+                let text = match fault {
+                    CallFault::Help => command_help(alloc, help, *word == "--help"),
+                    _ => command_refusal(alloc, form, self, words, place),
+                };
+                return Err((fault, text));
+            }
+        }
+        if !self.is_whole(form.options) {
+            let text = command_refusal(alloc, form, self, words, words.len());
+            return Err((CallFault::Refused, text));
+        }
+        Ok(())
     }
 }
 
@@ -159,13 +209,19 @@ pub(crate) fn option_named(
     ensures { option_map (λ option. rule_of_form option.now) result
         ≡ option_named (map rule_of_form options.entry.now) name.now }
 {
-    options.iter().find(|option| option.name == name)
+    for option in options {
+        if option.name == name {
+            return Some(option);
+        }
+    }
+    None
 }
 
 /// What words come to, and the text for it; or that memory was refused.
-fn reported<A: Allocator + Copy>(alloc: A, fault: CallFault, text: Text<A>) -> CallRefusal<A>
+fn reported<A: Allocator + Copy>(fault: CallFault, text: Text<A>) -> CallRefusal<A>
     ensures { IsReportedAs fault result.fault }
 {
+    let alloc = text.alloc();
     match text.finish() {
         Ok(text) => CallRefusal { fault, text },
         Err(_) => CallRefusal {
@@ -175,42 +231,6 @@ fn reported<A: Allocator + Copy>(alloc: A, fault: CallFault, text: Text<A>) -> C
     }
 }
 
-/// The values that words give to the options of a command.
-#[tactic(auto, unfolding(crate::specs::CallWords::reading_of_words))]
-fn values_of_words<'a, A: Allocator + Copy>(
-    alloc: A,
-    help: &CommandHelp,
-    words: &[&'a str],
-) -> Result<CallWords<'a, A>, CallRefusal<A>>
-    ensures values { IfOk result (λ values. reading_of_words
-        (map rule_of_form help.now.form.now.options.now)
-        (map (λ word. word.now) words.now) ≡ given values.values) }
-    ensures refused { IfErr result (λ refusal. IsRefusal (reading_of_words
-        (map rule_of_form help.now.form.now.options.now)
-        (map (λ word. word.now) words.now)) refusal.fault) }
-{
-    let form = help.form;
-    let mut given = CallWords {
-        values: Vec::new(alloc),
-        waiting: None,
-        ended: false,
-    };
-    for (place, word) in words.iter().enumerate() {
-        if let Err(fault) = given.take_word(form.options, word) {
-            let text = match fault {
-                CallFault::Help => command_help(alloc, help, *word == "--help"),
-                _ => command_refusal(alloc, form, &given, words, place),
-            };
-            return Err(reported(alloc, fault, text));
-        }
-    }
-    if !given.is_whole(form.options) {
-        let text = command_refusal(alloc, form, &given, words, words.len());
-        return Err(reported(alloc, CallFault::Refused, text));
-    }
-    Ok(given)
-}
-
 /// Whether help has a page of this name.
 pub(crate) fn is_topic(name: &str) -> bool
     ensures { result ≡ is_topic name.now }
@@ -218,57 +238,85 @@ pub(crate) fn is_topic(name: &str) -> bool
     name == "help" || command_named(name).is_some()
 }
 
-/// What words come to that begin with no command.
-fn without_command<A: Allocator + Copy>(alloc: A, words: &[&str], name: &str) -> CallRefusal<A>
-    requires { slice_get words.now 0 ≡ Some name }
-    ensures { IsRefusal (reading_without_command name.now
-        (map (λ word. word.now) (drop 1 words.now))) result.fault }
+/// What words come to of which the first names no command, and the text for it.
+fn without_command<A: Allocator + Copy>(alloc: A, name: &str, more: &[&str]) -> (CallFault, Text<A>)
+    ensures { IsRefusal (reading_without_command name.now (map (λ word. word.now) more.now))
+        result.0 }
 {
     if name == "help" {
-        return on_topics(alloc, &words[1..]);
+        return on_topics(alloc, more);
     }
     if asks_for_help(name) {
-        let text = program_help(alloc, name == "--help");
-        return reported(alloc, CallFault::Help, text);
+        return (CallFault::Help, program_help(alloc, name == "--help"));
     }
     if asks_for_version(name) {
-        return reported(alloc, CallFault::Help, version_text(alloc));
+        return (CallFault::Help, version_text(alloc));
     }
-    reported(alloc, CallFault::Refused, program_refusal(alloc, words))
+    (CallFault::Refused, program_refusal(alloc, Some(name), more))
 }
 
-/// What words come to after `help`.
-fn on_topics<A: Allocator + Copy>(alloc: A, topics: &[&str]) -> CallRefusal<A>
-    ensures { IsRefusal (reading_of_topics (map (λ word. word.now) topics.now)) result.fault }
+/// What words come to after `help`, and the text for it.
+fn on_topics<A: Allocator + Copy>(alloc: A, topics: &[&str]) -> (CallFault, Text<A>)
+    ensures { IsRefusal (reading_of_topics (map (λ word. word.now) topics.now)) result.0 }
 {
     let Some((topic, more)) = topics.split_first() else {
-        return reported(alloc, CallFault::Help, program_help(alloc, true));
+        return (CallFault::Help, program_help(alloc, true));
     };
     if !more.is_empty() || !is_topic(topic) {
-        return reported(alloc, CallFault::Refused, topic_refusal(alloc, topic, more));
+        return (CallFault::Refused, topic_refusal(alloc, topic, more));
     }
-    reported(alloc, CallFault::Help, topic_help(alloc, topic))
+    (CallFault::Help, topic_help(alloc, topic))
 }
 
-/// Why a command asks for no work.
-fn without_work<V: Values, A: Allocator + Copy>(
-    alloc: A,
-    kind: CommandKind,
-    values: &V,
-) -> CallRefusal<A>
+/// Why a command asks for no work, and what is said of it.
+fn without_work<V: Values>(kind: CommandKind, values: &V) -> (CallFault, &str)
     ensures { AsksForNone kind (V.value values.now)
-        → IsAskRefused kind (V.value values.now) result.fault }
+        → IsAskRefused kind (V.value values.now) result.0 }
 {
     if asks_for_more(kind, values) {
-        let text = "ppsim: a picture has at most 2000 turns: give --from and --to\n";
-        return reported(alloc, CallFault::Picture, Text::of(alloc, text));
+        let said = "ppsim: a picture has at most 2000 turns: give --from and --to\n";
+        return (CallFault::Picture, said);
     }
     if mixes_forms(kind, values) {
-        let text = "ppsim: give --turns, or --every-order and --states alone\n";
-        return reported(alloc, CallFault::Forms, Text::of(alloc, text));
+        let said = "ppsim: give --turns, or --every-order and --states alone\n";
+        return (CallFault::Forms, said);
     }
-    let text = "ppsim: number out of range\n";
-    reported(alloc, CallFault::Number, Text::of(alloc, text))
+    (CallFault::Number, "ppsim: number out of range\n")
+}
+
+/// What the words of a call ask for, and the file to read; or why they ask for no work, and the
+/// text for it.
+fn read_words<'a, A: Allocator + Copy>(
+    alloc: A,
+    words: &[&'a str],
+) -> Result<(Asked<A>, Option<&'a str>), (CallFault, Text<A>)>
+    ensures asked { IfOk result (λ read. CallFor (map (λ word. word.now) words.now)
+        read.0.work read.0.first.items read.0.until (option_map (λ file. file.now) read.1)) }
+    ensures refused { IfErr result (λ refusal.
+        IsCallRefused (map (λ word. word.now) words.now) refusal.0) }
+{
+    let Some((name, more)) = words.split_first() else {
+        return Err((CallFault::Refused, program_refusal(alloc, None, words)));
+    };
+    let Some(help) = command_named(name) else {
+        return Err(without_command(alloc, name, more));
+    };
+    let mut values = CallWords {
+        values: Vec::new(alloc),
+        waiting: None,
+        ended: false,
+    };
+    values.take_words(alloc, &help, more)?;
+    let Ok(found) = asked_of(alloc, help.form.kind, &values) else {
+        return Err((CallFault::Memory, Text::of(alloc, "")));
+    };
+    match found {
+        Some(asked) => Ok((asked, named_file(values.given("file")))),
+        None => {
+            let (fault, said) = without_work(help.form.kind, &values);
+            Err((fault, Text::of(alloc, said)))
+        }
+    }
 }
 
 /// What the words of a call ask for, and the file to read, if one is named: a command, and in any
@@ -283,18 +331,8 @@ pub fn read_call<'a, A: Allocator + Copy>(
     ensures refused { IfErr result (λ refusal.
         IsCallRefused (map (λ word. word.now) words.now) refusal.fault) }
 {
-    let Some(name) = words.first().copied() else {
-        return Err(reported(alloc, CallFault::Refused, program_refusal(alloc, words)));
-    };
-    let Some(help) = command_named(name) else {
-        return Err(without_command(alloc, words, name));
-    };
-    let values = values_of_words(alloc, &help, &words[1..])?;
-    let Ok(found) = asked_of(alloc, help.form.kind, &values) else {
-        return Err(reported(alloc, CallFault::Memory, Text::of(alloc, "")));
-    };
-    match found {
-        Some(asked) => Ok((asked, named_file(values.given("file")))),
-        None => Err(without_work(alloc, help.form.kind, &values)),
+    match read_words(alloc, words) {
+        Ok(read) => Ok(read),
+        Err((fault, text)) => Err(reported(fault, text)),
     }
 }

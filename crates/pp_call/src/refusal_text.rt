@@ -19,6 +19,10 @@ macro_rules! try_help {
 
 pub(crate) const TRY_HELP: &str = try_help!("");
 
+const ENDED_OPTIONS: &str = "unexpected argument '@' found
+
+  tip: subcommand '@' exists; to use it, remove the '--' before it";
+
 const NO_TOPIC: &str = try_help!("@'\n\nUsage: ppsim <COMMAND>\n\n");
 
 /// What asks for something before a command.
@@ -30,10 +34,15 @@ pub(crate) fn say_surplus_value<A: Allocator + Copy>(text: &mut Text<A>, name: &
     text.say_with("'--@' found; no more were expected", name);
 }
 
-/// What is said of words that begin with no command, and ask for nothing.
-pub(crate) fn program_refusal<A: Allocator + Copy>(alloc: A, words: &[&str]) -> Text<A> {
+/// What is said of words that begin with no command, and ask for nothing: the first, if there is
+/// one, and those after it.
+pub(crate) fn program_refusal<A: Allocator + Copy>(
+    alloc: A,
+    first: Option<&str>,
+    more: &[&str],
+) -> Text<A> {
     let mut text = Text::of(alloc, "error: ");
-    let used = say_program_fault(&mut text, words);
+    let used = say_program_fault(&mut text, first, more);
     text.say("\n\nUsage: ppsim ");
     if let Some(name) = used {
         text.say_with("--@ ", name);
@@ -46,13 +55,14 @@ pub(crate) fn program_refusal<A: Allocator + Copy>(alloc: A, words: &[&str]) -> 
 /// option for the usage to name.
 fn say_program_fault<'a, A: Allocator + Copy>(
     text: &mut Text<A>,
-    words: &[&'a str],
+    first: Option<&'a str>,
+    more: &[&str],
 ) -> Option<&'a str> {
-    match words.first().copied() {
+    match first {
         None => say_no_command(text),
-        Some("--") => say_ended_options(text, words.get(1).copied()),
+        Some("--") => say_ended_options(text, more.first().copied()),
         Some(word) if is_plain(word) => say_unknown_command(text, word),
-        Some(word) => return say_unknown_request(text, word, words),
+        Some(word) => return say_unknown_request(text, word, more),
     }
     None
 }
@@ -61,8 +71,7 @@ fn say_program_fault<'a, A: Allocator + Copy>(
 fn say_ended_options<A: Allocator + Copy>(text: &mut Text<A>, next: Option<&str>) {
     match next {
         Some(word) if is_topic(word) => {
-            text.say_with("unexpected argument '@' found\n\n  tip: subcommand ", word);
-            text.say_with("'@' exists; to use it, remove the '--' before it", word);
+            text.say_with(ENDED_OPTIONS, word);
         }
         Some(word) => say_unknown_command(text, word),
         None => say_no_command(text),
@@ -89,7 +98,7 @@ fn say_unknown_command<A: Allocator + Copy>(text: &mut Text<A>, word: &str) {
 fn say_unknown_request<'a, A: Allocator + Copy>(
     text: &mut Text<A>,
     word: &'a str,
-    words: &[&str],
+    more: &[&str],
 ) -> Option<&'a str> {
     let Some((name, value)) = long_of(word) else {
         text.say_with(
@@ -106,7 +115,7 @@ fn say_unknown_request<'a, A: Allocator + Copy>(
     let similar = similar_option(text, name, &[], REQUESTS);
     match similar {
         Some(similar) => text.say_with("\n\n  tip: a similar argument exists: '--@'", similar),
-        None => say_similar_of_commands(text, name, words),
+        None => say_similar_of_commands(text, name, more),
     }
     similar
 }

@@ -19,7 +19,7 @@ pub(crate) fn say_usage<A: Allocator + Copy>(text: &mut Text<A>, form: &'static 
 }
 
 /// Adds a paragraph on how to call a command: with what it needs, with what was given but this
-/// option, and with one more, if it is named.
+/// option, and with one more, if it is named; or with all it takes, if it needs no more than that.
 pub(crate) fn say_usage_of<A: Allocator + Copy>(
     text: &mut Text<A>,
     form: &'static CommandForm,
@@ -27,10 +27,13 @@ pub(crate) fn say_usage_of<A: Allocator + Copy>(
     but: &str,
     more: &str,
 ) {
+    if more.is_empty() && given.values.len() <= usize::from(!but.is_empty()) {
+        return say_usage(text, form);
+    }
     text.say_with("\n\nUsage: ppsim @", form.name);
     say_required(text, form);
-    for (name, _) in &given.values {
-        if *name != but {
+    for &(name, _) in &given.values {
+        if name != but {
             say_used(text, form, name);
         }
     }

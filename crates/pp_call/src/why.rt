@@ -36,6 +36,14 @@ pub(crate) fn is_plain(word: &str) -> bool {
     !word.starts_with('-') || word == "-"
 }
 
+/// Whether a word stands at this place that does not look like an option, and is not `--`.
+fn is_plain_at(words: &[&str], place: usize) -> bool {
+    match words.get(place) {
+        Some(word) => is_plain(word),
+        None => false,
+    }
+}
+
 /// Says why a word is refused before which this option waits for its value, or why none may follow.
 fn say_waiting<'a, A: Allocator + Copy>(
     text: &mut Text<A>,
@@ -45,32 +53,26 @@ fn say_waiting<'a, A: Allocator + Copy>(
     words: &[&'a str],
     place: usize,
 ) {
-    if !is_plain_at(words, place) {
-        if !says_next(text, form, given, words, place, "") {
-            text.say_option("a value is required for '", option);
-            text.say("' but none was supplied\n\n");
-        }
-    } else if !says_next(
-        text,
-        form,
-        given,
-        words,
-        place.saturating_add(1),
-        option.name,
-    ) {
-        say_twice(text, form, option);
+    let is_value = is_plain_at(words, place);
+    let next = place.saturating_add(usize::from(is_value));
+    let but = if is_value { option.name } else { "" };
+    if says_next(text, form, given, words, next, but) {
+        return;
     }
+    if is_value {
+        return say_twice(text, form, option.name);
+    }
+    text.say_option("a value is required for '", option);
+    text.say("' but none was supplied\n\n");
 }
 
-/// Says that an option is given twice.
-fn say_twice<A: Allocator + Copy>(
-    text: &mut Text<A>,
-    form: &'static CommandForm,
-    option: &'static OptionForm,
-) {
-    text.say_option("the argument '", option);
-    text.say("' cannot be used multiple times");
-    say_usage(text, form);
+/// Says that the option of this name is given twice.
+fn say_twice<A: Allocator + Copy>(text: &mut Text<A>, form: &'static CommandForm, name: &str) {
+    if let Some(option) = option_named(form.options, name) {
+        text.say_option("the argument '", option);
+        text.say("' cannot be used multiple times");
+        say_usage(text, form);
+    }
 }
 
 /// Says what is wrong with the word at this place and those after it where an option waits, which
@@ -83,18 +85,12 @@ fn says_next<'a, A: Allocator + Copy>(
     place: usize,
     but: &str,
 ) -> bool {
-    let Some(word) = words.get(place) else {
-        return false;
+    let plain = match words.get(place) {
+        Some(word) if *word == "--" => words.get(place.saturating_add(1)),
+        Some(word) if !is_plain(word) => return says_never(text, form, given, word, but),
+        word => word,
     };
-    let surplus = if *word == "--" {
-        place.saturating_add(1)
-    } else {
-        place
-    };
-    if surplus == place && !is_plain(word) {
-        return says_never(text, form, given, word, but);
-    }
-    match words.get(surplus) {
+    match plain {
         Some(word) if given.given("file").is_some() => say_surplus(text, form, word),
         _ => return false,
     }
@@ -126,17 +122,11 @@ fn say_free<'a, A: Allocator + Copy>(
         Some(last) if place > 0 && is_plain_at(words, place - 1) => last.0,
         _ => "",
     };
-    if !says_never(text, form, given, word, but) {
-        say_again(text, form, word);
+    if says_never(text, form, given, word, but) {
+        return;
     }
-}
-
-/// Says that the option of a word was given before.
-fn say_again<A: Allocator + Copy>(text: &mut Text<A>, form: &'static CommandForm, word: &str) {
     if let Some((name, _)) = long_of(word) {
-        if let Some(option) = option_named(form.options, name) {
-            say_twice(text, form, option);
-        }
+        say_twice(text, form, name);
     }
 }
 
@@ -154,64 +144,53 @@ fn says_never<A: Allocator + Copy>(
         return false;
     }
     let Some((name, value)) = long_of(word) else {
-        let letter = letter_of(word).unwrap_or("-");
-        text.say_with("unexpected argument '-@' found\n\n  tip: ", letter);
-        text.say_with("to pass '-@' as a value, use '-- -@'", letter);
-        say_usage(text, form);
+        say_letter(text, form, letter_of(word).unwrap_or("-"));
         return true;
     };
-    let Some(option) = option_named(form.options, name) else {
-        match value {
-            Some(value) if name == "help" => say_value(text, form, given, name, value, but),
-            _ => say_unknown(text, form, given, name, but),
+    let option = option_named(form.options, name);
+    let is_flag = match option {
+        Some(option) => matches!(option.value, ValueForm::Flag(_)),
+        None => name == "help",
+    };
+    match value {
+        Some(value) if is_flag => {
+            say_surplus_value(text, name, value);
+            let but = if given.waiting.is_none() { but } else { "" };
+            say_usage_of(text, form, given, but, name);
         }
-        return true;
-    };
-    let (ValueForm::Flag(_), Some(value)) = (&option.value, value) else {
-        return false;
-    };
-    say_value(text, form, given, name, value, but);
+        _ if option.is_some() => return false,
+        _ => {
+            let similar = say_unknown(text, form, name);
+            let but = if given.waiting.is_none() { "" } else { but };
+            say_usage_of(text, form, given, but, similar);
+        }
+    }
     true
 }
 
-/// Says that an option takes no value, but has this one.
-fn say_value<A: Allocator + Copy>(
-    text: &mut Text<A>,
-    form: &'static CommandForm,
-    given: &CallWords<'_, A>,
-    name: &str,
-    value: &str,
-    but: &str,
-) {
-    say_surplus_value(text, name, value);
-    let but = if given.waiting.is_none() { but } else { "" };
-    say_usage_of(text, form, given, but, name);
+/// Says that a command has no option of this letter.
+fn say_letter<A: Allocator + Copy>(text: &mut Text<A>, form: &'static CommandForm, letter: &str) {
+    text.say_with(
+        "unexpected argument '-@' found\n\n  tip: to pass '-@' as a value, use '-- -@'",
+        letter,
+    );
+    say_usage(text, form);
 }
 
-/// Says that a command has no option of this name, and which one is like it.
+/// Says that a command has no option of this name, and which one is like it; returns that one's
+/// name, or an empty one.
 fn say_unknown<A: Allocator + Copy>(
     text: &mut Text<A>,
     form: &'static CommandForm,
-    given: &CallWords<'_, A>,
     name: &str,
-    but: &str,
-) {
+) -> &'static str {
     text.say_with("unexpected argument '--@' found\n\n  tip: ", name);
-    let similar = match similar_option(text, name, form.options, REQUESTS) {
-        Some(similar) => {
-            text.say_with("a similar argument exists: '--@'", similar);
-            similar
-        }
-        None => {
-            text.say_with("to pass '--@' as a value, use '-- --@'", name);
-            ""
-        }
-    };
-    let but = if given.waiting.is_none() { "" } else { but };
-    if similar.is_empty() && given.values.len() <= usize::from(!but.is_empty()) {
-        return say_usage(text, form);
+    if let Some(similar) = similar_option(text, name, form.options, REQUESTS) {
+        text.say_with("a similar argument exists: '--@'", similar);
+        return similar;
     }
-    say_usage_of(text, form, given, but, similar);
+    text.say_with("to pass '--@' as a value, use '-- --@'", name);
+    ""
 }
 
 /// Says which options a command needs that are not given.
@@ -229,12 +208,4 @@ fn say_missing<A: Allocator + Copy>(
         }
     }
     say_usage_of(text, form, given, "", last.unwrap_or(""));
-}
-
-/// Whether a word stands at this place that does not look like an option, and is not `--`.
-fn is_plain_at(words: &[&str], place: usize) -> bool {
-    match words.get(place) {
-        Some(word) => is_plain(word),
-        None => false,
-    }
 }
