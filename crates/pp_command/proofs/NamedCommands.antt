@@ -258,15 +258,15 @@ second_of (program ∷ []) word is = absurd cc
 second_of (program ∷ other ∷ rest) word is = let same : other ≡ word = cc in ap (λ (s : Bor Text). Some s.now) (sym same)
 
 -- what is made so reads alike
-pub made_one : {X E : Type 0} (of : X → App) (made : Result X E) (app : App) (words : List Text) (name : Text) (c : Command)
-    → IfOk made (λ x. of x ≡ with_commands app (app_of_command c ∷ [])) → app ≡ bare → Some name ≡ slice_get words 1 → command_named name ≡ Some c
+pub made_one : {X E : Type 0} (of : X → App) (made : Result X E) (words : List Text) (name : Text) (c : Command)
+    → IfOk made (λ x. of x ≡ with_commands bare (app_of_command c ∷ [])) → Some name ≡ slice_get words 1 → command_named name ≡ Some c
     → IfOk made (λ x. ReadsAlike words (of x))
 unfolding command_named
-made_one of (Ok x) app words name c is at second named = rw (is, at) (reads_by_one words name c second named)
-made_one of (Err e) app words name c is at second named = tt
+made_one of (Ok x) words name c is second named = rw is (reads_by_one words name c second named)
+made_one of (Err e) words name c is second named = tt
 
-pub made_all : {X E : Type 0} (of : X → App) (made : Result X E) (app : App) (helps : List CommandHelp) (words : List Text)
-    → IfOk made (λ x. of x ≡ with_commands app (map (λ help. app_of_command (command_of_form help.form.now)) helps))
-    → map (λ help. command_of_form help.form.now) helps ≡ commands → app ≡ bare → IfOk made (λ x. ReadsAlike words (of x))
-made_all of (Ok x) app helps words is all at = rw (is, at, ← map-map app_of_command (λ help. command_of_form help.form.now) helps, all) (reads_by_all words)
-made_all of (Err e) app helps words is all at = tt
+pub made_all : {X E : Type 0} (of : X → App) (made : Result X E) (helps : List CommandHelp) (words : List Text)
+    → IfOk made (λ x. of x ≡ with_commands bare (map (λ help. app_of_command (command_of_form help.form.now)) helps))
+    → map (λ help. command_of_form help.form.now) helps ≡ commands → IfOk made (λ x. ReadsAlike words (of x))
+made_all of (Ok x) helps words is all = rw (is, ← map-map app_of_command (λ help. command_of_form help.form.now) helps, all) (reads_by_all words)
+made_all of (Err e) helps words is all = tt

@@ -1,7 +1,8 @@
 ghost use Rattle.std.specs.Prelude.{◌≡◌, false, map, IfOk};
+ghost use Rattle.std.specs.Option.{option_map_or};
 ghost use Rattle.clap.specs.Words.{app_of, rule_of};
 ghost use Rattle.clap.specs.declared.builder.command.Command.TheViews.{out-Command as fields_of};
-ghost use Rattle.pp_command.specs.CommandLine.{ReadsAlike, app_of_command, bare, command_of_form, file_argument, rule_of_form, with_commands};
+ghost use Rattle.pp_command.specs.CommandLine.{ReadsAlike, app_of_command, bare, command_of_form, file_argument, flag_option, optional_value, rule_by, rule_of_form, with_commands};
 
 use crate::command_kind::CommandKind;
 use crate::command_table::{ABOUT, EXAMPLE, FILE_HELP, MANUAL, command_named, commands};
@@ -26,15 +27,26 @@ pub struct OptionForm {
 impl Display for OptionForm {
     fn fmt<W: Write>(&self, f: &mut Formatter<W>) -> fmt::Result {
         let name = self.name;
-        match self.value {
-            ValueForm::Flag(_) => write!(f, "--{name}"),
-            ValueForm::Number(_) => write!(f, "--{name} <N>"),
-            ValueForm::Text(value, _) => write!(f, "--{name} <{value}>"),
+        match self.value_name() {
+            None => write!(f, "--{name}"),
+            Some(value) => write!(f, "--{name} <{value}>"),
         }
     }
 }
 
 impl OptionForm {
+    /// What stands for its value on a command line, as in `--turns <N>`, if it takes one.
+    fn value_name(&self) -> Option<&'static str>
+        ensures { rule_by self.now.value self.now.name.now ≡ option_map_or
+            (λ _. optional_value self.now.name.now) result (flag_option self.now.name.now) }
+    {
+        match self.value {
+            ValueForm::Flag(_) => None,
+            ValueForm::Number(_) => Some("N"),
+            ValueForm::Text(value, _) => Some(value),
+        }
+    }
+
     /// What help says of it.
     pub fn help(&self) -> &'static str {
         match self.value {
@@ -83,10 +95,9 @@ fn option_of<'a>(alloc: Global, form: &OptionForm) -> Arg<'a>
         .long(form.name)
         .required(form.required)
         .help(form.help());
-    match form.value {
-        ValueForm::Flag(_) => option.action(ArgAction::SetTrue),
-        ValueForm::Number(_) => option.action(ArgAction::Set).value_name("N"),
-        ValueForm::Text(name, _) => option.action(ArgAction::Set).value_name(name),
+    match form.value_name() {
+        None => option.action(ArgAction::SetTrue),
+        Some(name) => option.action(ArgAction::Set).value_name(name),
     }
 }
 
@@ -118,14 +129,12 @@ fn command_of<'a>(alloc: Global, help: &CommandHelp) -> Result<Command<'a>, Allo
     command.arg(file_argument(alloc))
 }
 
-fn with_commands<'a>(
-    alloc: Global,
-    mut app: Command<'a>,
-    helps: &[CommandHelp],
-) -> Result<Command<'a>, AllocError>
-    ensures { IfOk result (λ c. app_of c ≡ with_commands (app_of app.entry)
+/// The command line with these commands.
+fn with_commands<'a>(alloc: Global, helps: &[CommandHelp]) -> Result<Command<'a>, AllocError>
+    ensures { IfOk result (λ c. app_of c ≡ with_commands bare
         (map (λ help. app_of_command (command_of_form help.form.now)) helps.now)) }
 {
+    let mut app = without_commands(alloc);
     for help in helps {
         app = app.subcommand(command_of(alloc, help)?)?;
     }
@@ -149,12 +158,10 @@ fn without_commands<'a>(alloc: Global) -> Command<'a>
 pub(crate) fn command<'a>(alloc: Global, words: &[&str]) -> Result<Command<'a>, AllocError>
     ensures { IfOk result (λ c. ReadsAlike (map (λ s. s.now) words.now) (app_of c)) }
 {
-    let bare = without_commands(alloc);
-    let Some(name) = words.get(1) else {
-        return with_commands(alloc, bare, &commands());
-    };
-    match command_named(name) {
-        Some(help) => with_commands(alloc, bare, &[help]),
-        None => with_commands(alloc, bare, &commands()),
+    if let Some(name) = words.get(1) {
+        if let Some(help) = command_named(name) {
+            return with_commands(alloc, &[help]);
+        }
     }
+    with_commands(alloc, &commands())
 }
