@@ -23,7 +23,7 @@ const ENDED_OPTIONS: &str = "unexpected argument '@' found
 
   tip: subcommand '@' exists; to use it, remove the '--' before it";
 
-const NO_TOPIC: &str = try_help!("@'\n\nUsage: ppsim <COMMAND>\n\n");
+const NO_TOPIC: &str = try_help!("\n\nUsage: ppsim <COMMAND>\n\n");
 
 /// What asks for something before a command.
 const REQUESTS: &[&str] = &["help", "version"];
@@ -136,19 +136,18 @@ fn say_similar_of_commands<A: Allocator + Copy>(text: &mut Text<A>, name: &str, 
 /// What is said of words after `help`, a topic and more, of which one is no topic.
 pub(crate) fn topic_refusal<A: Allocator + Copy>(alloc: A, topic: &str, more: &[&str]) -> Text<A> {
     let mut text = Text::of(alloc, "error: unrecognized subcommand '");
-    let after = match more.first() {
-        Some(after) => after,
-        None => "",
+    let wrong = match more.first() {
+        Some(after) if is_topic(topic) => after,
+        _ => topic,
     };
-    if let Some(help) = command_named(topic) {
-        text.say_with("@'", after);
-        say_usage(&mut text, help.form);
-        text.say(TRY_HELP);
-    } else if topic == "help" {
-        text.say_with("@'\n\n", after);
-        text.say_with("@\n", HELP_USAGE);
-    } else {
-        text.say_with(NO_TOPIC, topic);
+    text.say_with("@'", wrong);
+    match command_named(topic) {
+        Some(help) => {
+            say_usage(&mut text, help.form);
+            text.say(TRY_HELP);
+        }
+        None if topic == "help" => text.say_with("\n\n@\n", HELP_USAGE),
+        None => text.say(NO_TOPIC),
     }
     text
 }

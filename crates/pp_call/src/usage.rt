@@ -32,11 +32,7 @@ pub(crate) fn say_usage_of<A: Allocator + Copy>(
     }
     text.say_with("\n\nUsage: ppsim @", form.name);
     say_required(text, form);
-    for &(name, _) in &given.values {
-        if name != but {
-            say_used(text, form, name);
-        }
-    }
+    say_given(text, form, given, but);
     if more == but || given.given(more).is_none() {
         say_used(text, form, more);
     }
@@ -51,6 +47,20 @@ fn say_required<A: Allocator + Copy>(text: &mut Text<A>, form: &'static CommandF
     for option in form.options {
         if option.required {
             text.say_option(" ", option);
+        }
+    }
+}
+
+/// Adds the options that were given and that a command does not need, but this one.
+fn say_given<A: Allocator + Copy>(
+    text: &mut Text<A>,
+    form: &'static CommandForm,
+    given: &CallWords<'_, A>,
+    but: &str,
+) {
+    for &(name, _) in &given.values {
+        if name != but {
+            say_used(text, form, name);
         }
     }
 }
