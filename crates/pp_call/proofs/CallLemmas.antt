@@ -1,35 +1,13 @@
--- The options of a command, and the values given to them.
-use Rattle.std.proofs.Common.{◌≡◌, ◌∙◌, inl, inr, subst, ℕ, ◌+◌, ◌<◌, List, [], ◌∷◌, Option, Some, None, add-one, ap, drop, drop-cons, length, map, option_map, refl, slice_index_or, sym}
-use Rattle.std.specs.Prelude.{◌&&◌, ◌||◌, Bool, false, is_some, not}
-use Rattle.std.specs.List.{list_all}
+-- What the words of a call come to, by what some of them do.
+use Rattle.std.proofs.Common.{◌≡◌, ◌∙◌, ℕ, ◌+◌, ◌<◌, List, [], ◌∷◌, Option, Some, None, add-one, ap, drop, drop-cons, length, map, option_map, refl, slice_index_or, sym}
+use Rattle.std.specs.Prelude.{Err, IfErr, IfOk, Ok, Result}
 use Rattle.clap.specs.Words.{Rule, Text}
-use Rattle.pp_call.specs.CallWords.{Given, IsRefusal, IsReportedAs, Reading, given_from, has_required, reading_of_call, reading_of_words, reading_without_command, value_among, whole, with_given, with_word}
+use Rattle.pp_call.specs.CallWords.{Given, IsRefusal, Reading, given_from, reading_of_call, reading_of_words, reading_without_command, whole, with_given, with_word}
 use Rattle.pp_call.specs.CallWords.Reading.{given, help, refused}
 use Rattle.std.specs.Borrow.{Bor}
 use Rattle.pp_command.specs.CommandLine.{command_named, command_of_form, rule_of_form}
-use Rattle.pp_command.specs.declared.{command.CommandHelp.CommandHelp, command.OptionForm.OptionForm, command.ValueForm.ValueForm}
+use Rattle.pp_command.specs.declared.{command.CommandHelp.CommandHelp}
 use Rattle.pp_call.specs.declared.call_fault.CallFault.{CallFault}
-
--- the name of an option is that of its form
-pub id_of_form : (form : OptionForm) → (rule_of_form form).id ≡ form.name.now
-id_of_form form = by form.value
-  where
-    by : (value : ValueForm) → (rule_of_form (record form { value = value })).id ≡ form.name.now
-    by (ValueForm.Flag text) = refl
-    by (ValueForm.Number range) = refl
-    by (ValueForm.Text name text) = refl
-
-pub has_value : (r : Option (Bor Text)) (o : Option Text) → option_map (λ value. value.now) r ≡ o → is_some r ≡ is_some o
-has_value None o is = ap is_some is
-has_value (Some value) o is = ap is_some is
-
-pub required_of : (values : List (Text × Text)) (options : List OptionForm) → list_all (λ form. not form.required || is_some (value_among values form.name.now)) options ≡ has_required (map rule_of_form options) values
-required_of values [] = refl
-required_of values (form ∷ options) = rw (id_of_form form, required_of values options) refl
-
-pub none_waiting : {X : Type 0} (of : X → Text) (o : Option X) (b : Bool) → is_some o ≡ false → b ≡ (not (is_some (option_map of o)) && b)
-none_waiting of None b is = refl
-none_waiting of (Some x) b is = absurd cc
 
 -- what comes to a request or to nothing since something else does is refused for the same reason
 pub refused_alike : {X Y : Type 0} (a : Reading X) (b : Reading Y) (fault : CallFault) → (a ≡ help → b ≡ help) → (a ≡ refused → b ≡ refused) → IsRefusal a fault → IsRefusal b fault
@@ -39,11 +17,6 @@ refused_alike a b CallFault.Refused asks then is = then is
 refused_alike a b CallFault.Number asks then is = absurd is
 refused_alike a b CallFault.Picture asks then is = absurd is
 refused_alike a b CallFault.Forms asks then is = absurd is
-
--- what holds of a fault, and of want of memory, holds of the fault as it is reported
-pub as_reported : (Holds : CallFault → Type 0) (fault reported : CallFault) → IsReportedAs fault reported → Holds CallFault.Memory → Holds fault → Holds reported
-as_reported Holds fault reported (inl same) memory is = subst Holds (sym same) is
-as_reported Holds fault reported (inr same) memory is = subst Holds (sym same) memory
 
 -- after a request, and after a word that is refused, all stays so
 asked_from : (options : List Rule) (words : List Text) → given_from options help words ≡ help
@@ -93,3 +66,12 @@ uncalled words name more got at by is =
 pub no_words : (words : List (Bor Text)) → length words ≡ 0 → reading_of_call (map (λ word. word.now) words) ≡ refused
 no_words [] none = refl
 no_words (word ∷ words) none = absurd cc
+
+-- what holds of all that is asked for so, or of all that is refused so
+pub where_asked : {X E : Type 0} (result : Result X E) (P Q Holds : X → Type 0) → ((x : X) → P x → Q x → Holds x) → IfOk result P → IfOk result Q → IfOk result Holds
+where_asked (Ok x) P Q Holds so p q = so x p q
+where_asked (Err e) P Q Holds so p q = tt
+
+pub where_refused : {X E : Type 0} (result : Result X E) (P Holds : E → Type 0) → ((e : E) → P e → Holds e) → IfErr result P → IfErr result Holds
+where_refused (Ok x) P Holds so p = tt
+where_refused (Err e) P Holds so p = so e p

@@ -1,7 +1,7 @@
-ghost use Rattle.std.specs.Prelude.{◌≡◌, map, option_map, IfErr, IfOk, OnOk};
+ghost use Rattle.std.specs.Prelude.{◌≡◌, codes, map, option_map, IfErr, IfOk, OnOk};
 ghost use Rattle.pp_call.specs.CallWords.{AsksForNone, CallFor, IsAskRefused, IsCallRefused, IsRefusal, IsReportedAs, given_from, is_flag, is_topic, is_whole, option_named, reading_of_topics, reading_without_command, value_among, whole, with_given, with_option, with_plain_word, with_value, with_word};
 ghost use Rattle.pp_call.specs.CallWords.Reading.{given};
-ghost use Rattle.pp_command.specs.CommandLine.{rule_of_form};
+ghost use Rattle.pp_command.specs.CommandLine.{IsAskedOf, ReadsFile, rule_of_form};
 
 use crate::call_word::{asks_for_help, asks_for_version, is_option, long_of};
 use crate::help_text::{command_help, program_help, topic_help, version_text};
@@ -284,6 +284,31 @@ fn without_work<V: Values>(kind: CommandKind, values: &V) -> (CallFault, &str)
     (CallFault::Number, "ppsim: number out of range\n")
 }
 
+/// What a command asks for, and the file to read; or why it asks for no work, and the text for it.
+fn asked_by<'a, A: Allocator + Copy>(
+    alloc: A,
+    kind: CommandKind,
+    values: &CallWords<'a, A>,
+) -> Result<(Asked<A>, Option<&'a str>), (CallFault, Text<A>)>
+    ensures asked { IfOk result (λ read. IsAskedOf kind (value_among values.now.values)
+        read.0.work read.0.first.items read.0.until) }
+    ensures file { IfOk result (λ read. ReadsFile (value_among values.now.values (codes "file"))
+        (option_map (λ file. file.now) read.1)) }
+    ensures refused { IfErr result (λ refusal.
+        IsAskRefused kind (value_among values.now.values) refusal.0) }
+{
+    let Ok(found) = asked_of(alloc, kind, values) else {
+        return Err((CallFault::Memory, Text::of(alloc, "")));
+    };
+    match found {
+        Some(asked) => Ok((asked, named_file(values.given("file")))),
+        None => {
+            let (fault, said) = without_work(kind, values);
+            Err((fault, Text::of(alloc, said)))
+        }
+    }
+}
+
 /// What the words of a call ask for, and the file to read; or why they ask for no work, and the
 /// text for it.
 fn read_words<'a, A: Allocator + Copy>(
@@ -307,16 +332,7 @@ fn read_words<'a, A: Allocator + Copy>(
         ended: false,
     };
     values.take_words(alloc, &help, more)?;
-    let Ok(found) = asked_of(alloc, help.form.kind, &values) else {
-        return Err((CallFault::Memory, Text::of(alloc, "")));
-    };
-    match found {
-        Some(asked) => Ok((asked, named_file(values.given("file")))),
-        None => {
-            let (fault, said) = without_work(help.form.kind, &values);
-            Err((fault, Text::of(alloc, said)))
-        }
-    }
+    asked_by(alloc, help.form.kind, &values)
 }
 
 /// What the words of a call ask for, and the file to read, if one is named: a command, and in any

@@ -2,7 +2,7 @@ use Rattle.std.proofs.Common.{inl, inr, map, rules, subst, sym}
 use Rattle.pp_call.specs.CallWords.{IsCallRefused, IsRefusal, reading_of_call, reading_of_words}
 use Rattle.pp_call.specs.CallWords.Reading.{given, help, refused}
 use Rattle.pp_command.specs.CommandLine.{rule_of_form}
-use Rattle.pp_call.proofs.CallLemmas.{called, no_words, refused_alike, uncalled}
+use Rattle.pp_call.proofs.CallLemmas.{called, no_words, refused_alike, uncalled, where_asked, where_refused}
 use Rattle.pp_call.proofs.call_words.read_words.Goals as goal
 
 pub returns-in_default-clause-refused : goal.returns-in_default-clause-refused
@@ -26,21 +26,18 @@ returns-in_err-take_words-clause-refused g c =
     (rw c.new.ensures.items at c.in_err-take_words.ensures.refused)) in
     search (rules, why)
 
-pub returns-in-Some-found-clause-asked : goal.returns-in-Some-found-clause-asked
+pub returns-clause-asked : goal.returns-clause-asked
 unfolding reading_of_words
-returns-in-Some-found-clause-asked g c =
+returns-clause-asked g c =
     let found = c.in-Some-command_named.help in
-    let asked = rw c.in-Some-found.is at c.in-Ok.ensures.asked in record {
-      call = (found.form.now.kind, c.take_words.new.self.values);
-      read = called c.args.words.now c.in-Some.name.now c.in-Some.more.now c.command_named.result found (given c.take_words.new.self.values) c.in-Some.ensures.cases.0 c.command_named.ensures c.in-Some-command_named.is (rw c.new.ensures.items at c.in_ok-take_words.ensures.taken);
-      asked = asked;
-      named = rw c.given.ensures at c.named_file.ensures;
-    }
+    let values = c.take_words.new.self.values in
+    let read = called c.args.words.now c.in-Some.name.now c.in-Some.more.now c.command_named.result found (given values) c.in-Some.ensures.cases.0 c.command_named.ensures c.in-Some-command_named.is (rw c.new.ensures.items at c.in_ok-take_words.ensures.taken) in
+    where_asked c.asked_by.result _ _ _ (λ x asked file. record { call = (found.form.now.kind, values); read = read; asked = asked; named = file }) c.asked_by.ensures.asked c.asked_by.ensures.file
 
 pub returns-clause-refused : goal.returns-clause-refused
 unfolding reading_of_words
 returns-clause-refused g c =
     let found = c.in-Some-command_named.help in
-    let read = called c.args.words.now c.in-Some.name.now c.in-Some.more.now c.command_named.result found (given c.take_words.new.self.values) c.in-Some.ensures.cases.0 c.command_named.ensures c.in-Some-command_named.is (rw c.new.ensures.items at c.in_ok-take_words.ensures.taken) in
-    let none = rw c.in-None.is at c.in-Ok.ensures.none in
-    inr (rw read (c.without_work-fault.ensures none))
+    let values = c.take_words.new.self.values in
+    let read = called c.args.words.now c.in-Some.name.now c.in-Some.more.now c.command_named.result found (given values) c.in-Some.ensures.cases.0 c.command_named.ensures c.in-Some-command_named.is (rw c.new.ensures.items at c.in_ok-take_words.ensures.taken) in
+    where_refused c.asked_by.result _ _ (λ refusal none. inr (rw read none)) c.asked_by.ensures.refused
