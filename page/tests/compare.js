@@ -48,9 +48,11 @@ function compare(words, input) {
 
 const ESCAPES = { n: '\n', r: '\r', t: '\t' };
 
-/** The bytes of a text in which `\n`, `\r`, `\t` and `\xNN` stand for one byte each. */
+/** The bytes of a text in which `\n`, `\r`, `\t` and `\xNN` stand for one byte each, and
+    `\(PIECE\)N;` for N times the bytes of PIECE. */
 function bytesMeant(text) {
-  const meant = text.replace(/\\([nrt]|x[\da-f]{2})/g, (it, code) =>
+  const whole = text.replace(/\\\((.*?)\\\)(\d+);/g, (it, piece, count) => piece.repeat(count));
+  const meant = whole.replace(/\\([nrt]|x[\da-f]{2})/g, (it, code) =>
     ESCAPES[code] ?? String.fromCharCode(parseInt(code.slice(1), 16)));
   return Buffer.from(meant, 'latin1');
 }

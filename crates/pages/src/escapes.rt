@@ -2,22 +2,47 @@
 
 use std::alloc::Global;
 
-/// The bytes of a text in which `\n`, `\r`, `\t` and `\xNN` stand for one byte each.
+/// The bytes of a text in which `\n`, `\r`, `\t` and `\xNN` stand for one byte each, and
+/// `\(PIECE\)N;` for N times the bytes of PIECE.
 pub fn bytes_of(alloc: Global, text: &str) -> anyhow::Result<Vec<u8>> {
     let mut bytes = Vec::new(alloc);
+    let mut piece = 0;
     let mut parts = text.split('\\');
     if let Some(first) = parts.next() {
         bytes.extend_from_slice(first.as_bytes())?;
     }
     for part in parts {
-        let (byte, rest) = match escaped(part) {
-            Some(escape) => escape,
-            None => (b'\\', part),
+        let rest = if let Some(rest) = part.strip_prefix("(") {
+            piece = bytes.len();
+            rest
+        } else if let Some((count, rest)) = count_in(part) {
+            repeat(alloc, &mut bytes, piece, count)?;
+            rest
+        } else if let Some((byte, rest)) = escaped(part) {
+            bytes.push(byte)?;
+            rest
+        } else {
+            bytes.push(b'\\')?;
+            part
         };
-        bytes.push(byte)?;
         bytes.extend_from_slice(rest.as_bytes())?;
     }
     Ok(bytes)
+}
+
+/// How often a piece is meant that ends here, and what follows.
+fn count_in(part: &str) -> Option<(u32, &str)> {
+    let (digits, rest) = part.strip_prefix(")")?.split_once(";")?;
+    Some((digits.parse::<u32>().ok()?, rest))
+}
+
+/// Adds the piece from here on again, so that it stands there `count` times.
+fn repeat(alloc: Global, bytes: &mut Vec<u8>, begin: usize, count: u32) -> anyhow::Result<()> {
+    let piece = bytes.get(begin..).unwrap_or(&[]).to_vec(alloc)?;
+    for _ in 1..count {
+        bytes.extend_from_slice(&piece)?;
+    }
+    Ok(())
 }
 
 /// The byte that is meant after a backslash, and what follows.

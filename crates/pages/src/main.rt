@@ -19,7 +19,7 @@ use std::sync::Wait;
 use std::thread::Threads;
 
 /// The pages whose commands are run. Links at the top of the repository lead to the first four.
-const PAGES: [&str; 29] = [
+const PAGES: [&str; 30] = [
     "README.md",
     "TUTORIAL.md",
     "VIEWS.md",
@@ -45,6 +45,7 @@ const PAGES: [&str; 29] = [
     "cases/orders.md",
     "cases/check.md",
     "cases/decks.md",
+    "cases/long_decks.md",
     "cases/operations.md",
     "cases/command_line.md",
     "cases/help.md",
