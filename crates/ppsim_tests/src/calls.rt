@@ -1,13 +1,12 @@
-//! Worked rows of words, channels, lines, processors and machines; decks as long as allowed; texts
-//! of faults; traces and drawings by the thousand.
+//! Worked rows of words, channels, lines, processors and machines; a run at every limit; texts of
+//! faults; traces and drawings by the thousand.
 
 mod changed_traces;
 mod channel_numbers;
 mod channel_words;
 mod fault_texts;
-mod large;
 mod limits;
-mod lines;
+pub(crate) mod lines;
 mod machine;
 mod numbers;
 mod odd_programs;

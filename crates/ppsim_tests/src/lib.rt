@@ -5,6 +5,8 @@
 #[cfg(test)]
 mod calls;
 #[cfg(test)]
+mod loaded;
+#[cfg(test)]
 mod refusals;
 #[cfg(test)]
 mod sweep;

@@ -11,4 +11,6 @@ pub(crate) mod locked;
 mod machine;
 mod no_memory;
 mod refusal;
+mod text;
 mod threads;
+mod trials;

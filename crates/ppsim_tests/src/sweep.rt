@@ -11,5 +11,4 @@ mod fronts;
 mod long_pair;
 mod pieces;
 mod requests;
-mod runs;
-mod threads;
+pub(crate) mod runs;

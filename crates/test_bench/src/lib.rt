@@ -28,6 +28,6 @@ pub use flags::{EMPTY, FULL, INACTIVE};
 pub use histories::is_lawful;
 pub use long_texts::{SESSIONS, report_of_sessions, text_of_sessions};
 pub use numbers::{channel, first, numbered, processor, word};
-pub use programs::{HANDOFF_PAIR, Pair, put_program, put_words};
+pub use programs::{put_program, put_words};
 pub use sink::{Failure, Sink};
 pub use source::Source;

@@ -14,7 +14,7 @@ pub enum Failure {
     Flush,
 }
 
-/// Takes `room` bytes in pieces, and then fails at each call, which it counts.
+/// Takes `room` bytes in pieces, and then fails at each call. It counts calls and failures.
 #[derive(Drop)]
 pub struct Sink {
     taken: Vec<u8>,
@@ -22,9 +22,16 @@ pub struct Sink {
     piece: usize,
     failure: Failure,
     failures: u32,
+    calls: u32,
+    most: usize,
 }
 
 impl Sink {
+    /// Takes all.
+    pub fn ample(alloc: Global) -> Sink {
+        Sink::new(alloc, usize::MAX, usize::MAX, Failure::TakesNothing)
+    }
+
     /// Takes `room` bytes in pieces, and then fails in this way.
     pub fn new(alloc: Global, room: usize, piece: usize, failure: Failure) -> Sink {
         Sink {
@@ -33,6 +40,8 @@ impl Sink {
             piece,
             failure,
             failures: 0,
+            calls: 0,
+            most: 0,
         }
     }
 
@@ -45,10 +54,17 @@ impl Sink {
     pub fn failures(&self) -> u32 {
         self.failures
     }
+
+    /// How often it was written to, and the most bytes that it was given at once.
+    pub fn calls(&self) -> (u32, usize) {
+        (self.calls, self.most)
+    }
 }
 
 impl Write for Sink {
     fn write(&mut self, buf: &[u8]) -> io::Result<usize> {
+        self.calls = self.calls.saturating_add(1);
+        self.most = self.most.max(buf.len());
         if self.room == 0 {
             self.failures = self.failures.saturating_add(1);
             return match self.failure {

@@ -25,6 +25,16 @@ impl<'a> Source<'a> {
         }
     }
 
+    /// Gives this text at once.
+    pub fn whole(text: &'a str) -> Source<'a> {
+        Source::new(text.as_bytes(), usize::MAX, None)
+    }
+
+    /// How many bytes it has not given.
+    pub fn left(&self) -> usize {
+        self.left.len()
+    }
+
     /// How often it was read.
     pub fn calls(&self) -> u32 {
         self.calls

@@ -9,9 +9,12 @@ const WORN_OUT: u64 = 18446744073709535232;
 
 /// Whether each step of these, from the word before it, is as it has to be.
 fn are_steps(steps: &[(u64, ChanOp, WordStep)]) -> bool {
-    steps
-        .iter()
-        .all(|(before, op, step)| advance(*before, *op) == *step)
+    for (before, op, step) in steps {
+        if advance(*before, *op) != *step {
+            return false;
+        }
+    }
+    true
 }
 
 #[test]

@@ -29,24 +29,14 @@ const DECK_FAULTS: [(DeckCode, u32, &str); 9] = [
     (DeckCode::Memory, 0, "deck fault 9 at line 0"),
 ];
 
-/// Whether a fault of a deck has this text, alone and as a fault of its text.
-fn tells_deck(alloc: Global, fault: DeckFault, text: &str) -> bool {
-    tells(alloc, &fault, text) && tells(alloc, &TextFault::Deck(fault), text)
-}
-
+/// Alone, and as faults of their text.
 #[test]
 fn deck_faults(rt: HostRuntime) {
     for &(code, line, text) in &DECK_FAULTS {
-        assert!(rt;
-            tells_deck(rt.alloc(), DeckFault { line, code }, text),
-            "{text}"
-        );
+        let fault = DeckFault { line, code };
+        assert!(rt; tells(rt.alloc(), &fault, text), "{text}");
+        assert!(rt; tells(rt.alloc(), &TextFault::Deck(fault), text), "{text}");
     }
-}
-
-/// The same of a fault of a command line.
-fn tells_line(alloc: Global, fault: LineFault, text: &str) -> bool {
-    tells(alloc, &fault, text)
 }
 
 /// What a drawing of too many turns is answered.
@@ -62,10 +52,10 @@ fn other_faults(rt: HostRuntime) {
             && tells(alloc, &TextFault::Memory, "out of memory")
             && tells(alloc, &TextFault::Write, "write fault")
             && tells(alloc, &TextFault::Findings, "something is found")
-            && tells_line(alloc, LineFault::Memory, "out of memory")
-            && tells_line(alloc, LineFault::Number, "number out of range")
-            && tells_line(alloc, LineFault::Picture, PICTURE)
-            && tells_line(alloc, LineFault::Forms, FORMS)
+            && tells(alloc, &LineFault::Memory, "out of memory")
+            && tells(alloc, &LineFault::Number, "number out of range")
+            && tells(alloc, &LineFault::Picture, PICTURE)
+            && tells(alloc, &LineFault::Forms, FORMS)
             && tells(alloc, &RunFault::Memory, "out of memory")
             && tells(alloc, &CentralFault::Memory, "out of memory")
             && tells(alloc, &CentralFault::BadSize, "central size out of range")

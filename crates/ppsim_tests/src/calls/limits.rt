@@ -1,10 +1,12 @@
 //! A run with everything at its limit: the longest deck, the largest central memory and the most
-//! turns.
+//! turns. And decks in which one line loads a whole memory.
 
-use super::large::text_of;
-use pp_machine::Profile;
+use crate::loaded::loaded;
+use pp_machine::{Machine, Profile};
 use pp_sim::barrel_text;
+use pp_word::{Word18, Word60};
 use std::alloc::Global;
+use test_bench::{first, word};
 
 /// Five pairs on channels 0 to 4: one puts 99,968 words (decimal), the other takes them.
 const FRONT: &str = "\
@@ -83,9 +85,36 @@ fn runs(alloc: Global, mut deck: &[u8]) -> bool {
 /// The deck is filled up with spaces.
 #[test]
 fn everything_at_its_limit(rt: HostRuntime) {
-    let is_right = match text_of(rt.alloc(), (FRONT.as_bytes(), b" ", b"", LONGEST)) {
-        Some(deck) => runs(rt.alloc(), &deck),
-        None => false,
-    };
-    assert!(rt; is_right);
+    let spaces = " ".repeat(rt.alloc(), LONGEST.saturating_sub(FRONT.len()));
+    let spaces = spaces.expect(&rt, "spaces");
+    let deck = format!(in rt.alloc(); "{FRONT}{spaces}").expect(&rt, "a deck");
+    assert!(rt; deck.len() == LONGEST && runs(rt.alloc(), deck.as_bytes()));
+}
+
+/// How many places of processor 0 hold 1, and how many central words.
+fn ones(machine: &Machine<Global>) -> (u32, u32) {
+    let (mut places, mut words) = (0u32, 0u32);
+    for place in 0..4096u16 {
+        let is_one = machine.pp(first()).get(word(place)) == word(1);
+        places = places.saturating_add(u32::from(is_one));
+    }
+    for address in 0..131_072u32 {
+        let held = machine.central().read(Word18::truncated(address));
+        words = words.saturating_add(u32::from(held == Some(Word60::truncated(1))));
+    }
+    (places, words)
+}
+
+/// One line that sets every place of a processor, and one that sets every central word.
+#[test]
+fn whole_memories(rt: HostRuntime) {
+    for &(front, count, expected) in &[
+        ("PP 0\n0 ", 4096, (4096, 0)),
+        ("CENTRAL 400000\nCM 0 ", 131_072, (0, 131_072)),
+    ] {
+        let line = "1 ".repeat(rt.alloc(), count).expect(&rt, "ones");
+        let deck = format!(in rt.alloc(); "{front}{line}").expect(&rt, "a deck");
+        let machine = loaded(&rt, rt.alloc(), Profile::Ten, &deck);
+        assert!(rt; ones(&machine) == expected);
+    }
 }

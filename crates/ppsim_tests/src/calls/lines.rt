@@ -4,14 +4,18 @@ ghost use Rattle.std.specs.Prelude.{◌≡◌, IfSome};
 
 use pp_channel::{ChanOp, ChannelNo, Event, Numbered, Reply, Seen};
 use pp_line::{Entry, Line, open_lines};
-use std::alloc::Global;
+use std::alloc::{Allocator, Global};
 use test_bench::{EMPTY, FULL, INACTIVE, numbered, word};
 
 /// A call, and the answer that it has to have.
-type Call = (ChanOp, Numbered);
+pub(crate) type Call = (ChanOp, Numbered);
 
 /// Whether calls on a channel have the answers that they have to have.
-fn answers(line: &mut Line<Global>, channel: ChannelNo, calls: &[Call]) -> bool
+pub(crate) fn answers<A: Allocator + Copy>(
+    line: &mut Line<A>,
+    channel: ChannelNo,
+    calls: &[Call],
+) -> bool
     ensures shares { line.new.view.shares ≡ line.old.view.shares }
     ensures whole { line.new.view.whole ≡ line.old.view.whole }
     ensures table { line.new.table ≡ line.old.table }
@@ -24,7 +28,7 @@ fn answers(line: &mut Line<Global>, channel: ChannelNo, calls: &[Call]) -> bool
     true
 }
 
-fn entry(channel: ChannelNo, number: u64, what: Seen) -> Entry {
+pub(crate) fn entry(channel: ChannelNo, number: u64, what: Seen) -> Entry {
     Entry {
         channel,
         number,
@@ -32,17 +36,16 @@ fn entry(channel: ChannelNo, number: u64, what: Seen) -> Entry {
     }
 }
 
-/// Whether a line has this log, this room, `seen` events seen, and `shares` shares.
-fn is_line(
-    line: &Line<Global>,
+/// Whether a line has this log, and this room, so many events of a channel seen, so many shares,
+/// and whether it keeps its last look.
+pub(crate) fn is_line<A: Allocator + Copy>(
+    line: &Line<A>,
     channel: ChannelNo,
     log: &[Entry],
-    (room, seen, shares): (u32, u64, u32),
+    shown: (u32, u64, u32, bool),
 ) -> bool {
-    line.log() == log
-        && line.room() == room
-        && line.seen(channel) == seen
-        && line.shares() == shares
+    let seen = line.seen(channel);
+    line.log() == log && (line.room(), seen, line.shares(), line.kept()) == shown
 }
 
 /// A line makes the first of these calls, and is split. Then its child makes calls, then the line,
@@ -91,7 +94,7 @@ fn closes_with(line: Line<Global>, used: usize, events: &[Event]) -> bool
 }
 
 /// Two events, a look, and a put that is held.
-fn opening() -> [Call; 4] {
+pub(crate) fn opening() -> [Call; 4] {
     [
         (ChanOp::Activate, numbered(Reply::Done, 0)),
         (ChanOp::Put(word(1)), numbered(Reply::Done, 1)),
@@ -105,7 +108,7 @@ fn logs(alloc: Global, channel: ChannelNo, calls: &[Call], log: &[Entry]) -> boo
     let Ok(mut line) = open_lines(alloc, 8, 2) else {
         return false;
     };
-    answers(&mut line, channel, calls) && is_line(&line, channel, log, (5, 2, 2))
+    answers(&mut line, channel, calls) && is_line(&line, channel, log, (5, 2, 2, false))
 }
 
 #[test]
@@ -149,11 +152,6 @@ fn is_far(alloc: Global) -> bool {
         && closes_with(line, 23, &[Event::Activate])
 }
 
-#[test]
-fn far_channel(rt: HostRuntime) {
-    assert!(rt; is_far(rt.alloc()));
-}
-
 /// The line's own entries stand before those of its child.
 #[test]
 fn split_lines(rt: HostRuntime) {
@@ -177,7 +175,7 @@ fn split_lines(rt: HostRuntime) {
         entry(five, 1, Seen::Did(Event::Disconnect)),
     ];
     let is_right = match joined(rt.alloc(), five, &before, &by_child, &by_line) {
-        Some(line) => is_line(&line, five, &log, (4, 4, 2)),
+        Some(line) => is_line(&line, five, &log, (4, 4, 2, true)),
         None => false,
     };
     assert!(rt; is_right);
@@ -196,12 +194,7 @@ fn keeps_look(alloc: Global, channel: ChannelNo) -> bool {
     is_answered
         && line.kept()
         && answers(&mut line, channel, &[probe])
-        && is_line(&line, channel, &[look; 2], (6, 0, 1))
-}
-
-#[test]
-fn kept_look(rt: HostRuntime) {
-    assert!(rt; keeps_look(rt.alloc(), ChannelNo::at(5)));
+        && is_line(&line, channel, &[look; 2], (6, 0, 1, false))
 }
 
 /// Whether two lines of one table answer in turn: what one did the other meets at its next call.
@@ -231,6 +224,8 @@ fn split_in_turn(alloc: Global, channel: ChannelNo) -> bool {
 }
 
 #[test]
-fn other_line(rt: HostRuntime) {
-    assert!(rt; split_in_turn(rt.alloc(), ChannelNo::at(5)));
+fn lines_alone_and_in_turn(rt: HostRuntime) {
+    let five = ChannelNo::at(5);
+    assert!(rt; is_far(rt.alloc()) && keeps_look(rt.alloc(), five));
+    assert!(rt; split_in_turn(rt.alloc(), five));
 }

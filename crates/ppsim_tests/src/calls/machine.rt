@@ -1,10 +1,11 @@
 //! The machine by calls: worked programs, and every word as an instruction.
 
+use crate::loaded::loaded;
 use pp_channel::{ChannelNo, Event};
 use pp_machine::{Machine, Outcome, PpNo, PpState, Profile, Trace};
 use pp_word::Word18;
 use std::alloc::Global;
-use test_bench::{HANDOFF_PAIR, first, put_words, word};
+use test_bench::{HANDOFF, first, put_words, word};
 
 fn entry(turn: u64, pp: PpNo, channel: ChannelNo, event: Event) -> Trace {
     Trace {
@@ -15,7 +16,7 @@ fn entry(turn: u64, pp: PpNo, channel: ChannelNo, event: Event) -> Trace {
     }
 }
 
-/// The entries of `HANDOFF_PAIR`, at these turns.
+/// The entries of `HANDOFF`, at these turns.
 fn entries(channel: ChannelNo, turns: [u64; 3]) -> [Trace; 3] {
     let (zero, one) = (first(), first().next());
     [
@@ -32,7 +33,7 @@ fn stops(machine: &mut Machine<Global>, n: PpNo) -> bool {
         && machine.step(n) == Ok(Outcome::AtRest)
 }
 
-/// Whether `HANDOFF_PAIR` goes as it should in a list of turns and two steps after it.
+/// Whether `HANDOFF` goes as it should in a list of turns and two steps after it.
 fn goes_by_turns(machine: &mut Machine<Global>) -> bool {
     let (zero, one) = (first(), first().next());
     let (four, five) = (ChannelNo::at(4), ChannelNo::at(5));
@@ -49,11 +50,8 @@ fn goes_by_turns(machine: &mut Machine<Global>) -> bool {
 #[test]
 fn turn_list(rt: HostRuntime) {
     for profile in &[Profile::Ten, Profile::Twenty] {
-        let is_right = match HANDOFF_PAIR.machine(rt.alloc(), *profile) {
-            Ok(mut machine) => goes_by_turns(&mut machine),
-            Err(_) => false,
-        };
-        assert!(rt; is_right);
+        let mut machine = loaded(&rt, rt.alloc(), *profile, HANDOFF);
+        assert!(rt; goes_by_turns(&mut machine));
     }
 }
 

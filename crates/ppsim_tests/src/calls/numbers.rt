@@ -19,16 +19,26 @@ const NUMBERS_OF_CHANNELS: [u8; 24] = [
 /// The number and the place that a processor or channel of this number has to have, if it is one of
 /// these.
 fn expected(numbers: &[u8], number: u8) -> Option<(u8, usize)> {
-    let place = numbers.iter().position(|named| *named == number)?;
-    Some((number, place))
+    for (place, named) in numbers.iter().enumerate() {
+        if *named == number {
+            return Some((number, place));
+        }
+    }
+    None
 }
 
 fn shown_processor(processor: Option<PpNo>) -> Option<(u8, usize)> {
-    processor.map(|n| (n.get(), n.index()))
+    match processor {
+        Some(n) => Some((n.get(), n.index())),
+        None => None,
+    }
 }
 
 fn shown_channel(channel: Option<ChannelNo>) -> Option<(u8, usize)> {
-    channel.map(|c| (c.get(), c.index()))
+    match channel {
+        Some(c) => Some((c.get(), c.index())),
+        None => None,
+    }
 }
 
 /// The first number that is taken for another processor or channel than those of these lists, or
@@ -65,17 +75,6 @@ fn wrong_place() -> Option<usize> {
     if n == first() { None } else { Some(PROCESSORS) }
 }
 
-#[test]
-fn numbers_of_all(rt: HostRuntime) {
-    let (processors, channels) = (&NUMBERS_OF_PROCESSORS, &NUMBERS_OF_CHANNELS);
-    assert!(rt;
-        PROCESSORS == 20
-            && CHANNELS == 24
-            && wrong_number(None, processors, channels).is_none()
-            && wrong_place().is_none()
-    );
-}
-
 /// Whether a profile has exactly these processors and channels, at the places that they have in the
 /// greater one.
 fn has_numbers(profile: Profile, processors: &[u8], channels: &[u8]) -> bool {
@@ -85,8 +84,10 @@ fn has_numbers(profile: Profile, processors: &[u8], channels: &[u8]) -> bool {
 }
 
 #[test]
-fn numbers_of_each_profile(rt: HostRuntime) {
+fn numbers_of_all_and_of_each_profile(rt: HostRuntime) {
     let (processors, channels) = (&NUMBERS_OF_PROCESSORS, &NUMBERS_OF_CHANNELS);
+    assert!(rt; PROCESSORS == 20 && CHANNELS == 24 && wrong_place().is_none());
+    assert!(rt; wrong_number(None, processors, channels).is_none());
     assert!(rt; has_numbers(Profile::Ten, &processors[..10], &channels[..12]));
     assert!(rt; has_numbers(Profile::Twenty, processors, channels));
 }

@@ -40,12 +40,6 @@ fn waits_for_a_load(profile: Profile, last: ChannelNo) -> bool {
         && pp.wants() == Need::Channel(last, ChanOp::Take)
 }
 
-#[test]
-fn a_processor_waits_for_a_load(rt: HostRuntime) {
-    assert!(rt; waits_for_a_load(Profile::Ten, ChannelNo::at(11)));
-    assert!(rt; waits_for_a_load(Profile::Twenty, ChannelNo::at(23)));
-}
-
 /// Whether IAN takes a word once there is one, and no answer that is not its own.
 fn takes_a_word(profile: Profile) -> bool {
     let answers = [
@@ -63,8 +57,10 @@ fn takes_a_word(profile: Profile) -> bool {
 }
 
 #[test]
-fn input_then_stop(rt: HostRuntime) {
-    assert!(rt; takes_a_word(Profile::Ten) && takes_a_word(Profile::Twenty));
+fn waits_and_takes_a_word(rt: HostRuntime) {
+    for (profile, last) in [(Profile::Ten, 11), (Profile::Twenty, 23)] {
+        assert!(rt; waits_for_a_load(profile, ChannelNo::at(last)) && takes_a_word(profile));
+    }
 }
 
 /// Whether a block begins in a processor's next step.

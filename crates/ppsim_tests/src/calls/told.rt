@@ -53,7 +53,7 @@ pub(crate) fn first_unlawful(lines: &[Told], form: Form) -> Option<usize> {
         let stand = stands.get_mut(line.place)?;
         let number = numbers.get_mut(line.place)?;
         let in_order = match form {
-            Form::ByTurn => turn_before.is_none_or(|before| before < line.turn),
+            Form::ByTurn => turn_before < Some(line.turn),
             Form::ByNumber => *number == line.number,
         };
         let Some(next) = after(*stand, &line.event) else {

@@ -14,12 +14,6 @@ fn has_squares<A: Allocator>(rt: &impl Abort, alloc: A) -> bool {
     squares.len() == 100 && squares.last() == Some(&9801)
 }
 
-#[test]
-fn refuses_nothing_until_armed(rt: HostRuntime) {
-    let heap = Rationed::new(rt.alloc());
-    assert!(rt; has_squares(&rt, &heap) && heap.asked() > 0 && !heap.has_refused());
-}
-
 /// Whether a request is refused.
 fn is_refused<A: Allocator>(alloc: A) -> bool {
     Box::new(alloc, 5u8).is_err()
@@ -69,11 +63,6 @@ fn counts(heap: &Rationed<Global>) -> bool {
     is_granted && begin == 0 && end == 3 && heap.asked() == 0
 }
 
-#[test]
-fn counts_requests_and_no_returns(rt: HostRuntime) {
-    assert!(rt; counts(&Rationed::new(rt.alloc())));
-}
-
 /// Whether a request is made of the inner allocator too, but for one that is refused.
 fn asks_inner(inner: &Rationed<Global>) -> bool {
     let outer = Rationed::new(inner);
@@ -85,9 +74,13 @@ fn asks_inner(inner: &Rationed<Global>) -> bool {
     is_passed_on && is_refused_here && is_refused_there && outer.asked() == 2
 }
 
+/// It refuses nothing until it is armed, counts requests, and passes them on.
 #[test]
-fn asks_the_inner_allocator(rt: HostRuntime) {
-    assert!(rt; asks_inner(&Rationed::new(rt.alloc())));
+fn counts_and_asks_the_inner_allocator(rt: HostRuntime) {
+    let heap = Rationed::new(rt.alloc());
+    assert!(rt; has_squares(&rt, &heap) && heap.asked() > 0 && !heap.has_refused());
+    heap.refuse(0);
+    assert!(rt; counts(&heap) && asks_inner(&heap));
 }
 
 /// Whether requests of two threads are answered. The blocks are given back in this thread,

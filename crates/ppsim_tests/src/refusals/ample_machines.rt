@@ -1,11 +1,12 @@
 //! Central memories of every kind of size, and late events, over an allocator that counts the
 //! requests and refuses none: so none may be out of memory. And the numbers of the faults.
 
+use crate::loaded::loaded;
 use pp_machine::{Central, Machine, Profile};
 use pp_word::{Word18, Word60};
 use std::alloc::{Allocator, Global};
 use std::process::Abort;
-use test_bench::{Pair, Rationed, first};
+use test_bench::{Rationed, first};
 
 /// Whether the last word of a central memory holds what is put there, and none comes after it.
 fn holds_its_last_word<A: Allocator>(central: &mut Central<A>, size: u32) -> bool {
@@ -64,7 +65,10 @@ fn sizes(rt: HostRuntime) {
 /// refused.
 fn fault_number(heap: &Rationed<Global>, size: u32, number: u64) -> Option<u8> {
     heap.refuse(number);
-    Central::new(heap, size).err().map(|fault| fault as u8)
+    match Central::new(heap, size) {
+        Ok(_) => None,
+        Err(fault) => Some(fault as u8),
+    }
 }
 
 #[test]
@@ -81,10 +85,7 @@ fn numbers_of_faults(rt: HostRuntime) {
 }
 
 /// PP 0 counts down from 177777 (octal), and then makes a function code on channel 3 and stops.
-const LATE: Pair = Pair {
-    zero: &[0o2017, 0o7777, 0o1701, 0o0576, 0o7603, 0o0300],
-    one: &[],
-};
+const LATE: &str = "PP 0\n0100 2017 7777 1701 0576 7603 0300\nSTART 0100\n";
 
 /// Whether the first event of `turns` turns comes in turn `late`, and PP 0 is past it then.
 fn is_late<A: Allocator>(machine: &mut Machine<A>, turns: u32, late: u64) -> bool {
@@ -101,7 +102,7 @@ fn has_late_event<A: Allocator + Copy>(
     alloc: A,
     (profile, turns, late): (Profile, u32, u64),
 ) -> bool {
-    let mut machine = LATE.machine(alloc, profile).expect(rt, "a machine");
+    let mut machine = loaded(rt, alloc, profile, LATE);
     is_late(&mut machine, turns, late)
 }
 

@@ -59,7 +59,7 @@ fn events() -> [Event; 6] {
 }
 
 /// Nothing if a request is refused and the channel goes on as it should; else whether it does.
-fn operations_refused(heap: &Rationed<Global>) -> Option<bool> {
+pub(crate) fn operations_refused(heap: &Rationed<Global>) -> Option<bool> {
     let events = events();
     let mut channel = Channel::new(heap);
     for (op, reply) in &operations() {
@@ -69,13 +69,6 @@ fn operations_refused(heap: &Rationed<Global>) -> Option<bool> {
         }
     }
     unless_refused(channel.history() == events.as_slice(), heap.has_refused())
-}
-
-#[test]
-fn act_refused(rt: HostRuntime) {
-    let heap = Rationed::new(rt.alloc());
-    let last = heap.refuse_each(|_| operations_refused(&heap));
-    assert!(rt; last > Some(2), "the history grows more than once");
 }
 
 /// Whether a channel is at its second word of a session: Activate, Put 0005.

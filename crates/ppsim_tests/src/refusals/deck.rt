@@ -8,7 +8,8 @@ use pp_word::{Word12, Word18, Word60};
 use std::alloc::{Allocator, Global};
 use test_bench::{Rationed, first};
 
-const DECK: &[u8] = b"CENTRAL 7\nCM 5 00010002000300040005\nPP 1\n0200 7005 0300\nSTART 0200\n";
+pub(crate) const DECK: &str =
+    "CENTRAL 7\nCM 5 00010002000300040005\nPP 1\n0200 7005 0300\nSTART 0200\n";
 
 /// Whether this is the deck, by what it loads and names.
 fn is_loaded<A: Allocator>(deck: &Deck<A>) -> bool {
@@ -28,8 +29,8 @@ const NO_MEMORY: DeckFault = DeckFault {
 };
 
 /// PP 0 has a program, and the nine others, or nineteen, wait for theirs.
-const DEAD_START: &[u8] =
-    b"DEAD\nPP 0\n0100 1403 7301 0200 6601 0103 7501 0300\n0200 0000 1405 0300\nSTART 0100\n";
+pub(crate) const DEAD_START: &str =
+    "DEAD\nPP 0\n0100 1403 7301 0200 6601 0103 7501 0300\n0200 0000 1405 0300\nSTART 0100\n";
 
 /// How many channels dead start opened.
 fn opened_in<A: Allocator>(machine: &Machine<A>) -> u64 {
@@ -53,28 +54,16 @@ fn is_dead_started<A: Allocator>(deck: &Deck<A>, opened: u64) -> bool {
 
 /// Nothing if one of both decks is refused for lack of memory; else whether it is loaded, `DECK` if
 /// no channel is to be open.
-fn load<A: Allocator + Copy>(alloc: A, profile: Profile, text: &[u8], opened: u64) -> Option<bool> {
-    match read_deck(alloc, profile, text) {
+pub(crate) fn load<A: Allocator + Copy>(
+    alloc: A,
+    profile: Profile,
+    text: &str,
+    opened: u64,
+) -> Option<bool> {
+    match read_deck(alloc, profile, text.as_bytes()) {
         Ok(deck) if opened == 0 => Some(is_loaded(&deck)),
         Ok(deck) => Some(is_dead_started(&deck, opened)),
         Err(fault) => unless_refused(fault == NO_MEMORY, true),
-    }
-}
-
-#[test]
-fn deck_refused(rt: HostRuntime) {
-    let heap = Rationed::new(rt.alloc());
-    for (profile, text, opened, least) in [
-        (Profile::Ten, DECK, 0, 1),
-        (Profile::Twenty, DECK, 0, 1),
-        (Profile::Ten, DEAD_START, 9, 9),
-        (Profile::Twenty, DEAD_START, 19, 19),
-    ] {
-        let last = heap.refuse_each(|_| load(&heap, profile, text, opened));
-        assert!(rt;
-            last > Some(least),
-            "a machine grows, and each channel that is open"
-        );
     }
 }
 

@@ -77,7 +77,7 @@ fn act_behind_lock<R: Wait + Abort, A: Allocator>(
 
 /// Operations of which a request may be refused, and then those that are left. Nothing if one is
 /// refused and the channel is as it should be before and after these; else whether it is.
-fn operations_refused<R: AllocGlobal + Wait + Abort, A: Allocator>(
+pub(crate) fn operations_refused<R: AllocGlobal + Wait + Abort, A: Allocator>(
     rt: &R,
     heap: &Rationed<Global>,
     alloc: A,
@@ -89,13 +89,6 @@ fn operations_refused<R: AllocGlobal + Wait + Abort, A: Allocator>(
     let (_, left) = act_behind_lock(rt, heap, channel, &mut kept, rest);
     let is_done = left == rest.len() && kept.history().len() == 5;
     unless_refused(is_done, heap.has_refused())
-}
-
-#[test]
-fn locked_act_refused(rt: HostRuntime) {
-    let heap = Rationed::new(rt.alloc());
-    let last = heap.refuse_each(|_| operations_refused(&rt, &heap, &heap));
-    assert!(rt; last > Some(2), "the history grows more than once");
 }
 
 /// Whether operations behind a lock have these answers.

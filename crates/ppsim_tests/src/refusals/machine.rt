@@ -3,64 +3,27 @@
 ghost use Rattle.std.specs.Prelude.{◌≡◌, IfOk};
 ghost use Rattle.pp_machine.specs.DeadStart.{IsBeforeFirstTurn};
 
+use crate::loaded::loaded;
+use crate::refusals::barrel::run_barrel_cut;
 use crate::refusals::refusal::unless_refused;
 use pp_channel::{CHANNELS, ChannelNo, Memory};
 use pp_machine::{Central, CentralFault, Machine, Outcome, PROCESSORS, Pp, PpNo, Profile};
 use std::alloc::{Allocator, Global};
 use std::process::Abort;
-use test_bench::{HANDOFF_PAIR, Pair, Rationed, first, put_program, word};
+use test_bench::{Rationed, first, put_program, waiting, word};
 
 /// PP 1 activates channel 5 and disconnects it, again and again; PP 0 is held.
-pub(crate) const FLAPPING: Pair = Pair {
-    zero: &[0o7005, 0o0300],
-    one: &[0o7405, 0o7505, 0o0375],
-};
+pub(crate) const FLAPPING: &str = "\
+PP 0
+0100 7005 0300
+START 0100
+PP 1
+0200 7405 7505 0375
+START 0200
+";
 
 /// A machine over an allocator that refuses a request.
 pub(crate) type RationedMachine<'a> = Machine<&'a Rationed<Global>>;
-
-/// Such a machine, and its twin in ample memory.
-pub(crate) type Twins<'a> = (RationedMachine<'a>, Machine<Global>);
-
-/// Puts a program into a processor's memory and starts it there.
-fn put<A: Allocator>(machine: &mut Machine<A>, n: PpNo, place: u16, words: &[u16])
-    requires { IsBeforeFirstTurn machine.old }
-    ensures fresh { IsBeforeFirstTurn machine.new }
-    ensures profile { machine.new.profile ≡ machine.old.profile }
-{
-    put_program(machine.pp_mut(n), place, words);
-}
-
-/// A machine with two programs started, on which no turn was taken.
-fn before_first_turn<A: Allocator + Copy>(
-    programs: Pair,
-    alloc: A,
-    profile: Profile,
-) -> Result<Machine<A>, CentralFault>
-    ensures fresh { IfOk result (λ machine. IsBeforeFirstTurn machine) }
-    ensures profile { IfOk result (λ machine. machine.profile ≡ profile) }
-{
-    let mut machine = Machine::new(alloc, profile, 0o10000)?;
-    put(&mut machine, first(), 0o100, programs.zero);
-    put(&mut machine, first().next(), 0o200, programs.one);
-    Ok(machine)
-}
-
-/// Two such machines, the first over an allocator that refuses nothing yet.
-pub(crate) fn twins<'a, R: AllocGlobal + Abort>(
-    rt: &R,
-    heap: &'a Rationed<Global>,
-    profile: Profile,
-    programs: Pair,
-) -> Twins<'a>
-    ensures fresh { IsBeforeFirstTurn result.0 × IsBeforeFirstTurn result.1 }
-    ensures profile { (result.0.profile ≡ profile) × (result.1.profile ≡ profile) }
-{
-    heap.refuse(0);
-    let machine = before_first_turn(programs, heap, profile);
-    let twin = before_first_turn(programs, rt.alloc(), profile);
-    (machine.expect(rt, "a machine"), twin.expect(rt, "a twin"))
-}
 
 /// Whether two processors show the same.
 pub(crate) fn is_same(one: &Pp, other: &Pp) -> bool {
@@ -164,10 +127,15 @@ fn step_both(
     }
 }
 
-/// The steps of `HANDOFF_PAIR`, with their outcomes.
-fn steps() -> [(PpNo, Outcome); 7] {
+/// Nothing if the steps of `HANDOFF` are made although a request is refused, with their outcomes;
+/// else whether they are made.
+fn take_steps(
+    heap: &Rationed<Global>,
+    machine: &mut RationedMachine,
+    twin: &mut Machine<Global>,
+) -> Option<bool> {
     let (zero, one) = (first(), first().next());
-    [
+    for (n, outcome) in [
         (one, Outcome::Held),
         (zero, Outcome::Moved),
         (zero, Outcome::Moved),
@@ -175,16 +143,7 @@ fn steps() -> [(PpNo, Outcome); 7] {
         (one, Outcome::Moved),
         (zero, Outcome::Moved),
         (zero, Outcome::AtRest),
-    ]
-}
-
-/// Nothing if these steps are made although a request is refused; else whether they are made.
-fn take_steps(
-    heap: &Rationed<Global>,
-    machine: &mut RationedMachine,
-    twin: &mut Machine<Global>,
-) -> Option<bool> {
-    for (n, outcome) in steps() {
+    ] {
         if step_both(heap, machine, twin, n) != Some(outcome) {
             return Some(false);
         }
@@ -217,7 +176,10 @@ fn run_cut(
 ) -> Option<bool> {
     let cut = machine.run_turns(turns).err();
     let refused = heap.has_refused();
-    let done = cut.map_or(turns.len(), |cut| cut.done as usize);
+    let done = match &cut {
+        Some(cut) => cut.done as usize,
+        None => turns.len(),
+    };
     let Some((made, left)) = turns.split_at_checked(done) else {
         return Some(false);
     };
@@ -225,7 +187,22 @@ fn run_cut(
     unless_refused(is_cut && go_on_alike(machine, twin, made, left), refused)
 }
 
-/// Whether a run of 600 turns asks for no memory, and does what the other's does.
+/// How many events each channel has after 600 turns of `FLAPPING`.
+const EVENTS: [usize; CHANNELS] = [
+    0, 0, 0, 0, 0, 40, 0, 0, 0, 0, 0, 0, 0, 0, 0, 0, 0, 0, 0, 0, 0, 0, 0, 0,
+];
+
+/// Whether a machine has had so many events, as it counts them and as its histories have them.
+fn has_events(machine: &Machine<Global>) -> bool {
+    for (place, count) in EVENTS.iter().enumerate() {
+        if place >= CHANNELS || machine.channel(ChannelNo::at(place)).history().len() != *count {
+            return false;
+        }
+    }
+    machine.event_counts() == EVENTS && machine.events().len() == 40
+}
+
+/// Whether a run of 600 turns of `FLAPPING` asks for no memory, and does what the other's does.
 fn runs_in_room(
     heap: &Rationed<Global>,
     machine: &mut RationedMachine,
@@ -235,32 +212,45 @@ fn runs_in_room(
     let is_run = machine.run_barrel(600).is_ok();
     let is_asked = heap.asked() > 0;
     heap.refuse(0);
-    is_run && !is_asked && twin.run_barrel(600).is_ok() && are_same(machine, twin)
+    is_run
+        && !is_asked
+        && twin.run_barrel(600).is_ok()
+        && are_same(machine, twin)
+        && has_events(twin)
 }
 
-/// Makes room for the events of a run, of which a request may be refused: then the machine is as it
-/// was. Once there is room, the run asks for nothing. This says whether the request was made, and
-/// nothing if anything else happened.
+/// Makes room for these events, of which a request may be refused: then the machine is as it was.
+/// Once there is room, the run asks for nothing. Nothing if it is so and the request was made; else
+/// whether it is so.
 fn make_room(
     heap: &Rationed<Global>,
     machine: &mut RationedMachine,
     twin: &mut Machine<Global>,
-    counts: &[usize; CHANNELS],
 ) -> Option<bool> {
-    let is_made = machine.reserve(counts).is_ok();
+    let is_made = machine.reserve(&EVENTS).is_ok();
     let is_refused = heap.has_refused();
     heap.refuse(0);
     let is_kept = is_made != is_refused && are_same(machine, twin);
-    let has_room = is_made || machine.reserve(counts).is_ok();
-    (is_kept && has_room && runs_in_room(heap, machine, twin)).then_some(is_refused)
+    let has_room = is_made || machine.reserve(&EVENTS).is_ok();
+    unless_refused(
+        is_kept && has_room && runs_in_room(heap, machine, twin),
+        is_refused,
+    )
 }
 
 /// What a machine does while a request may be refused.
 #[derive(Clone, Copy)]
-enum Task<'a> {
+pub(crate) enum Task {
+    /// The steps of `HANDOFF`.
     Steps,
-    Turns(&'a [PpNo]),
-    Room(&'a [usize; CHANNELS]),
+    /// The same in a list of turns.
+    Turns,
+    /// Turns of `FLAPPING`'s processor that is not held.
+    Flaps,
+    /// Turns of the barrel.
+    Barrel(u32),
+    /// Room for the events of `FLAPPING`.
+    Room,
 }
 
 /// What is said of the task by the function for it.
@@ -270,65 +260,98 @@ fn perform(
     twin: &mut Machine<Global>,
     task: Task,
 ) -> Option<bool> {
+    let (zero, one) = (first(), first().next());
     match task {
         Task::Steps => take_steps(heap, machine, twin),
-        Task::Turns(turns) => run_cut(heap, machine, twin, turns),
-        Task::Room(counts) => make_room(heap, machine, twin, counts),
+        Task::Turns => run_cut(heap, machine, twin, &[one, zero, zero, zero, one]),
+        Task::Flaps => run_cut(heap, machine, twin, &[one; 60]),
+        Task::Barrel(turns) => run_barrel_cut(heap, machine, twin, turns),
+        Task::Room => make_room(heap, machine, twin),
     }
 }
 
-/// The same of a new machine and its twin, with this request refused.
-fn refused<R: AllocGlobal + Abort>(
+/// The same of the machine of a deck and its twin in ample memory, with this request refused.
+pub(crate) fn refused<R: AllocGlobal + Abort>(
     rt: &R,
     heap: &Rationed<Global>,
     profile: Profile,
-    programs: Pair,
+    deck: &str,
     task: Task,
     number: u64,
 ) -> Option<bool> {
-    let (mut machine, mut twin) = twins(rt, heap, profile, programs);
+    heap.refuse(0);
+    let mut machine = loaded(rt, heap, profile, deck);
+    let mut twin = loaded(rt, rt.alloc(), profile, deck);
     heap.refuse(number);
     perform(heap, &mut machine, &mut twin, task)
 }
 
-#[test]
-fn steps_refused(rt: HostRuntime) {
-    let heap = Rationed::new(rt.alloc());
-    let (zero, one) = (first(), first().next());
-    let (handoff, flapping) = ([one, zero, zero, zero, one], [one; 60]);
-    for profile in [Profile::Ten, Profile::Twenty] {
-        for (programs, task, least) in [
-            (HANDOFF_PAIR, Task::Steps, 2),
-            (HANDOFF_PAIR, Task::Turns(&handoff), 2),
-            (FLAPPING, Task::Turns(&flapping), 6),
-        ] {
-            let last = heap.refuse_each(|n| refused(&rt, &heap, profile, programs, task, n));
-            assert!(rt; last > Some(least), "the lists grow again and again");
-        }
-    }
-}
-
-/// How many events each channel has, more than 30 in all, as the machine counts them and as its
-/// histories have them.
-fn event_counts(machine: &Machine<Global>) -> Option<[usize; CHANNELS]> {
-    let counts = machine.event_counts();
-    for place in 0..CHANNELS {
-        if counts[place] != machine.channel(ChannelNo::at(place)).history().len() {
-            return None;
-        }
-    }
-    (machine.events().len() > 30).then_some(counts)
-}
-
+/// Making room makes two requests.
 #[test]
 fn no_request_with_room(rt: HostRuntime) {
-    let made = FLAPPING.machine(rt.alloc(), Profile::Ten);
-    let mut machine = made.expect(&rt, "a machine");
-    let is_run = machine.run_barrel(600).is_ok();
-    let counts = event_counts(&machine).expect(&rt, "counts");
     let heap = Rationed::new(rt.alloc());
-    for n in 1..10u64 {
-        let refused = refused(&rt, &heap, Profile::Ten, FLAPPING, Task::Room(&counts), n);
-        assert!(rt; is_run && refused == Some(n < 3));
+    for number in 1..10u64 {
+        let answer = refused(&rt, &heap, Profile::Ten, FLAPPING, Task::Room, number);
+        assert!(rt; answer == if number < 3 { None } else { Some(true) });
     }
+}
+
+/// Puts a program into a processor's memory and starts it there.
+fn put<A: Allocator>(machine: &mut Machine<A>, n: PpNo, place: u16, words: &[u16])
+    requires { IsBeforeFirstTurn machine.old }
+    ensures fresh { IsBeforeFirstTurn machine.new }
+    ensures profile { machine.new.profile ≡ machine.old.profile }
+{
+    put_program(machine.pp_mut(n), place, words);
+}
+
+/// A machine with the programs of `HANDOFF`, on which no turn was taken.
+fn before_first_turn<A: Allocator + Copy>(
+    alloc: A,
+    profile: Profile,
+) -> Result<Machine<A>, CentralFault>
+    ensures fresh { IfOk result (λ machine. IsBeforeFirstTurn machine) }
+    ensures profile { IfOk result (λ machine. machine.profile ≡ profile) }
+{
+    let mut machine = Machine::new(alloc, profile, 0o10000)?;
+    put(
+        &mut machine,
+        first(),
+        0o100,
+        &[0o7405, 0o1407, 0o7205, 0o0300],
+    );
+    put(&mut machine, first().next(), 0o200, &[0o7005, 0o0300]);
+    Ok(machine)
+}
+
+/// All processors but one are to wait, and a request may be refused: then the machine is as its
+/// twin, which was never started. Nothing if it is so and the request was made; else whether both
+/// wait alike.
+fn start_alike(
+    heap: &Rationed<Global>,
+    machine: &mut RationedMachine,
+    twin: &mut Machine<Global>,
+) -> Option<bool>
+    requires fresh { IsBeforeFirstTurn machine.old × IsBeforeFirstTurn twin.old }
+    requires profile { twin.old.profile ≡ machine.old.profile }
+{
+    let waiting = waiting(machine.profile(), 1..PROCESSORS);
+    let is_refused = machine.dead_start(&waiting).is_err();
+    let is_right = is_refused == heap.has_refused()
+        && (is_refused || twin.dead_start(&waiting).is_ok());
+    unless_refused(is_right && are_same(machine, twin), is_refused)
+}
+
+/// The same of new machines, with this request refused.
+pub(crate) fn dead_start_refused<R: AllocGlobal + Abort>(
+    rt: &R,
+    heap: &Rationed<Global>,
+    profile: Profile,
+    number: u64,
+) -> Option<bool> {
+    heap.refuse(0);
+    let mut machine = before_first_turn(heap, profile).expect(rt, "a machine");
+    let mut twin = before_first_turn(rt.alloc(), profile).expect(rt, "a twin");
+    heap.refuse(number);
+    start_alike(heap, &mut machine, &mut twin)
 }

@@ -46,7 +46,7 @@ fn has_events<A: Allocator>(
 }
 
 /// PP 0 sends one word to each of two processors that wait at dead start, and disconnects them.
-const DEAD_START: &str = "\
+pub(crate) const DEAD_START: &str = "\
 DEAD
 PP 0
 0100 1401 7301 0200 6601 0103 7501 1401 7302 0200 6602 0111 7502 0300
@@ -61,7 +61,7 @@ PP 11
 ";
 
 /// One of the further processors sends a block of four words to another, over the last channel.
-const FAR: &str = "\
+pub(crate) const FAR: &str = "\
 PP 20
 0100 7433 1404 7333 0200 0300
 0200 0011 0022 0033 0044
@@ -71,17 +71,9 @@ PP 31
 START 0100
 ";
 
-/// Decks, and for each the place of a channel that its run uses.
-const DECKS: [(Profile, &str, usize); 4] = [
-    (Profile::Ten, BLOCK, 5),
-    (Profile::Ten, DEAD_START, 1),
-    (Profile::Twenty, FAR, 23),
-    (Profile::Twenty, DEAD_START, 1),
-];
-
 /// Loads a deck and runs it. Nothing if the load or the run is refused memory, or some of the
 /// workers are, for which those that wait for them give up; else whether a channel has events.
-fn run_deck<R: Threads + Wait + Sync, G: Gate + Sync, A: Allocator + Copy + Send + Sync>(
+pub(crate) fn run_deck<R: Threads + Wait + Sync, G: Gate + Sync, A: Allocator + Copy + Send + Sync>(
     rt: &R,
     gate: &G,
     alloc: A,
@@ -104,19 +96,8 @@ fn run_deck<R: Threads + Wait + Sync, G: Gate + Sync, A: Allocator + Copy + Send
     has_events(&deck.machine, &report, channel)
 }
 
-/// Each deck is run with each request refused in turn, up to a run without a refusal.
-#[test]
-fn runs_refused(rt: HostRuntime) {
-    let heap = Rationed::new(rt.alloc());
-    for (profile, text, place) in DECKS {
-        let channel = ChannelNo::at(place);
-        let last = heap.refuse_each(|_| run_deck(&rt, &NoGate, &heap, profile, text, channel));
-        assert!(rt; last > Some(15), "lines, logs and answers grow");
-    }
-}
-
 /// Nothing if this request of central memory behind locks is refused; else whether it has its size.
-fn lock<A: Allocator + Copy>(
+pub(crate) fn lock<A: Allocator + Copy>(
     rt: &impl Abort,
     heap: &Rationed<Global>,
     alloc: A,
@@ -129,13 +110,6 @@ fn lock<A: Allocator + Copy>(
         Ok(locked) => Some(locked.size() == 0o41),
         Err(_) => None,
     }
-}
-
-#[test]
-fn locked_central_refused(rt: HostRuntime) {
-    let heap = Rationed::new(rt.alloc());
-    let last = heap.refuse_each(|number| lock(&rt, &heap, &heap, number));
-    assert!(rt; last > Some(32), "each bank grows");
 }
 
 #[test]

@@ -1,29 +1,39 @@
 //! Long runs and decks of odd sizes over an allocator that counts the requests and refuses none: so
 //! none may be out of memory.
 
+use super::runs::ending;
 use pp_machine::Profile;
-use pp_runner::Limits;
-use pp_sim::{barrel_text, read_deck, threads_text};
+use pp_sim::{barrel_text, read_deck};
 use std::alloc::{AllocError, Global};
 use std::fs::Files;
 use std::sync::Wait;
 use std::thread::Threads;
-use test_bench::{BLOCK, HANDOFF, HANDOFF_ON_TWENTY, HANDOFF_TEXT, LONG_PATIENCE, Rationed};
+use test_bench::{BLOCK, HANDOFF, HANDOFF_ON_TWENTY, HANDOFF_TEXT, Rationed};
 
 /// How many requests for memory a run with one thread per processor makes, as long as allowed, if
 /// it has this text after so many other bytes. Lines, logs, answers and text grow.
 pub(crate) fn requests_by_threads<R: AllocGlobal + Files + Threads + Wait + Sync>(
     rt: &R,
-    profile: Profile,
+    processors: &str,
     deck: &str,
     (before, text): (usize, &str),
 ) -> Option<u64> {
-    let limits = Limits::new(100_000, LONG_PATIENCE)?;
+    let words = [
+        "ppsim",
+        "threads",
+        "--steps",
+        "100000",
+        "--patience",
+        "4294967295",
+        "--processors",
+        processors,
+    ];
     let heap = Rationed::new(rt.alloc());
-    let (mut reader, mut writer) = (deck.as_bytes(), Vec::new(rt.alloc()));
-    let is_right = threads_text(rt, &heap, profile, &mut reader, &mut writer, limits).is_ok()
-        && writer.ends_with(text.as_bytes())
-        && writer.len() == before.saturating_add(text.len());
+    let ended = ending(rt, &heap, (&words, deck));
+    let output = ended.output.taken();
+    let is_right = ended.status == 0
+        && output.ends_with(text.as_bytes())
+        && output.len() == before.saturating_add(text.len());
     if is_right { Some(heap.asked()) } else { None }
 }
 
@@ -48,8 +58,8 @@ CH05 INACTIVE
 fn largest_central_memory_by_threads(rt: HostRuntime) {
     let is_right = match format!(in rt.alloc(); "CENTRAL 400000\n{BLOCK}") {
         Ok(deck) => {
-            requests_by_threads(&rt, Profile::Ten, &deck, (0, BLOCK_TEXT)) > Some(40)
-                && requests_by_threads(&rt, Profile::Twenty, &deck, (0, BLOCK_TEXT)) > Some(40)
+            requests_by_threads(&rt, "10", &deck, (0, BLOCK_TEXT)) > Some(40)
+                && requests_by_threads(&rt, "20", &deck, (0, BLOCK_TEXT)) > Some(40)
         }
         Err(_) => false,
     };
@@ -77,7 +87,7 @@ CH05 INACTIVE
 fn many_events_by_threads(rt: HostRuntime) {
     let events = 2 * (1562 * 63 + 32);
     let is_right = match deck_of_functions(rt.alloc()) {
-        Ok(deck) => { requests_by_threads(&rt, Profile::Ten, &deck, (events * 26, ENDS)).is_some() }
+        Ok(deck) => { requests_by_threads(&rt, "10", &deck, (events * 26, ENDS)).is_some() }
         Err(_) => false,
     };
     assert!(rt; is_right);
@@ -123,22 +133,4 @@ fn are_decks(alloc: Global, text: &[u8]) -> bool {
 #[test]
 fn decks_of_each_size(rt: HostRuntime) {
     assert!(rt; are_decks(rt.alloc(), &[b'*'; 2000]));
-}
-
-/// Sizes of central memory (octal), and the lines that ask for them.
-const SIZES: [(&str, u32); 6] = [
-    ("CENTRAL 1", 1),
-    ("CENTRAL 2", 2),
-    ("CENTRAL 10001", 0o10001),
-    ("CENTRAL 12345", 0o12345),
-    ("CENTRAL 377777", 0o377_777),
-    ("CENTRAL 400000", 0o400_000),
-];
-
-#[test]
-fn decks_with_central_memory(rt: HostRuntime) {
-    let heap = Rationed::new(rt.alloc());
-    for (line, size) in &SIZES {
-        assert!(rt; has_central(&heap, line.as_bytes(), *size), "{line}");
-    }
 }

@@ -3,11 +3,11 @@
 use super::runs::{Run, ends, is_read_fault, is_write_fault};
 use pp_sim::run_program;
 use std::fs::Files;
-use std::io::{self, ErrorKind, Read};
+use std::io::ErrorKind;
 use std::sync::Wait;
 use std::thread::Threads;
 use test_bench::{
-    Failure, HANDOFF, HANDOFF_ON_TWENTY, HANDOFF_TEXT, Sink, Source, WORDS_OF_A_RUN,
+    Failure, HANDOFF, HANDOFF_ON_TWENTY, HANDOFF_TEXT, Rationed, Sink, Source, WORDS_OF_A_RUN,
     WORDS_OF_TWENTY,
 };
 
@@ -72,7 +72,7 @@ fn flushes_after<R: AllocGlobal + Files + Threads + Wait + Sync>(
     text: &[u8],
 ) -> bool {
     let mut output = Sink::new(rt.alloc(), text.len(), 1, Failure::TakesNothing);
-    ends(rt, words, &mut input.as_bytes(), &mut output, 0, b"")
+    ends(rt, words, &mut Source::whole(input), &mut output, 0, b"")
         && output.taken() == text
         && output.failures() == 0
         && is_write_fault(rt, (words, input), text, 1, Failure::Flush)
@@ -111,11 +111,12 @@ fn is_untold<R: AllocGlobal + Files + Threads + Wait + Sync>(
         _ => (0, 0),
     };
     let failure = Failure::Error(ErrorKind::BrokenPipe);
-    let mut input = deck.as_bytes();
+    let mut input = Source::whole(deck);
     let mut output = Sink::new(rt.alloc(), room, 1000, failure);
     let mut error = Sink::new(rt.alloc(), 0, 1000, failure);
     let words = ["ppsim", "barrel", "--turns", turns];
-    run_program(rt, rt.alloc(), &words, &mut input, &mut output, &mut error) == status
+    let heap = Rationed::new(rt.alloc());
+    run_program(rt, &heap, &words, &mut input, &mut output, &mut error) == status
         && output.failures() == failures
         && (error.failures() > 0) == (status != 0)
         && output.taken().len() == taken
@@ -128,60 +129,35 @@ fn errors_that_are_not_told(rt: HostRuntime) {
     }
 }
 
-/// Gives spaces, at most `piece` a call, and then an error. Counts both.
-#[derive(Drop)]
-struct Spaces {
-    left: usize,
-    piece: usize,
-    given: usize,
-    errors: u32,
-}
-
-impl Read for Spaces {
-    fn read(&mut self, buf: &mut [u8]) -> io::Result<usize> {
-        if self.left == 0 {
-            self.errors = self.errors.saturating_add(1);
-            return Err(io::Error::from(ErrorKind::BrokenPipe));
-        }
-        let count = buf.len().min(self.piece).min(self.left);
-        buf[..count].fill(b' ');
-        self.left -= count;
-        self.given = self.given.saturating_add(count);
-        Ok(count)
-    }
-}
-
-/// Whether a run on so many spaces, in such pieces, ends so, after it was given so many, and met
-/// so many errors.
-fn ends_on_spaces<R: AllocGlobal + Files + Threads + Wait + Sync>(
+/// Whether a run on a text ends so without an output, if the reader gives the text in such pieces
+/// and then an error, and so much of the text is left then, and so many errors were met.
+fn ends_on_text<R: AllocGlobal + Files + Threads + Wait + Sync>(
     rt: &R,
-    (left, piece): (usize, usize),
+    (text, piece): (&[u8], usize),
     (status, error): (u8, &[u8]),
-    (given, errors): (usize, u32),
+    (left, errors): (usize, u32),
 ) -> bool {
-    let mut input = Spaces {
-        left,
-        piece,
-        given: 0,
-        errors: 0,
-    };
-    let mut output = Vec::new(rt.alloc());
+    let mut input = Source::new(text, piece, Some(ErrorKind::BrokenPipe));
+    let mut output = Sink::ample(rt.alloc());
     ends(rt, &WORDS_OF_A_RUN, &mut input, &mut output, status, error)
-        && output.is_empty()
-        && (input.given, input.errors) == (given, errors)
+        && output.taken().is_empty()
+        && (input.left(), input.errors()) == (left, errors)
 }
 
 /// What a deck that is too long is answered.
 const TOO_LONG: (u8, &[u8]) = (1, b"ppsim: deck fault 1 at line 0\n");
 
-/// The byte past the longest deck is the last that is read: an error after it is not met. Spaces
-/// may come without end.
+/// The byte past the longest deck is the last that is read: an error after it is not met, and
+/// nothing of what may follow.
 #[test]
 fn spaces_past_the_longest_deck(rt: HostRuntime) {
+    let spaces = vec![in rt.alloc(); b' '; 2_000_000].expect(&rt, "spaces");
+    let past = spaces.get(..1_048_577).unwrap_or(&[]);
+    let longest = spaces.get(..1_048_576).unwrap_or(&[]);
     let fault: (u8, &[u8]) = (3, b"ppsim: read fault\n");
     assert!(rt;
-        ends_on_spaces(&rt, (1_048_577, 1000), TOO_LONG, (1_048_577, 0))
-            && ends_on_spaces(&rt, (1_048_576, 1000), fault, (1_048_576, 1))
-            && ends_on_spaces(&rt, (usize::MAX, usize::MAX), TOO_LONG, (1_048_577, 0))
+        ends_on_text(&rt, (past, 1000), TOO_LONG, (0, 0))
+            && ends_on_text(&rt, (longest, 1000), fault, (0, 1))
+            && ends_on_text(&rt, (&spaces, usize::MAX), TOO_LONG, (951_423, 0))
     );
 }

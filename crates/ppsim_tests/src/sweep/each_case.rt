@@ -57,10 +57,11 @@ fn tells_writer<R: AllocGlobal + Files + Threads + Wait + Sync>(
 
 /// Whether writers that give an error, and that take nothing, end a run, if it has an output.
 fn tells_writers<R: AllocGlobal + Files + Threads + Wait + Sync>(rt: &R, run: Run) -> bool {
-    let (status, output, _) = whole(rt, run);
-    status != 0
-        || tells_writer(rt, run, &output, Failure::Error(ErrorKind::Interrupted))
-            && tells_writer(rt, run, &output, Failure::TakesNothing)
+    let ended = whole(rt, run);
+    let output = ended.output.taken();
+    ended.status != 0
+        || tells_writer(rt, run, output, Failure::Error(ErrorKind::Interrupted))
+            && tells_writer(rt, run, output, Failure::TakesNothing)
 }
 
 /// Whether a run ends as ever over a reader that gives one byte a call and a writer that takes one,
@@ -69,11 +70,12 @@ fn byte_by_byte<R: AllocGlobal + Files + Threads + Wait + Sync>(
     rt: &R,
     (words, input): Run,
 ) -> bool {
-    let (status, output, error) = whole(rt, (words, input));
+    let ended = whole(rt, (words, input));
     let mut reader = Source::new(input.as_bytes(), 1, None);
     let mut writer = Sink::new(rt.alloc(), usize::MAX, 1, Failure::TakesNothing);
-    ends(rt, words, &mut reader, &mut writer, status, &error)
-        && writer.taken() == output.as_slice()
+    let (status, error) = (ended.status, ended.error.taken());
+    ends(rt, words, &mut reader, &mut writer, status, error)
+        && writer.taken() == ended.output.taken()
         && reader.calls() as usize == input.len().saturating_add(1)
 }
 
@@ -94,19 +96,21 @@ fn is_at_once<R: AllocGlobal + Files + Threads + Wait + Sync>(
     words: &'static [&str],
     status: u8,
 ) -> bool {
-    let (found, output, error) = whole(rt, (words, "PP 0\n"));
+    let found = whole(rt, (words, "PP 0\n"));
     let mut reader = Source::new(b"PP 0\n", 1, None);
     let mut writer = Sink::new(rt.alloc(), 0, 1, Failure::TakesNothing);
-    let (ended, failures, told) = if status == 0 {
-        (3, 1, b"ppsim: write fault\n".as_slice())
+    let has_ended = if status == 0 {
+        let error = b"ppsim: write fault\n";
+        ends(rt, words, &mut reader, &mut writer, 3, error)
     } else {
-        (status, 0, error.as_slice())
+        let error = found.error.taken();
+        ends(rt, words, &mut reader, &mut writer, status, error)
     };
-    ends(rt, words, &mut reader, &mut writer, ended, told)
-        && found == status
-        && output.is_empty() == (failures == 0)
+    has_ended
+        && found.status == status
+        && found.output.taken().is_empty() == (status != 0)
         && reader.calls() == 0
-        && writer.failures() == failures
+        && writer.failures() == u32::from(status == 0)
 }
 
 /// Help and refusals read nothing, and need no memory but what reading the words needs, which is

@@ -8,7 +8,7 @@ use std::io;
 use std::process::ExitCode;
 use std::sync::Wait;
 use std::thread::Threads;
-use test_bench::{HANDOFF, HANDOFF_TEXT, Source};
+use test_bench::{HANDOFF, HANDOFF_TEXT, Sink, Source};
 
 /// A runtime that hands a program these words.
 #[derive(Drop)]
@@ -111,14 +111,13 @@ const RUNS: [(&[&[u8]], u8, &str, &str, usize); 2] = [
 fn words_of_a_run(rt: HostRuntime) {
     for &(words, status, output, error, calls) in &RUNS {
         let mut input = Source::new(HANDOFF.as_bytes(), 1, None);
-        let mut written = Vec::new(rt.alloc());
-        let mut told = Vec::new(rt.alloc());
+        let (mut written, mut told) = (Sink::ample(rt.alloc()), Sink::ample(rt.alloc()));
         let given = (Words { rt: &rt, words }, rt.alloc());
         let ended = run_main(&given, &mut input, &mut written, &mut told);
         assert!(rt;
             ended == ExitCode::from(status)
-                && written.as_slice() == output.as_bytes()
-                && told.as_slice() == error.as_bytes()
+                && written.taken() == output.as_bytes()
+                && told.taken() == error.as_bytes()
                 && input.calls() as usize == calls,
             "{status}"
         );

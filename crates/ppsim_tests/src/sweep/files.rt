@@ -6,7 +6,7 @@ use std::fs::{Files, OpenOptions};
 use std::io;
 use std::sync::Wait;
 use std::thread::Threads;
-use test_bench::{HANDOFF, Source, WORDS_OF_A_RUN};
+use test_bench::{HANDOFF, Rationed, Sink, Source, WORDS_OF_A_RUN};
 
 /// A file that may be written alone, or read alone.
 fn opened<R: Files>(rt: &R, path: &str, is_written: bool) -> io::Result<R::File> {
@@ -29,7 +29,7 @@ fn ends_onto<R: AllocGlobal + Files + Threads + Wait + Sync>(
     ends(
         rt,
         &WORDS_OF_A_RUN,
-        &mut HANDOFF.as_bytes(),
+        &mut Source::whole(HANDOFF),
         &mut file,
         status,
         error,
@@ -41,24 +41,11 @@ fn ends_untold<R: AllocGlobal + Files + Threads + Wait + Sync>(rt: &R) -> bool {
     let Ok(mut error) = opened(rt, "/dev/full", true) else {
         return false;
     };
-    let mut output = Vec::new(rt.alloc());
-    let mut input = "PP 12".as_bytes();
+    let heap = Rationed::new(rt.alloc());
+    let (mut input, mut output) = (Source::whole("PP 12"), Sink::ample(rt.alloc()));
     let words = &WORDS_OF_A_RUN;
-    run_program(rt, rt.alloc(), words, &mut input, &mut output, &mut error) == 1
-        && output.is_empty()
-}
-
-/// A device that is full, and a file that may be read alone, as a closed output may not be written.
-/// The standard error may fail too.
-#[test]
-fn outputs(rt: HostRuntime) {
-    let fault: (u8, &[u8]) = (3, b"ppsim: write fault\n");
-    assert!(rt;
-        ends_onto(&rt, "/dev/full", true, fault)
-            && ends_onto(&rt, "/dev/null", false, fault)
-            && ends_onto(&rt, "/dev/null", true, (0, b""))
-            && ends_untold(&rt)
-    );
+    run_program(rt, &heap, words, &mut input, &mut output, &mut error) == 1
+        && output.taken().is_empty()
 }
 
 /// Whether a run on a file ends so, without an output.
@@ -71,13 +58,22 @@ fn ends_on<R: AllocGlobal + Files + Threads + Wait + Sync>(
     let Ok(mut file) = opened(rt, path, is_written) else {
         return false;
     };
-    let mut output = Vec::new(rt.alloc());
-    ends(rt, &WORDS_OF_A_RUN, &mut file, &mut output, status, error) && output.is_empty()
+    let mut output = Sink::ample(rt.alloc());
+    ends(rt, &WORDS_OF_A_RUN, &mut file, &mut output, status, error) && output.taken().is_empty()
 }
 
-/// A folder, a file that may be written alone, zeros without end, and nothing at all.
+/// As an output a device that is full, and a file that may be read alone, as a closed output may
+/// not be written; the standard error may fail too. As an input a folder, a file that may be
+/// written alone, zeros without end, and nothing at all.
 #[test]
-fn inputs(rt: HostRuntime) {
+fn outputs_and_inputs(rt: HostRuntime) {
+    let fault: (u8, &[u8]) = (3, b"ppsim: write fault\n");
+    assert!(rt;
+        ends_onto(&rt, "/dev/full", true, fault)
+            && ends_onto(&rt, "/dev/null", false, fault)
+            && ends_onto(&rt, "/dev/null", true, (0, b""))
+            && ends_untold(&rt)
+    );
     let fault: (u8, &[u8]) = (3, b"ppsim: read fault\n");
     let too_long: (u8, &[u8]) = (1, b"ppsim: deck fault 1 at line 0\n");
     assert!(rt;
@@ -96,9 +92,9 @@ fn ends_on_path<R: AllocGlobal + Files + Threads + Wait + Sync>(
     error: &[u8],
 ) -> bool {
     let mut input = Source::new(HANDOFF.as_bytes(), 1, None);
-    let mut output = Vec::new(rt.alloc());
+    let mut output = Sink::ample(rt.alloc());
     ends(rt, words, &mut input, &mut output, status, error)
-        && output.is_empty()
+        && output.taken().is_empty()
         && input.calls() == 0
 }
 

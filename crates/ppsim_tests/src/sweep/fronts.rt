@@ -39,7 +39,7 @@ fn deck(alloc: Global) -> Result<String, AllocError> {
 fn fault_of(front: &str) -> Option<DeckFault> {
     let line = u32::try_from(front.split('\n').count()).unwrap_or(0);
     let last = front.rsplit('\n').next().unwrap_or("");
-    let begins_with_letter = last.starts_with(|c: char| c.is_ascii_uppercase());
+    let begins_with_letter = matches!(last.as_bytes(), [b'A'..=b'Z', ..]);
     let has_one_field = last.split_whitespace().count() == 1;
     if begins_with_letter && has_one_field && last != "DEAD" {
         let code = DeckCode::UnknownLine;

@@ -2,7 +2,6 @@
 //! the requests and refuses none: its text, line by line.
 
 use super::ample::requests_by_threads;
-use pp_machine::Profile;
 use std::alloc::{AllocError, Global};
 
 /// PP 0 activates channel 5 and sends its whole memory over it, again and again, from place 0 on,
@@ -73,9 +72,7 @@ fn long_text(alloc: Global) -> Result<String, AllocError> {
 #[test]
 fn long_pair_by_threads(rt: HostRuntime) {
     let is_right = match (deck(rt.alloc()), long_text(rt.alloc())) {
-        (Ok(deck), Ok(text)) => {
-            requests_by_threads(&rt, Profile::Ten, &deck, (0, &text)) > Some(40)
-        }
+        (Ok(deck), Ok(text)) => { requests_by_threads(&rt, "10", &deck, (0, &text)) > Some(40) }
         _ => false,
     };
     assert!(rt; is_right);

@@ -4,34 +4,13 @@ use super::requests::LONG_TEXT;
 use super::runs::{Run, ends, is_write_fault};
 use std::alloc::AllocError;
 use std::fs::Files;
-use std::io::{self, ErrorKind, Write};
+use std::io::ErrorKind;
 use std::sync::Wait;
 use std::thread::Threads;
-use test_bench::{Failure, SESSIONS, report_of_sessions, text_of_sessions};
+use test_bench::{Failure, SESSIONS, Sink, Source, report_of_sessions, text_of_sessions};
 
 /// A thousand sessions by threads: about 42,000 bytes, as those of `LONG_TEXT` in the barrel.
 const THREADS: [&str; 6] = ["ppsim", "threads", "--steps", "3000", "--patience", "5"];
-
-/// Takes all, and remembers how often it was called and the most bytes that it was given at once.
-#[derive(Drop)]
-struct Tray {
-    taken: Vec<u8>,
-    calls: u32,
-    most: usize,
-}
-
-impl Write for Tray {
-    fn write(&mut self, buf: &[u8]) -> io::Result<usize> {
-        self.taken.extend_from_slice(buf)?;
-        self.calls = self.calls.saturating_add(1);
-        self.most = self.most.max(buf.len());
-        Ok(buf.len())
-    }
-
-    fn flush(&mut self) -> io::Result<()> {
-        Ok(())
-    }
-}
 
 /// Whether the whole text comes, in few pieces of bounded size.
 fn comes_in_pieces<R: AllocGlobal + Files + Threads + Wait + Sync>(
@@ -39,15 +18,10 @@ fn comes_in_pieces<R: AllocGlobal + Files + Threads + Wait + Sync>(
     (words, input): Run,
     text: &str,
 ) -> bool {
-    let mut tray = Tray {
-        taken: Vec::new(rt.alloc()),
-        calls: 0,
-        most: 0,
-    };
-    ends(rt, words, &mut input.as_bytes(), &mut tray, 0, b"")
-        && tray.taken.as_slice() == text.as_bytes()
-        && tray.most <= 8192
-        && tray.calls < 10
+    let mut output = Sink::ample(rt.alloc());
+    let is_done = ends(rt, words, &mut Source::whole(input), &mut output, 0, b"");
+    let (calls, most) = output.calls();
+    is_done && output.taken() == text.as_bytes() && most <= 8192 && calls < 10
 }
 
 /// How many bytes a writer takes before it fails: none, most of a first piece, what is about a

@@ -31,8 +31,8 @@ START 0100
 fn requests_in<R: AllocGlobal + Files + Threads + Wait + Sync>(rt: &R, turns: &str) -> (u8, u64) {
     let heap = Rationed::new(rt.alloc());
     let words = ["ppsim", "steps", "--turns", turns];
-    let (status, _, _) = ending(rt, &heap, &words, LOOP);
-    (status, heap.asked())
+    let ended = ending(rt, &heap, (&words, LOOP));
+    (ended.status, heap.asked())
 }
 
 #[test]
@@ -44,18 +44,15 @@ fn lines_take_no_memory(rt: HostRuntime) {
 /// A command line whose text is longer than a piece in which it goes out.
 pub(crate) const LONG_TEXT: [&str; 4] = ["ppsim", "barrel", "--turns", "30000"];
 
-/// Nothing of a long text is written if a request is refused.
-#[test]
-fn long_texts_refused(rt: HostRuntime) {
-    assert!(rt; requests_refused(&rt, (&LONG_TEXT, SESSIONS)) > Some(10));
-}
-
 /// A command line whose lines go out while the run is still made: it asks for nothing any more
 /// then.
 const LONG_RACES: [&str; 4] = ["ppsim", "races", "--turns", "9000"];
 
+/// Nothing of a long text is written if a request is refused.
 #[test]
-fn long_races_refused(rt: HostRuntime) {
+fn long_texts_refused(rt: HostRuntime) {
+    assert!(rt; requests_refused(&rt, (&LONG_TEXT, SESSIONS)) > Some(10));
     let run: Run = (&LONG_RACES, LOOKED_AT);
-    assert!(rt; whole(&rt, run).1.len() > 20_000 && requests_refused(&rt, run) > Some(10));
+    let length = whole(&rt, run).output.taken().len();
+    assert!(rt; length > 20_000 && requests_refused(&rt, run) > Some(10));
 }

@@ -12,43 +12,45 @@ use test_bench::{Failure, Rationed, Sink, Source};
 pub(crate) type Run = (&'static [&'static str], &'static str);
 
 /// How a run ends: its status, its output and its standard error.
-pub(crate) type Ending = (u8, Vec<u8>, Vec<u8>);
+#[derive(Drop)]
+pub(crate) struct Ended {
+    pub(crate) status: u8,
+    pub(crate) output: Sink,
+    pub(crate) error: Sink,
+}
 
 /// How a run over this memory ends.
 pub(crate) fn ending<R: AllocGlobal + Files + Threads + Wait + Sync>(
     rt: &R,
     heap: &Rationed<Global>,
-    words: &[&str],
-    input: &str,
-) -> Ending {
-    let mut reader = input.as_bytes();
-    let mut written = Vec::new(rt.alloc());
-    let mut told = Vec::new(rt.alloc());
-    let status = run_program(rt, heap, words, &mut reader, &mut written, &mut told);
-    (status, written, told)
+    (words, input): (&[&str], &str),
+) -> Ended {
+    let (mut output, mut error) = (Sink::ample(rt.alloc()), Sink::ample(rt.alloc()));
+    let mut input = Source::whole(input);
+    let status = run_program(rt, heap, words, &mut input, &mut output, &mut error);
+    Ended {
+        status,
+        output,
+        error,
+    }
 }
 
 /// How a run with ample memory ends.
-pub(crate) fn whole<R: AllocGlobal + Files + Threads + Wait + Sync>(
-    rt: &R,
-    (words, input): Run,
-) -> Ending {
-    ending(rt, &Rationed::new(rt.alloc()), words, input)
+pub(crate) fn whole<R: AllocGlobal + Files + Threads + Wait + Sync>(rt: &R, run: Run) -> Ended {
+    ending(rt, &Rationed::new(rt.alloc()), run)
 }
 
-/// Nothing if a run ends for want of memory as it should; else whether it ends in this way.
-fn with_little<R: AllocGlobal + Files + Threads + Wait + Sync>(
-    rt: &R,
-    heap: &Rationed<Global>,
-    (words, input): Run,
-    expected: &Ending,
-) -> Option<bool> {
-    let ended = ending(rt, heap, words, input);
-    let refusal = b"ppsim: out of memory\n".as_slice();
-    if ended.0 == 4 && ended.1.is_empty() && ended.2.as_slice() == refusal {
+/// Nothing if a run ended for want of memory as it should; else whether it ended as expected.
+fn unless_out_of_memory(ended: &Ended, expected: &Ended) -> Option<bool> {
+    let (output, error) = (ended.output.taken(), ended.error.taken());
+    if ended.status == 4 && output.is_empty() && error == b"ppsim: out of memory\n".as_slice() {
         return None;
     }
-    Some(ended == *expected)
+    Some(
+        ended.status == expected.status
+            && output == expected.output.taken()
+            && error == expected.error.taken(),
+    )
 }
 
 /// The number of the first request that a run does not make, if with any earlier one refused it
@@ -61,7 +63,7 @@ pub(crate) fn requests_refused<R: AllocGlobal + Files + Threads + Wait + Sync>(
     let heap = Rationed::new(rt.alloc());
     for number in 1..1000u64 {
         heap.refuse(number);
-        let ended = with_little(rt, &heap, run, &expected);
+        let ended = unless_out_of_memory(&ending(rt, &heap, run), &expected);
         let was_refused = heap.has_refused();
         match ended {
             None if was_refused => {}
@@ -81,9 +83,9 @@ pub(crate) fn ends<R: AllocGlobal + Files + Threads + Wait + Sync, I: Read, O: W
     status: u8,
     error: &[u8],
 ) -> bool {
-    let mut told = Vec::new(rt.alloc());
-    run_program(rt, rt.alloc(), words, input, output, &mut told) == status
-        && told.as_slice() == error
+    let heap = Rationed::new(rt.alloc());
+    let mut told = Sink::ample(rt.alloc());
+    run_program(rt, &heap, words, input, output, &mut told) == status && told.taken() == error
 }
 
 /// Whether a run ends with status 3 and writes nothing if the reader gives these bytes, `piece` a
@@ -96,7 +98,7 @@ pub(crate) fn is_read_fault<R: AllocGlobal + Files + Threads + Wait + Sync>(
     error: ErrorKind,
 ) -> bool {
     let mut reader = Source::new(front, piece, Some(error));
-    let mut writer = Vec::new(rt.alloc());
+    let mut writer = Sink::ample(rt.alloc());
     ends(
         rt,
         words,
@@ -104,7 +106,7 @@ pub(crate) fn is_read_fault<R: AllocGlobal + Files + Threads + Wait + Sync>(
         &mut writer,
         3,
         b"ppsim: read fault\n",
-    ) && writer.is_empty()
+    ) && writer.taken().is_empty()
         && reader.errors() == 1
         && (piece > 1 || reader.calls() as usize == front.len().saturating_add(1))
 }
@@ -122,7 +124,7 @@ pub(crate) fn is_write_fault<R: AllocGlobal + Files + Threads + Wait + Sync>(
     ends(
         rt,
         words,
-        &mut input.as_bytes(),
+        &mut Source::whole(input),
         &mut writer,
         3,
         b"ppsim: write fault\n",

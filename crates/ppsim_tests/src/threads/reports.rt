@@ -1,6 +1,7 @@
 //! What the reports of runs hold that their texts do not show.
 
-use crate::threads::runs::{LONG, is_taken, loaded, passed, run};
+use crate::loaded::loaded;
+use crate::threads::runs::{LONG, is_taken, passed, run};
 use pp_machine::Profile;
 use pp_runner::{End, NoGate, Report};
 use std::alloc::Global;
@@ -39,7 +40,12 @@ fn is_raced(report: &Report<Global>) -> bool {
 #[test]
 fn a_block_against_a_disconnect(rt: HostRuntime) {
     for profile in [Profile::Ten, Profile::Twenty] {
-        let report = run(&rt, &NoGate, LONG, loaded(&rt, profile, DISCONNECT_RACE));
+        let report = run(
+            &rt,
+            &NoGate,
+            LONG,
+            loaded(&rt, rt.alloc(), profile, DISCONNECT_RACE),
+        );
         assert!(rt; is_raced(&report));
     }
 }
@@ -57,6 +63,6 @@ fn is_at_limit(report: &Report<Global>) -> bool {
 fn a_step_limit(rt: HostRuntime) {
     let jump = "PP 0\n0100 0400\nSTART 0100\n";
     for profile in [Profile::Ten, Profile::Twenty] {
-        assert!(rt; is_at_limit(&run(&rt, &NoGate, LONG, loaded(&rt, profile, jump))));
+        assert!(rt; is_at_limit(&run(&rt, &NoGate, LONG, loaded(&rt, rt.alloc(), profile, jump))));
     }
 }

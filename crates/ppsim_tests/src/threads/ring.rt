@@ -1,6 +1,7 @@
 //! Ten processors that pass words round a ring, each in a thread of its own.
 
-use crate::threads::runs::{loaded, run};
+use crate::loaded::loaded;
+use crate::threads::runs::run;
 use pp_machine::Profile;
 use pp_runner::{End, NoGate, Report};
 use std::alloc::Global;
@@ -61,6 +62,6 @@ fn has_gone_round(report: &Report<Global>) -> bool {
 /// A processor whose neighbour has made all its steps waits in vain.
 #[test]
 fn ring_of_ten(rt: HostRuntime) {
-    let machine = loaded(&rt, Profile::Ten, RING);
+    let machine = loaded(&rt, rt.alloc(), Profile::Ten, RING);
     assert!(rt; has_gone_round(&run(&rt, &NoGate, (100_000, 1_000_000), machine)));
 }

@@ -1,7 +1,7 @@
 //! What tests of runs share, and runs that a dead start or turns come before.
 
+use crate::loaded::loaded;
 use pp_channel::{ChannelNo, Event, Seen};
-use pp_deck::read_deck;
 use pp_line::Entry;
 use pp_machine::{Machine, PpNo, Profile};
 use pp_runner::{End, Gate, Limits, NoGate, Report, run_threads};
@@ -26,17 +26,6 @@ pub(crate) fn run<R: AllocGlobal + Threads + Wait + Sync + Abort, G: Gate + Sync
     assert!(rt; machine.events().is_empty(), "events before the run");
     let limits = Limits::new(steps, patience).expect(rt, "limits");
     run_threads(rt, rt.alloc(), &machine, limits, gate).expect(rt, "a report")
-}
-
-/// The machine of a deck.
-pub(crate) fn loaded<R: AllocGlobal + Abort>(
-    rt: &R,
-    profile: Profile,
-    deck: &str,
-) -> Machine<Global> {
-    read_deck(rt.alloc(), profile, deck.as_bytes())
-        .expect(rt, "a deck")
-        .machine
 }
 
 /// The history of the channel of this number after a run.
@@ -166,7 +155,12 @@ fn wait_in_vain(report: &Report<Global>, count: usize) -> bool {
 #[test]
 fn nobody_sends(rt: HostRuntime) {
     for (profile, count) in [(Profile::Ten, 10), (Profile::Twenty, 20)] {
-        let report = run(&rt, &NoGate, (100, 5), loaded(&rt, profile, "DEAD\n"));
+        let report = run(
+            &rt,
+            &NoGate,
+            (100, 5),
+            loaded(&rt, rt.alloc(), profile, "DEAD\n"),
+        );
         assert!(rt; wait_in_vain(&report, count));
     }
 }
@@ -197,7 +191,7 @@ fn is_passed(report: &Report<Global>) -> bool {
 #[test]
 fn turns_before_threads(rt: HostRuntime) {
     for (profile, turns) in [(Profile::Ten, 20), (Profile::Twenty, 40)] {
-        let mut machine = loaded(&rt, profile, SLOW_HANDOFF);
+        let mut machine = loaded(&rt, rt.alloc(), profile, SLOW_HANDOFF);
         assert!(rt; machine.run_barrel(turns).is_ok() && machine.turns() == u64::from(turns));
         assert!(rt; is_passed(&run(&rt, &NoGate, LONG, machine)));
     }

@@ -1,7 +1,8 @@
 //! The tries of each worker, as a gate sees them.
 
+use crate::loaded::loaded;
 use crate::threads::gates::{wait_for, zero};
-use crate::threads::runs::{counting, loaded, passed, run};
+use crate::threads::runs::{counting, passed, run};
 use pp_machine::{PROCESSORS, PpNo, Profile};
 use pp_runner::{End, Gate, Report};
 use std::alloc::Global;
@@ -94,7 +95,7 @@ fn patience(rt: HostRuntime) {
             &rt,
             &gate,
             (100, patience),
-            loaded(&rt, Profile::Ten, IN_VAIN),
+            loaded(&rt, rt.alloc(), Profile::Ten, IN_VAIN),
         );
         assert!(rt; is_in_vain(&gate, &report, patience), "patience {patience}");
     }
@@ -159,7 +160,7 @@ fn each_last_try_is_made(rt: HostRuntime) {
             last_tries,
             turns: [zero(), zero()],
         };
-        let machine = loaded(&rt, Profile::Ten, THREE_WORDS);
+        let machine = loaded(&rt, rt.alloc(), Profile::Ten, THREE_WORDS);
         let report = run(&rt, &gate, (100, patience), machine);
         assert!(rt; is_passed(&gate, &report, patience), "patience {patience}");
     }
