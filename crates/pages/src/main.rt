@@ -19,60 +19,69 @@ use std::sync::Wait;
 use std::thread::Threads;
 
 /// The pages whose commands are run. Links at the top of the repository lead to the first four.
-const PAGES: [&str; 30] = [
-    "README.md",
-    "TUTORIAL.md",
-    "VIEWS.md",
-    "examples/README.md",
-    "examples/exercises/README.md",
-    "cases/barrel.md",
-    "cases/dead_start.md",
-    "cases/threads.md",
-    "cases/list.md",
-    "cases/lint.md",
-    "cases/dump.md",
-    "cases/steps.md",
-    "cases/state.md",
-    "cases/ends.md",
-    "cases/memory.md",
-    "cases/sessions.md",
-    "cases/draw.md",
-    "cases/order.md",
-    "cases/until.md",
-    "cases/test.md",
-    "cases/races.md",
-    "cases/races_by_chance.md",
-    "cases/orders.md",
-    "cases/check.md",
-    "cases/decks.md",
-    "cases/long_decks.md",
-    "cases/operations.md",
-    "cases/command_line.md",
-    "cases/help.md",
-    "cases/examples_on_twenty.md",
-];
+const PAGES: &str = "\
+README.md
+TUTORIAL.md
+VIEWS.md
+examples/README.md
+examples/exercises/README.md
+cases/barrel.md
+cases/dead_start.md
+cases/threads.md
+cases/list.md
+cases/lint.md
+cases/dump.md
+cases/steps.md
+cases/state.md
+cases/ends.md
+cases/memory.md
+cases/sessions.md
+cases/draw.md
+cases/order.md
+cases/until.md
+cases/test.md
+cases/races.md
+cases/races_by_chance.md
+cases/orders.md
+cases/check.md
+cases/decks.md
+cases/long_decks.md
+cases/operations.md
+cases/command_line.md
+cases/help.md
+cases/examples_on_twenty.md
+";
 
 fn main(rt: HostRuntime) -> anyhow::Result<ExitCode> {
-    for name in PAGES {
-        let page = String::from_utf8(fs::read(&rt, name)?)?;
-        let cases = cases_of(rt.alloc(), &page)?;
-        for run in &first_runs(rt.alloc(), &page)? {
-            if !is_shown(&cases, run) {
-                println!(rt; "{name}: {run} is not on the page")?;
-            }
-        }
-        let good = run_cases(&rt, name, &cases)?;
-        let count = format!(in rt.alloc(); "<!-- {good} cases -->")?;
-        if page.lines().any(|line| line == count.as_str()) {
-            println!(rt; "{name}: as the page has it")?;
-        } else {
-            println!(rt;
-                "{name}: {good} of {} cases, not as the page says",
-                cases.len()
-            )?;
-        }
+    for name in PAGES.lines() {
+        run_page(&rt, name)?;
     }
     Ok(run_main(&rt, &mut rt.stdin(), &mut rt.stdout(), &mut rt.stderr()))
+}
+
+/// Runs the commands of a page, and says whether all is as the page has it.
+fn run_page<R: Files + Print + Alloc<A = Global> + Threads + Wait + Sync>(
+    rt: &R,
+    name: &str,
+) -> anyhow::Result<()> {
+    let page = String::from_utf8(fs::read(rt, name)?)?;
+    let cases = cases_of(rt.alloc(), &page)?;
+    for run in &first_runs(rt.alloc(), &page)? {
+        if !is_shown(&cases, run) {
+            println!(rt; "{name}: {run} is not on the page")?;
+        }
+    }
+    let good = run_cases(rt, name, &cases)?;
+    let count = format!(in rt.alloc(); "<!-- {good} cases -->")?;
+    if page.lines().any(|line| line == count.as_str()) {
+        println!(rt; "{name}: as the page has it")?;
+    } else {
+        println!(rt;
+            "{name}: {good} of {} cases, not as the page says",
+            cases.len()
+        )?;
+    }
+    Ok(())
 }
 
 /// Runs the cases of a page, reports those that differ, and counts the others.

@@ -19,14 +19,27 @@ pub struct Case {
 }
 
 impl Case {
-    fn new(alloc: Global, heading: &str, command: &str) -> anyhow::Result<Case> {
+    fn new(alloc: Global, heading: &str, command: &str, is_part: bool) -> anyhow::Result<Case> {
         Ok(Case {
             heading: heading.to_string(alloc)?,
             command: command.to_string(alloc)?,
             text: None,
-            is_part: false,
+            is_part,
             endings: vec![in alloc; Ending::new(alloc)]?,
         })
+    }
+
+    /// Takes a text, and what comes of it: an output, if there is one, and a status.
+    fn take_text(&mut self, text: &str, shown: &str, status: u8) -> anyhow::Result<()> {
+        let alloc = *self.endings.allocator();
+        self.text = Some(text.to_string(alloc)?);
+        if let Some(ending) = self.endings.last_mut() {
+            if !shown.is_empty() {
+                ending.add(text_of(alloc, shown)?.as_str())?;
+            }
+            ending.status = status;
+        }
+        Ok(())
     }
 }
 
@@ -88,9 +101,8 @@ fn add_line(
         Block::Each(commands) => add_cases(alloc, cases, commands, heading, line),
         Block::Console | Block::Either | Block::Lines => {
             if let Some(command) = line.strip_prefix("$ ") {
-                let mut case = Case::new(alloc, heading, command)?;
-                case.is_part = matches!(block, Block::Lines);
-                cases.push(case)?;
+                let is_part = matches!(block, Block::Lines);
+                cases.push(Case::new(alloc, heading, command, is_part)?)?;
                 return Ok(());
             }
             let Some(case) = cases.last_mut() else {
@@ -127,20 +139,16 @@ fn add_cases(
     };
     let (text, shown) = line.split_once("  ").unwrap_or((line, ""));
     let (status_of_text, shown) = parted(shown.trim_start());
+    let status = if shown.starts_with("!") {
+        status
+    } else {
+        status_of_text
+    };
     for command in commands.split(" and ") {
-        let mut case = Case::new(alloc, heading, command)?;
-        case.text = Some(text.to_string(alloc)?);
-        if let Some(ending) = case.endings.last_mut() {
-            if !shown.is_empty() {
-                ending.add(text_of(alloc, shown)?.as_str())?;
-            }
-            ending.status = if shown.starts_with("!") {
-                status
-            } else {
-                status_of_text
-            };
+        cases.push(Case::new(alloc, heading, command, false)?)?;
+        if let Some(case) = cases.last_mut() {
+            case.take_text(text, shown, status)?;
         }
-        cases.push(case)?;
     }
     Ok(())
 }
