@@ -36,10 +36,11 @@ fn count_in(part: &str) -> Option<(u32, &str)> {
     Some((digits.parse::<u32>().ok()?, rest))
 }
 
-/// Adds the piece from here on again, so that it stands there `count` times.
+/// Has the piece from here on stand there `count` times.
 fn repeat(alloc: Global, bytes: &mut Vec<u8>, begin: usize, count: u32) -> anyhow::Result<()> {
     let piece = bytes.get(begin..).unwrap_or(&[]).to_vec(alloc)?;
-    for _ in 1..count {
+    bytes.truncate(begin);
+    for _ in 0..count {
         bytes.extend_from_slice(&piece)?;
     }
     Ok(())
