@@ -12,17 +12,18 @@ use std::sync::Wait;
 use std::thread::Threads;
 use std::{env, io};
 
-/// Does what the words of the command line ask for, over these three streams, and answers the
-/// status to exit with: 0 done, 1 deck or trace refused, 2 command line refused, 3 a device failed,
-/// 4 out of memory.
+/// Does what the words of the command line ask for, which the environment has, over these three
+/// streams, and answers the status to exit with: 0 done, 1 deck or trace refused, 2 command line
+/// refused, 3 a device failed, 4 out of memory.
 pub fn run_main<
-    R: Alloc<A = Global> + Env + Files + Threads + Wait + Sync,
+    R: Alloc<A = Global> + Files + Threads + Wait + Sync,
+    W: Env,
     I: Read,
     O: Write,
     E: Write,
->(rt: &R, input: &mut I, output: &mut O, error: &mut E) -> ExitCode {
+>(rt: &R, environment: &W, input: &mut I, output: &mut O, error: &mut E) -> ExitCode {
     let alloc = rt.alloc();
-    let arguments = match read_arguments(rt, alloc) {
+    let arguments = match read_arguments(environment, alloc) {
         Ok(arguments) => arguments,
         Err(fault) => return without_words(fault.kind(), error),
     };
@@ -45,9 +46,9 @@ fn without_words<E: Write>(kind: ErrorKind, error: &mut E) -> ExitCode {
 }
 
 /// The program's words, its name first.
-fn read_arguments<R: Env + Alloc<A = Global>>(rt: &R, alloc: Global) -> io::Result<Vec<String>> {
+fn read_arguments<W: Env>(environment: &W, alloc: Global) -> io::Result<Vec<String>> {
     let mut arguments = Vec::new(alloc);
-    for argument in env::args(rt)? {
+    for argument in env::args(&(environment, alloc))? {
         arguments.push(argument)?;
     }
     Ok(arguments)

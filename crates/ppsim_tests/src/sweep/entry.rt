@@ -1,25 +1,16 @@
-//! The program from the words that its runtime hands it, which need not be UTF-8.
+//! The program from the words of its environment, which need not be UTF-8.
 
 use pp_sim::run_main;
-use std::alloc::{Allocator, Global};
 use std::env::{Env, FillError};
-use std::fs::{Files, Metadata, OpenOptions};
-use std::io;
 use std::process::ExitCode;
-use std::sync::Wait;
-use std::thread::Threads;
 use test_bench::{HANDOFF, HANDOFF_TEXT, Sink, Source};
 
-/// A runtime that hands a program these words.
-#[derive(Drop)]
-struct Words<'a, R> {
-    rt: &'a R,
-    words: &'a [&'a [u8]],
-}
+/// An environment with these words.
+struct Words<'a>(&'a [&'a [u8]]);
 
-impl<R> Env for Words<'_, R> {
+impl Env for Words<'_> {
     fn arg(&self, i: usize, buf: &mut [u8]) -> Result<usize, FillError> {
-        let Some(word) = self.words.get(i) else {
+        let Some(word) = self.0.get(i) else {
             return Err(FillError::NotPresent);
         };
         if buf.len() < word.len() {
@@ -37,56 +28,6 @@ impl<R> Env for Words<'_, R> {
         Err(FillError::NotPresent)
     }
 }
-
-impl<R: Files> Files for Words<'_, R> {
-    type File = R::File;
-
-    type Dir = R::Dir;
-
-    fn open_file(&self, how: &OpenOptions, path: &str) -> io::Result<R::File> {
-        self.rt.open_file(how, path)
-    }
-
-    fn open_dir(&self, path: &str) -> io::Result<R::Dir> {
-        self.rt.open_dir(path)
-    }
-
-    fn metadata(&self, path: &str) -> io::Result<Metadata> {
-        self.rt.metadata(path)
-    }
-
-    fn symlink_metadata(&self, path: &str) -> io::Result<Metadata> {
-        self.rt.symlink_metadata(path)
-    }
-
-    fn copy(&self, from: &str, to: &str) -> io::Result<u64> {
-        self.rt.copy(from, to)
-    }
-
-    fn rename(&self, from: &str, to: &str) -> io::Result<()> {
-        self.rt.rename(from, to)
-    }
-
-    fn remove_file(&self, path: &str) -> io::Result<()> {
-        self.rt.remove_file(path)
-    }
-
-    fn create_dir(&self, path: &str) -> io::Result<()> {
-        self.rt.create_dir(path)
-    }
-
-    fn remove_dir(&self, path: &str) -> io::Result<()> {
-        self.rt.remove_dir(path)
-    }
-
-    fn remove_dir_all<B: Allocator>(&self, alloc: B, path: &str) -> io::Result<()> {
-        self.rt.remove_dir_all(alloc, path)
-    }
-}
-
-impl<R: Threads> Threads for Words<'_, R> {}
-
-impl<R: Wait> Wait for Words<'_, R> {}
 
 /// Words, and the status, the output, the standard error and the number of reads of their run.
 const RUNS: [(&[&[u8]], u8, &str, &str, usize); 2] = [
@@ -112,8 +53,7 @@ fn words_of_a_run(rt: HostRuntime) {
     for &(words, status, output, error, calls) in &RUNS {
         let mut input = Source::new(HANDOFF.as_bytes(), 1, None);
         let (mut written, mut told) = (Sink::ample(rt.alloc()), Sink::ample(rt.alloc()));
-        let given = (Words { rt: &rt, words }, rt.alloc());
-        let ended = run_main(&given, &mut input, &mut written, &mut told);
+        let ended = run_main(&rt, &Words(words), &mut input, &mut written, &mut told);
         assert!(rt;
             ended == ExitCode::from(status)
                 && written.taken() == output.as_bytes()
