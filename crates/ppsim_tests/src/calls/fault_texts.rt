@@ -34,8 +34,26 @@ const DECK_FAULTS: [(DeckCode, u32, &str); 9] = [
 fn deck_faults(rt: HostRuntime) {
     for &(code, line, text) in &DECK_FAULTS {
         let fault = DeckFault { line, code };
-        assert!(rt; tells(rt.alloc(), &fault, text), "{text}");
-        assert!(rt; tells(rt.alloc(), &TextFault::Deck(fault), text), "{text}");
+        let of_text = TextFault::Deck(fault);
+        assert!(rt;
+            tells(rt.alloc(), &fault, text) && tells(rt.alloc(), &of_text, text),
+            "{text}"
+        );
+    }
+}
+
+/// Other faults of a text.
+const TEXT_FAULTS: [(TextFault, &str); 4] = [
+    (TextFault::Read, "read fault"),
+    (TextFault::Memory, "out of memory"),
+    (TextFault::Write, "write fault"),
+    (TextFault::Findings, "something is found"),
+];
+
+#[test]
+fn text_faults(rt: HostRuntime) {
+    for (fault, text) in &TEXT_FAULTS {
+        assert!(rt; tells(rt.alloc(), fault, text), "{text}");
     }
 }
 
@@ -48,11 +66,7 @@ const FORMS: &str = "give --turns, or --every-order and --states alone";
 fn other_faults(rt: HostRuntime) {
     let alloc = rt.alloc();
     assert!(rt;
-        tells(alloc, &TextFault::Read, "read fault")
-            && tells(alloc, &TextFault::Memory, "out of memory")
-            && tells(alloc, &TextFault::Write, "write fault")
-            && tells(alloc, &TextFault::Findings, "something is found")
-            && tells(alloc, &LineFault::Memory, "out of memory")
+        tells(alloc, &LineFault::Memory, "out of memory")
             && tells(alloc, &LineFault::Number, "number out of range")
             && tells(alloc, &LineFault::Picture, PICTURE)
             && tells(alloc, &LineFault::Forms, FORMS)

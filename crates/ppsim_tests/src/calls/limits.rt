@@ -5,7 +5,7 @@ use crate::loaded::loaded;
 use pp_machine::{Machine, Profile};
 use pp_sim::barrel_text;
 use pp_word::{Word18, Word60};
-use std::alloc::Global;
+use std::alloc::{AllocError, Global};
 use test_bench::{first, word};
 
 /// Five pairs on channels 0 to 4: one puts 99,968 words (decimal), the other takes them.
@@ -82,12 +82,17 @@ fn runs(alloc: Global, mut deck: &[u8]) -> bool {
         && text.len() == events + END.len()
 }
 
+/// A deck with this beginning, and then this text so many times.
+fn deck(alloc: Global, front: &str, text: &str, count: usize) -> Result<String, AllocError> {
+    let rest = text.repeat(alloc, count)?;
+    format!(in alloc; "{front}{rest}")
+}
+
 /// The deck is filled up with spaces.
 #[test]
 fn everything_at_its_limit(rt: HostRuntime) {
-    let spaces = " ".repeat(rt.alloc(), LONGEST.saturating_sub(FRONT.len()));
-    let spaces = spaces.expect(&rt, "spaces");
-    let deck = format!(in rt.alloc(); "{FRONT}{spaces}").expect(&rt, "a deck");
+    let spaces = LONGEST.saturating_sub(FRONT.len());
+    let deck = deck(rt.alloc(), FRONT, " ", spaces).expect(&rt, "a deck");
     assert!(rt; deck.len() == LONGEST && runs(rt.alloc(), deck.as_bytes()));
 }
 
@@ -112,8 +117,7 @@ fn whole_memories(rt: HostRuntime) {
         ("PP 0\n0 ", 4096, (4096, 0)),
         ("CENTRAL 400000\nCM 0 ", 131_072, (0, 131_072)),
     ] {
-        let line = "1 ".repeat(rt.alloc(), count).expect(&rt, "ones");
-        let deck = format!(in rt.alloc(); "{front}{line}").expect(&rt, "a deck");
+        let deck = deck(rt.alloc(), front, "1 ", count).expect(&rt, "a deck");
         let machine = loaded(&rt, rt.alloc(), Profile::Ten, &deck);
         assert!(rt; ones(&machine) == expected);
     }

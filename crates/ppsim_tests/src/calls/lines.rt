@@ -1,10 +1,11 @@
 //! Lines, one after another.
 
-ghost use Rattle.std.specs.Prelude.{◌≡◌, IfSome};
+ghost use Rattle.std.specs.Prelude.{◌≡◌};
 
-use pp_channel::{ChanOp, ChannelNo, Event, Numbered, Reply, Seen};
+use pp_channel::{ChanOp, Channel, ChannelNo, Event, Numbered, Reply, Seen};
 use pp_line::{Entry, Line, open_lines};
 use std::alloc::{Allocator, Global};
+use std::process::Abort;
 use test_bench::{EMPTY, FULL, INACTIVE, numbered, word};
 
 /// A call, and the answer that it has to have.
@@ -48,42 +49,39 @@ pub(crate) fn is_line<A: Allocator + Copy>(
     line.log() == log && (line.room(), seen, line.shares(), line.kept()) == shown
 }
 
-/// A line makes the first of these calls, and is split. Then its child makes calls, then the line,
-/// and the two are joined. Nothing if an answer is another, or the child has not seen the same.
-fn joined(
-    alloc: Global,
+/// A line makes the first of these calls, and is split. Then its child, which has seen the same,
+/// makes calls, then the line, and the two are joined.
+fn joined<R: AllocGlobal + Abort>(
+    rt: &R,
     channel: ChannelNo,
     before: &[Call],
     by_child: &[Call],
     by_line: &[Call],
-) -> Option<Line<Global>>
-    ensures { IfSome result (λ line. line.view.shares ≡ line.view.whole) }
+) -> Line<Global>
+    ensures { result.view.shares ≡ result.view.whole }
 {
-    let Ok(mut line) = open_lines(alloc, 8, 2) else {
-        return None;
-    };
+    let mut line = open_lines(rt.alloc(), 8, 2).expect(rt, "a line");
     let is_begun = answers(&mut line, channel, before);
-    let Ok(mut child) = line.split(4) else {
-        return None;
-    };
+    let mut child = line.split(4).expect(rt, "a child");
     let is_seen = child.seen(channel) == line.seen(channel);
-    let is_answered = is_begun
-        && is_seen
-        && answers(&mut child, channel, by_child)
-        && answers(&mut line, channel, by_line);
+    assert!(rt;
+        is_begun
+            && is_seen
+            && answers(&mut child, channel, by_child)
+            && answers(&mut line, channel, by_line)
+    );
     match line.join(child) {
-        Ok(both) if is_answered => Some(both),
-        _ => None,
+        Ok(line) => line,
+        Err(_) => panic!(rt; "no memory for a join"),
     }
 }
 
-/// Whether a line is closed with this history at this place, and none at the twenty-three others.
-fn closes_with(line: Line<Global>, used: usize, events: &[Event]) -> bool
-    requires { line.view.shares ≡ line.view.whole }
-{
-    let Ok(channels) = line.close() else {
-        return false;
-    };
+/// Whether channels have this history at this place, and none at the twenty-three others.
+pub(crate) fn have_history<A: Allocator>(
+    channels: &[Channel<A>],
+    used: usize,
+    events: &[Event],
+) -> bool {
     for (place, channel) in channels.iter().enumerate() {
         let history = if place == used { events } else { &[] };
         if channel.history() != history {
@@ -91,6 +89,16 @@ fn closes_with(line: Line<Global>, used: usize, events: &[Event]) -> bool
         }
     }
     channels.len() == 24
+}
+
+/// Whether a line is closed with such channels.
+fn closes_with(line: Line<Global>, used: usize, events: &[Event]) -> bool
+    requires { line.view.shares ≡ line.view.whole }
+{
+    match line.close() {
+        Ok(channels) => have_history(&channels, used, events),
+        Err(_) => false,
+    }
 }
 
 /// Two events, a look, and a put that is held.
@@ -103,14 +111,6 @@ pub(crate) fn opening() -> [Call; 4] {
     ]
 }
 
-/// Whether a line answers these calls, and then has this log and this room, and both events seen.
-fn logs(alloc: Global, channel: ChannelNo, calls: &[Call], log: &[Entry]) -> bool {
-    let Ok(mut line) = open_lines(alloc, 8, 2) else {
-        return false;
-    };
-    answers(&mut line, channel, calls) && is_line(&line, channel, log, (5, 2, 2, false))
-}
-
 #[test]
 fn log_of_a_line(rt: HostRuntime) {
     let five = ChannelNo::at(5);
@@ -119,7 +119,9 @@ fn log_of_a_line(rt: HostRuntime) {
         entry(five, 1, Seen::Did(Event::Put(word(1)))),
         entry(five, 2, Seen::Saw(FULL)),
     ];
-    assert!(rt; logs(rt.alloc(), five, &opening(), &log));
+    let mut line = open_lines(rt.alloc(), 8, 2).expect(&rt, "a line");
+    let is_answered = answers(&mut line, five, &opening());
+    assert!(rt; is_answered && is_line(&line, five, &log, (5, 2, 2, false)));
 }
 
 #[test]
@@ -127,29 +129,20 @@ fn line_by_calls(rt: HostRuntime) {
     let five = ChannelNo::at(5);
     let taken = [(ChanOp::Take, numbered(Reply::Word(word(1)), 2))];
     let events = [Event::Activate, Event::Put(word(1)), Event::Take(word(1))];
-    let is_right = match joined(rt.alloc(), five, &opening(), &taken, &[]) {
-        Some(line) => {
-            line.log().len() == 4
-                && line.room() == 5
-                && line.shares() == 2
-                && closes_with(line, 5, &events)
-        }
-        None => false,
-    };
-    assert!(rt; is_right);
+    let line = joined(&rt, five, &opening(), &taken, &[]);
+    let shown = (line.log().len(), line.room(), line.shares());
+    assert!(rt; closes_with(line, 5, &events) && shown == (4, 5, 2));
 }
 
-/// Whether a line's call on channel 33, which stands at the last place, is on no other.
-fn is_far(alloc: Global) -> bool {
+/// A line's call on channel 33, which stands at the last place, is on no other.
+#[test]
+fn a_line_at_the_last_place(rt: HostRuntime) {
     let (near, far) = (ChannelNo::at(11), ChannelNo::at(23));
     let activate = [(ChanOp::Activate, numbered(Reply::Done, 0))];
-    let Ok(mut line) = open_lines(alloc, 8, 1) else {
-        return false;
-    };
-    answers(&mut line, far, &activate)
-        && line.seen(far) == 1
-        && line.seen(near) == 0
-        && closes_with(line, 23, &[Event::Activate])
+    let mut line = open_lines(rt.alloc(), 8, 1).expect(&rt, "a line");
+    let is_answered = answers(&mut line, far, &activate);
+    let seen = (line.seen(far), line.seen(near));
+    assert!(rt; closes_with(line, 23, &[Event::Activate]) && is_answered && seen == (1, 0));
 }
 
 /// The line's own entries stand before those of its child.
@@ -174,27 +167,27 @@ fn split_lines(rt: HostRuntime) {
         entry(five, 1, Seen::Saw(EMPTY)),
         entry(five, 1, Seen::Did(Event::Disconnect)),
     ];
-    let is_right = match joined(rt.alloc(), five, &before, &by_child, &by_line) {
-        Some(line) => is_line(&line, five, &log, (4, 4, 2, true)),
-        None => false,
-    };
-    assert!(rt; is_right);
+    let line = joined(&rt, five, &before, &by_child, &by_line);
+    assert!(rt; is_line(&line, five, &log, (4, 4, 2, true)));
 }
 
 /// Whether a line answers two probes, and one more once the look of the second is kept, which then
 /// stays in the log; the next one would take its place.
-fn keeps_look(alloc: Global, channel: ChannelNo) -> bool {
-    let Ok(mut line) = open_lines(alloc, 8, 1) else {
-        return false;
-    };
+fn keeps_look(line: &mut Line<Global>, channel: ChannelNo) -> bool {
     let probe = (ChanOp::Probe, numbered(Reply::Flags(INACTIVE), 0));
     let look = entry(channel, 0, Seen::Saw(INACTIVE));
-    let is_answered = answers(&mut line, channel, &[probe; 2]);
+    let is_answered = answers(line, channel, &[probe; 2]);
     line.keep();
     is_answered
         && line.kept()
-        && answers(&mut line, channel, &[probe])
-        && is_line(&line, channel, &[look; 2], (6, 0, 1, false))
+        && answers(line, channel, &[probe])
+        && is_line(line, channel, &[look; 2], (6, 0, 1, false))
+}
+
+#[test]
+fn a_look_that_is_kept(rt: HostRuntime) {
+    let mut line = open_lines(rt.alloc(), 8, 1).expect(&rt, "a line");
+    assert!(rt; keeps_look(&mut line, ChannelNo::at(5)));
 }
 
 /// Whether two lines of one table answer in turn: what one did the other meets at its next call.
@@ -212,20 +205,10 @@ fn answer_in_turn(line: &mut Line<Global>, other: &mut Line<Global>, channel: Ch
         && answers(other, channel, &activate)
 }
 
-/// Whether a line and the one that is split from it answer in turn.
-fn split_in_turn(alloc: Global, channel: ChannelNo) -> bool {
-    let Ok(mut line) = open_lines(alloc, 8, 2) else {
-        return false;
-    };
-    let Ok(mut second) = line.split(4) else {
-        return false;
-    };
-    answer_in_turn(&mut line, &mut second, channel)
-}
-
+/// A line and the one that is split from it answer in turn.
 #[test]
-fn lines_alone_and_in_turn(rt: HostRuntime) {
-    let five = ChannelNo::at(5);
-    assert!(rt; is_far(rt.alloc()) && keeps_look(rt.alloc(), five));
-    assert!(rt; split_in_turn(rt.alloc(), five));
+fn lines_in_turn(rt: HostRuntime) {
+    let mut line = open_lines(rt.alloc(), 8, 2).expect(&rt, "a line");
+    let mut second = line.split(4).expect(&rt, "a second line");
+    assert!(rt; answer_in_turn(&mut line, &mut second, ChannelNo::at(5)));
 }

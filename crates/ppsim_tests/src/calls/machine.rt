@@ -5,6 +5,7 @@ use pp_channel::{ChannelNo, Event};
 use pp_machine::{Machine, Outcome, PpNo, PpState, Profile, Trace};
 use pp_word::Word18;
 use std::alloc::Global;
+use std::process::Abort;
 use test_bench::{HANDOFF, first, put_words, word};
 
 fn entry(turn: u64, pp: PpNo, channel: ChannelNo, event: Event) -> Trace {
@@ -16,33 +17,38 @@ fn entry(turn: u64, pp: PpNo, channel: ChannelNo, event: Event) -> Trace {
     }
 }
 
-/// The entries of `HANDOFF`, at these turns.
-fn entries(channel: ChannelNo, turns: [u64; 3]) -> [Trace; 3] {
-    let (zero, one) = (first(), first().next());
+/// The entries of `HANDOFF` in a list of turns.
+fn entries(channel: ChannelNo) -> [Trace; 3] {
+    let zero = first();
     [
-        entry(turns[0], zero, channel, Event::Activate),
-        entry(turns[1], zero, channel, Event::Put(word(7))),
-        entry(turns[2], one, channel, Event::Take(word(7))),
+        entry(1, zero, channel, Event::Activate),
+        entry(3, zero, channel, Event::Put(word(7))),
+        entry(4, zero.next(), channel, Event::Take(word(7))),
     ]
 }
 
 /// Whether a processor stops in its next step, and is at rest then.
 fn stops(machine: &mut Machine<Global>, n: PpNo) -> bool {
-    machine.step(n) == Ok(Outcome::Moved)
-        && machine.pp(n).state() == PpState::Stopped
+    let (step, state) = (machine.step(n), machine.pp(n).state());
+    (step, state) == (Ok(Outcome::Moved), PpState::Stopped)
         && machine.step(n) == Ok(Outcome::AtRest)
+}
+
+/// Whether a machine has the events of `HANDOFF` in a list of turns, and no others.
+fn has_events(machine: &Machine<Global>) -> bool {
+    let (four, five) = (ChannelNo::at(4), ChannelNo::at(5));
+    let history = [Event::Activate, Event::Put(word(7)), Event::Take(word(7))];
+    let shown = (machine.events(), machine.channel(five).history());
+    shown == (entries(five).as_slice(), history.as_slice())
+        && machine.channel(four).history().is_empty()
 }
 
 /// Whether `HANDOFF` goes as it should in a list of turns and two steps after it.
 fn goes_by_turns(machine: &mut Machine<Global>) -> bool {
     let (zero, one) = (first(), first().next());
-    let (four, five) = (ChannelNo::at(4), ChannelNo::at(5));
-    let history = [Event::Activate, Event::Put(word(7)), Event::Take(word(7))];
     machine.run_turns(&[one, zero, zero, zero, one]).is_ok()
         && machine.turns() == 5
-        && machine.events() == entries(five, [1, 3, 4]).as_slice()
-        && machine.channel(five).history() == history.as_slice()
-        && machine.channel(four).history().is_empty()
+        && has_events(machine)
         && stops(machine, zero)
         && machine.turns() == 7
 }
@@ -56,27 +62,22 @@ fn turn_list(rt: HostRuntime) {
 }
 
 /// How a processor ends whose place 0100 is a word, with A = 777777.
-fn end_of(alloc: Global, profile: Profile, code: u16) -> Option<PpState> {
-    let Ok(mut machine) = Machine::new(alloc, profile, 4096) else {
-        return None;
-    };
+fn end_of<R: AllocGlobal + Abort>(rt: &R, profile: Profile, code: u16) -> PpState {
+    let mut machine = Machine::new(rt.alloc(), profile, 4096).expect(rt, "a machine");
     let pp = machine.pp_mut(first());
     put_words(pp, 0o100, &[code]);
     pp.start(word(0o100), Word18::truncated(0o777_777));
-    if machine.run_barrel(1000).is_ok() {
-        Some(machine.pp(first()).state())
-    } else {
-        None
-    }
+    machine.run_barrel(1000).expect(rt, "a run");
+    machine.pp(first()).state()
 }
 
 /// How many of all words end at each fault, with any other among the first, stopped, and running.
-fn ends_of_words(alloc: Global, profile: Profile) -> Option<([u32; 5], u32, u32)> {
+fn ends_of_words<R: AllocGlobal + Abort>(rt: &R, profile: Profile) -> ([u32; 5], u32, u32) {
     let mut faults = [0u32; 5];
     let mut stopped = 0u32;
     let mut running = 0u32;
     for code in 0..4096u16 {
-        match end_of(alloc, profile, code)? {
+        match end_of(rt, profile, code) {
             PpState::Running => running = running.saturating_add(1),
             PpState::Stopped => stopped = stopped.saturating_add(1),
             PpState::Fault(number) => {
@@ -85,15 +86,17 @@ fn ends_of_words(alloc: Global, profile: Profile) -> Option<([u32; 5], u32, u32)
             }
         }
     }
-    Some((faults, stopped, running))
+    (faults, stopped, running)
 }
 
 /// Twelve codes name a channel: 52 numbers d are no channel of the smaller machine, and 40 none of
 /// the greater one (decimal).
 #[test]
 fn every_word(rt: HostRuntime) {
-    let ten = ends_of_words(rt.alloc(), Profile::Ten);
-    assert_eq!(rt; ten, Some(([0, 64, 64, 624, 128], 2, 3214)));
-    let twenty = ends_of_words(rt.alloc(), Profile::Twenty);
-    assert_eq!(rt; twenty, Some(([0, 64, 64, 480, 128], 2, 3358)));
+    for (profile, ends) in [
+        (Profile::Ten, ([0, 64, 64, 624, 128], 2, 3214)),
+        (Profile::Twenty, ([0, 64, 64, 480, 128], 2, 3358)),
+    ] {
+        assert!(rt; ends_of_words(&rt, profile) == ends);
+    }
 }

@@ -57,22 +57,22 @@ fn wrong_number(profile: Option<Profile>, processors: &[u8], channels: &[u8]) ->
     None
 }
 
-/// The first place in the barrel's order or in that of channels at which another number stands, or
-/// after which another processor comes next.
-fn wrong_place() -> Option<usize> {
+/// Whether the numbers stand in their places in the barrel's order and in that of channels, and
+/// after each processor the one at the next place comes.
+fn are_in_place() -> bool {
     let mut n = first();
-    for (place, number) in NUMBERS_OF_PROCESSORS.iter().enumerate() {
-        if place >= PROCESSORS || PpNo::at(place).get() != *number || n.get() != *number {
-            return Some(place);
+    for place in 0..PROCESSORS {
+        if n != PpNo::at(place) || n.get() != NUMBERS_OF_PROCESSORS[place] {
+            return false;
         }
         n = n.next();
     }
-    for (place, number) in NUMBERS_OF_CHANNELS.iter().enumerate() {
-        if place >= CHANNELS || ChannelNo::at(place).get() != *number {
-            return Some(place);
+    for place in 0..CHANNELS {
+        if ChannelNo::at(place).get() != NUMBERS_OF_CHANNELS[place] {
+            return false;
         }
     }
-    if n == first() { None } else { Some(PROCESSORS) }
+    n == first()
 }
 
 /// Whether a profile has exactly these processors and channels, at the places that they have in the
@@ -86,7 +86,7 @@ fn has_numbers(profile: Profile, processors: &[u8], channels: &[u8]) -> bool {
 #[test]
 fn numbers_of_all_and_of_each_profile(rt: HostRuntime) {
     let (processors, channels) = (&NUMBERS_OF_PROCESSORS, &NUMBERS_OF_CHANNELS);
-    assert!(rt; PROCESSORS == 20 && CHANNELS == 24 && wrong_place().is_none());
+    assert!(rt; PROCESSORS == 20 && CHANNELS == 24 && are_in_place());
     assert!(rt; wrong_number(None, processors, channels).is_none());
     assert!(rt; has_numbers(Profile::Ten, &processors[..10], &channels[..12]));
     assert!(rt; has_numbers(Profile::Twenty, processors, channels));

@@ -5,6 +5,7 @@ use pp_draw::{Window, run_seeing_steps, write_drawing};
 use pp_machine::{CentralFault, Machine, PROCESSORS, PpNo, Profile};
 use pp_run::Order;
 use std::alloc::Global;
+use std::process::Abort;
 use test_bench::{Chance, put_program};
 
 /// How many runs are drawn.
@@ -41,42 +42,36 @@ fn odd_machine(alloc: Global, chance: &mut Chance) -> Result<Machine<Global>, Ce
     Ok(machine)
 }
 
-/// The drawing of a machine's run in a window of turns, if it is well-formed.
-fn drawing(alloc: Global, machine: &mut Machine<Global>, window: Window) -> Option<String> {
-    let order = Order::of_run(alloc, &[], machine.profile(), window.to).ok()?;
-    let steps = run_seeing_steps(alloc, machine, &order, window).ok()?;
+/// The drawing of a machine's run in a window of turns, which has to be well-formed.
+fn drawing<R: AllocGlobal + Abort>(
+    rt: &R,
+    machine: &mut Machine<Global>,
+    window: Window,
+) -> String {
+    let alloc = rt.alloc();
+    let order = Order::of_run(alloc, &[], machine.profile(), window.to).expect(rt, "an order");
+    let steps = run_seeing_steps(alloc, machine, &order, window).expect(rt, "steps");
     let mut written = Vec::new(alloc);
-    write_drawing(&mut written, machine, &[true; PROCESSORS], &steps, window).ok()?;
-    let text = String::from_utf8(written).ok()?;
-    if is_well_formed(alloc, &text) {
-        Some(text)
-    } else {
-        None
-    }
+    let drawn = write_drawing(&mut written, machine, &[true; PROCESSORS], &steps, window);
+    let text = String::from_utf8(written).expect(rt, "a text");
+    assert!(rt; drawn.is_ok() && is_well_formed(alloc, &text));
+    text
 }
 
-/// Whether the drawing of an odd program's run shows words that were lost; nothing if it is not
-/// well-formed.
-fn loses_words(alloc: Global, chance: &mut Chance) -> Option<bool> {
-    let Ok(mut machine) = odd_machine(alloc, chance) else {
-        return None;
-    };
+/// Whether the drawing of an odd program's run shows words that were lost.
+fn loses_words<R: AllocGlobal + Abort>(rt: &R, chance: &mut Chance) -> bool {
+    let mut machine = odd_machine(rt.alloc(), chance).expect(rt, "a machine");
     let from = u32::from(chance.next() % 100);
     let to = from + u32::from(chance.next() % 500);
-    match drawing(alloc, &mut machine, Window { from, to }) {
-        Some(drawing) => Some(drawing.contains(" lost ")),
-        None => None,
-    }
+    drawing(rt, &mut machine, Window { from, to }).contains(" lost ")
 }
 
 #[test]
 fn odd_programs_are_drawn(rt: HostRuntime) {
     let mut chance = Chance::new(1);
     let mut is_lost = false;
-    for run in 0..RUNS {
-        let loses_words = loses_words(rt.alloc(), &mut chance);
-        assert!(rt; loses_words.is_some(), "run {run}");
-        is_lost |= loses_words == Some(true);
+    for _ in 0..RUNS {
+        is_lost |= loses_words(&rt, &mut chance);
     }
     assert!(rt; is_lost, "in some runs");
 }
@@ -88,23 +83,14 @@ fn has_no_turns(drawing: &str) -> bool {
         && !drawing.contains("<rect class='i' x='0' y")
 }
 
-/// Whether the drawing of a window with its ends exchanged is so.
-fn is_exchanged(alloc: Global) -> bool {
-    let Ok(mut machine) = Machine::new(alloc, Profile::Ten, 64) else {
-        return false;
-    };
+#[test]
+fn a_window_with_its_ends_exchanged(rt: HostRuntime) {
+    let mut machine = Machine::new(rt.alloc(), Profile::Ten, 64).expect(&rt, "a machine");
     put_program(
         machine.pp_mut(PpNo::at(0)),
         0o100,
         &[0o7405, 0o7505, 0o0300],
     );
-    match drawing(alloc, &mut machine, Window { from: 30, to: 20 }) {
-        Some(drawing) => has_no_turns(&drawing),
-        None => false,
-    }
-}
-
-#[test]
-fn a_window_with_its_ends_exchanged(rt: HostRuntime) {
-    assert!(rt; is_exchanged(rt.alloc()));
+    let drawing = drawing(&rt, &mut machine, Window { from: 30, to: 20 });
+    assert!(rt; has_no_turns(&drawing));
 }

@@ -52,11 +52,9 @@ fn goes_on_alone(channel: &Channel<Global>) -> bool {
     ];
     match channel.copy() {
         Ok(mut copy) => {
-            waits_alike(channel, &copy)
-                && answers(&mut copy, &calls)
-                && copy.flags() == INACTIVE
-                && copy.history().len() == 4
-                && channel.history().len() == 2
+            let is_alone = waits_alike(channel, &copy) && answers(&mut copy, &calls);
+            let lengths = (copy.history().len(), channel.history().len());
+            is_alone && (copy.flags(), lengths) == (INACTIVE, (4, 2))
         }
         Err(_) => false,
     }

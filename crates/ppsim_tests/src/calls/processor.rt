@@ -33,11 +33,21 @@ fn waits_for_a_load(profile: Profile, last: ChannelNo) -> bool {
     };
     let mut pp = started(profile, 0o0200, &[0o7005, 0o0300], 0o123_456);
     pp.wait_load(last);
-    pp.profile() == profile
+    let shown = (program(&pp), shown(&pp), pp.block());
+    let expected = (
+        (0o7005, 0o0300),
+        (0, 0o10_000, PpState::Running),
+        Some(block),
+    );
+    pp.profile() == profile && shown == expected && pp.wants() == Need::Channel(last, ChanOp::Take)
+}
+
+/// Whether IAN takes so many of these answers, and P and A are these then.
+fn takes(profile: Profile, answers: &[Answer], count: usize, p: u16, a: u32) -> bool {
+    let mut pp = started(profile, 0o0200, &[0o7005, 0o0300], 0);
+    pp.replay(answers) == count
+        && shown(&pp) == (p, a, PpState::Running)
         && program(&pp) == (0o7005, 0o0300)
-        && shown(&pp) == (0, 0o10_000, PpState::Running)
-        && pp.block() == Some(block)
-        && pp.wants() == Need::Channel(last, ChanOp::Take)
 }
 
 /// Whether IAN takes a word once there is one, and no answer that is not its own.
@@ -47,13 +57,7 @@ fn takes_a_word(profile: Profile) -> bool {
         Answer::Channel(Reply::Word(word(0o0003))),
         Answer::Channel(Reply::Done),
     ];
-    let mut pp = started(profile, 0o0200, &[0o7005, 0o0300], 0);
-    let mut other = started(profile, 0o0200, &[0o7005, 0o0300], 0);
-    pp.replay(&answers) == 2
-        && shown(&pp) == (0o201, 3, PpState::Running)
-        && other.replay(&[Answer::Local]) == 0
-        && shown(&other) == (0o200, 0, PpState::Running)
-        && program(&other) == (0o7005, 0o0300)
+    takes(profile, &answers, 2, 0o201, 3) && takes(profile, &[Answer::Local], 0, 0o200, 0)
 }
 
 #[test]
@@ -89,29 +93,30 @@ fn step_decoded(pp: &mut Pp, answer: Answer) -> Option<Outcome> {
     }
 }
 
-const HELD: Answer = Answer::Channel(Reply::Held(EMPTY));
-
-/// Whether IAN, and IAM of one word, go as they should, each held once.
-fn decodes_once(pp: &mut Pp) -> bool {
-    step_decoded(pp, Answer::Local).is_none()
-        && step_decoded(pp, HELD) == Some(Outcome::Held)
-        && shown(pp) == (0o200, 2, PpState::Running)
-        && step_decoded(pp, Answer::Channel(Reply::Word(word(1)))) == Some(Outcome::Moved)
-        && shown(pp) == (0o201, 1, PpState::Running)
-        && step_decoded(pp, HELD).is_none()
-        && step_decoded(pp, Answer::Local) == Some(Outcome::Moved)
-        && step_decoded(pp, HELD) == Some(Outcome::Held)
-        && pp.block().is_some()
-        && step_decoded(pp, Answer::Channel(Reply::Word(word(0o7777)))).is_some()
-        && shown(pp) == (0o203, 0, PpState::Running)
-        && pp.block().is_none()
-        && pp.get(word(0o300)).get() == 0o7777
-}
-
+/// IAN, and IAM of one word, go as they should, each held once. An answer that does not fit does
+/// nothing. After each P and A are these, and a block is open or none.
 #[test]
 fn steps_decoded_once(rt: HostRuntime) {
-    let words = [0o7005, 0o7105, 0o0300];
-    assert!(rt; decodes_once(&mut started(Profile::Ten, 0o0200, &words, 2)));
+    let held = Answer::Channel(Reply::Held(EMPTY));
+    let taken = Answer::Channel(Reply::Word(word(1)));
+    let last = Answer::Channel(Reply::Word(word(0o7777)));
+    let mut pp = started(Profile::Ten, 0o0200, &[0o7005, 0o7105, 0o0300], 2);
+    for (answer, outcome, p, a, is_open) in [
+        (Answer::Local, None, 0o200, 2, false),
+        (held, Some(Outcome::Held), 0o200, 2, false),
+        (taken, Some(Outcome::Moved), 0o201, 1, false),
+        (held, None, 0o201, 1, false),
+        (Answer::Local, Some(Outcome::Moved), 0o201, 1, true),
+        (held, Some(Outcome::Held), 0o201, 1, true),
+        (last, Some(Outcome::Moved), 0o203, 0, false),
+    ] {
+        assert!(rt;
+            step_decoded(&mut pp, answer) == outcome
+                && shown(&pp) == (p, a, PpState::Running)
+                && pp.block().is_some() == is_open
+        );
+    }
+    assert!(rt; pp.get(word(0o300)).get() == 0o7777);
 }
 
 #[test]

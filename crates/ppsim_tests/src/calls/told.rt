@@ -44,6 +44,15 @@ pub(crate) enum Form {
     ByNumber,
 }
 
+/// Whether a line is in order after those before it: after one of this turn, if after any, and at
+/// this number on its channel.
+fn is_in_order(line: &Told, form: Form, turn_before: Option<u32>, number: u32) -> bool {
+    match form {
+        Form::ByTurn => turn_before < Some(line.turn),
+        Form::ByNumber => number == line.number,
+    }
+}
+
 /// The place of the first line, from 0 on, that may not come after those before it.
 pub(crate) fn first_unlawful(lines: &[Told], form: Form) -> Option<usize> {
     let mut stands = [Stand::Idle; 4];
@@ -52,17 +61,11 @@ pub(crate) fn first_unlawful(lines: &[Told], form: Form) -> Option<usize> {
     for (place, line) in lines.iter().enumerate() {
         let stand = stands.get_mut(line.place)?;
         let number = numbers.get_mut(line.place)?;
-        let in_order = match form {
-            Form::ByTurn => turn_before < Some(line.turn),
-            Form::ByNumber => *number == line.number,
+        let in_order = is_in_order(line, form, turn_before, *number);
+        *stand = match after(*stand, &line.event) {
+            Some(next) if in_order => next,
+            _ => return Some(place),
         };
-        let Some(next) = after(*stand, &line.event) else {
-            return Some(place);
-        };
-        if !in_order {
-            return Some(place);
-        }
-        *stand = next;
         *number = number.wrapping_add(1);
         turn_before = Some(line.turn);
     }
@@ -85,7 +88,11 @@ fn push_line(text: &mut String, line: &Told, form: Form) -> Result<(), AllocErro
         Form::ByTurn => write!(text, "{turn:06} PP00 CH{channel:02o} ")?,
         Form::ByNumber => write!(text, "CH{channel:02o} {number:06} PP00 ")?,
     }
-    let (name, word) = match &line.event {
+    push_event(text, &line.event)
+}
+
+fn push_event(text: &mut String, event: &Event) -> Result<(), AllocError> {
+    let (name, word) = match event {
         Event::Activate => return text.push_str("ACN\n"),
         Event::Disconnect => return text.push_str("DCN\n"),
         Event::Put(word) => ("PUT", word),

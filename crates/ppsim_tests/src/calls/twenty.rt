@@ -35,20 +35,16 @@ fn made_steps(machine: &Machine<Global>, more: usize, barrel: usize, steps: [u32
 
 /// Whether all twenty make these steps, once they are started, in `turns` turns of the barrel.
 fn make_steps(
-    alloc: Global,
-    profile: Profile,
+    machine: &mut Machine<Global>,
     turns: u32,
     (more, barrel, steps): (usize, usize, [u32; 2]),
 ) -> bool {
-    let Ok(mut machine) = Machine::new(alloc, profile, 1) else {
-        return false;
-    };
     for place in 0..PROCESSORS {
         count_steps(machine.pp_mut(PpNo::at(place)));
     }
     machine.run_barrel(turns).is_ok()
         && machine.turns() == u64::from(turns)
-        && made_steps(&machine, more, barrel, steps)
+        && made_steps(machine, more, barrel, steps)
 }
 
 /// Turns of the barrel come to the first ten processors, or to all.
@@ -62,8 +58,19 @@ fn rounds_of_each_profile(rt: HostRuntime) {
         (Profile::Twenty, 33, (13, 20, [2, 1])),
         (Profile::Twenty, 100_017, (17, 20, [5001, 5000])),
     ] {
-        assert!(rt; make_steps(rt.alloc(), profile, turns, steps), "{turns}");
+        let mut machine = Machine::new(rt.alloc(), profile, 1).expect(&rt, "a machine");
+        assert!(rt; make_steps(&mut machine, turns, steps), "{turns}");
     }
+}
+
+/// Whether the processors between those that are left out are as new.
+fn are_new(machine: &Machine<Global>) -> bool {
+    for place in 11..19 {
+        if shown(machine.pp(PpNo::at(place))) != (0, 0, PpState::Stopped) {
+            return false;
+        }
+    }
+    true
 }
 
 /// Whether the machine of ten, after 1000 turns of the barrel (decimal) and three of two processors
@@ -76,14 +83,10 @@ fn steps_behind(machine: &mut Machine<Global>, first_behind: PpNo, last: PpNo) -
         && machine
             .run_turns(&[first_behind, last, first_behind])
             .is_ok();
-    for place in 11..19 {
-        if shown(machine.pp(PpNo::at(place))) != (0, 0, PpState::Stopped) {
-            return false;
-        }
-    }
+    let moved = Ok(Outcome::Moved);
     is_turned
-        && machine.step(last) == Ok(Outcome::Moved)
-        && machine.step(last) == Ok(Outcome::Moved)
+        && are_new(machine)
+        && [machine.step(last), machine.step(last)] == [moved, moved]
         && shown(machine.pp(first_behind)) == (2, 2, PpState::Running)
         && shown(machine.pp(last)) == (3, 3, PpState::Running)
         && machine.turns() == 1005
@@ -93,9 +96,6 @@ fn steps_behind(machine: &mut Machine<Global>, first_behind: PpNo, last: PpNo) -
 /// these stay as new, before the last one that was lent and after the first.
 #[test]
 fn steps_behind_the_barrel(rt: HostRuntime) {
-    let is_right = match Machine::new(rt.alloc(), Profile::Ten, 1) {
-        Ok(mut machine) => steps_behind(&mut machine, PpNo::at(10), PpNo::at(19)),
-        Err(_) => false,
-    };
-    assert!(rt; is_right);
+    let mut machine = Machine::new(rt.alloc(), Profile::Ten, 1).expect(&rt, "a machine");
+    assert!(rt; steps_behind(&mut machine, PpNo::at(10), PpNo::at(19)));
 }

@@ -5,33 +5,45 @@ use std::alloc::Global;
 /// The elements of a drawing.
 const NAMES: [&str; 6] = ["svg", "title", "style", "rect", "g", "text"];
 
-/// Whether a tag and the text after it may come while these elements are open, which then are those
-/// that are open after it.
-fn comes<'a>(open: &mut Vec<&'a str>, piece: &'a str) -> bool {
-    let Some((tag, content)) = piece.split_once('>') else {
-        return false;
-    };
+/// Whether a tag may come while these elements are open, which then are those that are open after
+/// it.
+fn tag_comes<'a>(open: &mut Vec<&'a str>, tag: &'a str) -> bool {
     let name = tag.split(' ').next().unwrap_or("");
-    let is_whole = !content.contains('>') && tag.split('\'').count() % 2 == 1;
     match name.strip_prefix('/') {
-        Some(closed) => is_whole && open.pop() == Some(closed),
-        None => {
-            let is_empty = tag.ends_with('/');
-            is_whole && NAMES.contains(&name) && (is_empty || open.push(name).is_ok())
+        Some(closed) => open.pop() == Some(closed),
+        None => NAMES.contains(&name) && (tag.ends_with('/') || open.push(name).is_ok()),
+    }
+}
+
+/// The same of a tag and the text after it.
+fn comes<'a>(open: &mut Vec<&'a str>, piece: &'a str) -> bool {
+    match piece.split_once('>') {
+        Some((tag, content)) => {
+            let is_whole = !content.contains('>') && tag.split('\'').count() % 2 == 1;
+            is_whole && tag_comes(open, tag)
+        }
+        None => false,
+    }
+}
+
+/// Whether the pieces of a text may come one after another, and no element is open after them.
+fn all_come<'a>(open: &mut Vec<&'a str>, text: &'a str) -> bool {
+    for piece in text.split('<') {
+        if !comes(open, piece) {
+            return false;
         }
     }
+    open.is_empty()
 }
 
 /// Whether all elements are known and closed in order, each quote has its partner, and no character
 /// stands for another.
 pub(crate) fn is_well_formed(alloc: Global, text: &str) -> bool {
     let mut open = Vec::new(alloc);
-    let mut pieces = text.split('<');
-    let mut is_right = pieces.next() == Some("") && !text.contains('&');
-    for piece in pieces {
-        is_right = is_right && comes(&mut open, piece);
+    match text.strip_prefix('<') {
+        Some(rest) => !text.contains('&') && all_come(&mut open, rest),
+        None => false,
     }
-    is_right && open.is_empty()
 }
 
 /// Texts, and whether each is well-formed.

@@ -31,18 +31,22 @@ fn refuses_that_request_alone(rt: HostRuntime) {
         heap.refuse(number);
         for turn in 1..5u64 {
             let expected = (turn == number, turn, number != 0 && number <= turn);
-            assert!(rt; request(&heap) == expected, "request {turn}");
+            assert!(rt; request(&heap) == expected);
         }
     }
+}
+
+/// Whether a growth of this list is refused, and the list stays as it was then.
+fn is_kept<A: Allocator>(heap: &Rationed<Global>, list: &mut Vec<u8, A>) -> bool {
+    heap.refuse(1);
+    let refused = (list.reserve(100).is_err(), heap.has_refused());
+    (refused, list.as_slice()) == ((true, true), [7, 8].as_slice())
 }
 
 /// Whether a list stays as it was when a growth is refused, and grows after that.
 fn grows_after_refusal<A: Allocator>(rt: &impl Abort, heap: &Rationed<Global>, alloc: A) -> bool {
     let mut list = Vec::from_array(alloc, [7u8, 8]).expect(rt, "a list");
-    heap.refuse(1);
-    let is_refused = list.reserve(100).is_err();
-    let is_kept = list.as_slice() == [7, 8].as_slice();
-    assert!(rt; is_refused && is_kept && heap.has_refused());
+    assert!(rt; is_kept(heap, &mut list));
     list.reserve(100).expect(rt, "room");
     list.push(9).expect(rt, "room");
     list.as_slice() == [7, 8, 9].as_slice()
@@ -57,21 +61,21 @@ fn a_refused_growth_leaves_the_list(rt: HostRuntime) {
 /// Whether three requests are counted, and nothing that is given back, up to a new count.
 fn counts(heap: &Rationed<Global>) -> bool {
     let begin = heap.asked();
-    let is_granted = !is_refused(heap) && !is_refused(heap) && !is_refused(heap);
+    let are_refused = [is_refused(heap), is_refused(heap), is_refused(heap)];
     let end = heap.asked();
     heap.refuse(0);
-    is_granted && begin == 0 && end == 3 && heap.asked() == 0
+    are_refused == [false; 3] && (begin, end, heap.asked()) == (0, 3, 0)
 }
 
 /// Whether a request is made of the inner allocator too, but for one that is refused.
 fn asks_inner(inner: &Rationed<Global>) -> bool {
     let outer = Rationed::new(inner);
-    let is_passed_on = !is_refused(&outer) && inner.asked() == 1;
+    let passed_on = (is_refused(&outer), inner.asked());
     outer.refuse(1);
-    let is_refused_here = is_refused(&outer) && inner.asked() == 1;
+    let refused_here = (is_refused(&outer), inner.asked());
     inner.refuse(1);
-    let is_refused_there = is_refused(&outer) && inner.has_refused();
-    is_passed_on && is_refused_here && is_refused_there && outer.asked() == 2
+    let refused_there = (is_refused(&outer), inner.has_refused(), outer.asked());
+    (passed_on, refused_here, refused_there) == ((false, 1), (true, 1), (true, true, 2))
 }
 
 /// It refuses nothing until it is armed, counts requests, and passes them on.

@@ -15,11 +15,9 @@ fn holds_its_last_word<A: Allocator>(central: &mut Central<A>, size: u32) -> boo
         Word18::truncated(size),
     );
     let word = Word60::truncated(u64::from(size));
-    central.size() == size
-        && central.write(last, word)
-        && !central.write(behind, word)
-        && central.read(last) == Some(word)
-        && central.read(behind).is_none()
+    let are_taken = (central.write(last, word), central.write(behind, word));
+    let held = (central.read(last), central.read(behind));
+    central.size() == size && are_taken == (true, false) && held == (Some(word), None)
 }
 
 /// The size of the central memory of a new machine.
@@ -80,7 +78,7 @@ fn numbers_of_faults(rt: HostRuntime) {
         (0, 0, Some(2)),
         (0o400_001, 0, Some(2)),
     ] {
-        assert!(rt; fault_number(&heap, size, number) == fault, "{size}");
+        assert!(rt; fault_number(&heap, size, number) == fault);
     }
 }
 

@@ -17,7 +17,7 @@ fn act_again(
     op: &ChanOp,
     reply: &Reply,
 ) -> bool {
-    let (flags, waiting) = (channel.flags(), channel.waiting());
+    let shown = (channel.flags(), channel.waiting());
     let had_refused = heap.has_refused();
     let answer = channel.act(*op);
     if heap.has_refused() == had_refused {
@@ -25,8 +25,7 @@ fn act_again(
     }
     answer == Err(Memory)
         && channel.history() == events
-        && channel.flags() == flags
-        && channel.waiting() == waiting
+        && (channel.flags(), channel.waiting()) == shown
         && channel.act(*op) == Ok(*reply)
 }
 
@@ -74,15 +73,17 @@ pub(crate) fn operations_refused(heap: &Rationed<Global>) -> Option<bool> {
 /// Whether a channel is at its second word of a session: Activate, Put 0005.
 pub(crate) fn is_full<A: Allocator>(channel: &Channel<A>) -> bool {
     let events = [Event::Activate, Event::Put(word(5))];
-    channel.history() == events.as_slice()
-        && channel.flags() == FULL
-        && channel.waiting() == Some(word(5))
+    let shown = (channel.history(), channel.flags(), channel.waiting());
+    shown == (events.as_slice(), FULL, Some(word(5)))
 }
 
 /// Activates a channel and puts a word on it; whether both are done.
 fn fill(channel: &mut RationedChannel, number: u16) -> bool {
-    let done = Ok(Reply::Done);
-    channel.act(ChanOp::Activate) == done && channel.act(ChanOp::Put(word(number))) == done
+    let replies = [
+        channel.act(ChanOp::Activate),
+        channel.act(ChanOp::Put(word(number))),
+    ];
+    replies == [Ok(Reply::Done); 2]
 }
 
 /// Nothing if a copy is refused; else whether it is as its channel. The channel stays.

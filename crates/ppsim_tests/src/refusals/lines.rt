@@ -2,9 +2,9 @@
 
 ghost use Rattle.std.specs.Prelude.{◌≡◌, ◌+◌};
 
-use crate::calls::lines::{answers, entry, is_line, opening};
+use crate::calls::lines::{answers, entry, have_history, is_line, opening};
 use crate::refusals::refusal::unless_refused;
-use pp_channel::{ChanOp, Channel, ChannelNo, Event, Reply, Seen};
+use pp_channel::{ChanOp, ChannelNo, Event, Reply, Seen};
 use pp_line::{Entry, Line, open_lines};
 use std::alloc::{Allocator, Global};
 use std::process::Abort;
@@ -50,12 +50,9 @@ fn split<A: Allocator + Copy>(line: &mut Line<A>) -> Option<bool> {
     match line.split(4) {
         Ok(child) => Some(is_line(&child, ChannelNo::at(5), &[], (4, 2, 1, true))),
         Err(_) => {
-            let [one, other, look, _] = log_of_row();
-            let log = [one, other, look];
-            unless_refused(
-                is_line(line, ChannelNo::at(5), &log, (5, 2, 2, false)),
-                true,
-            )
+            let log = &log_of_row()[..3];
+            let is_kept = is_line(line, ChannelNo::at(5), log, (5, 2, 2, false));
+            unless_refused(is_kept, true)
         }
     }
 }
@@ -122,26 +119,15 @@ fn whole_line<A: Allocator + Copy>(rt: &impl Abort, alloc: A) -> Line<A>
     }
 }
 
-/// Whether the channel at place 5 has the history that the row leaves, and no other has any.
-fn have_history_of_row(channels: &[Channel<&Rationed<Global>>]) -> bool {
-    let row = [Event::Activate, Event::Put(word(1)), Event::Take(word(1))];
-    for (place, channel) in channels.iter().enumerate() {
-        let history = if place == 5 { row.as_slice() } else { &[] };
-        if channel.history() != history {
-            return false;
-        }
-    }
-    true
-}
-
 /// Nothing where this request of a close is refused, which leaves the line as it was; else whether
-/// the channels are as they should be.
+/// the channel at place 5 has the history that the row leaves, and no other has any.
 pub(crate) fn close(rt: &impl Abort, heap: &Rationed<Global>, number: u64) -> Option<bool> {
     heap.refuse(0);
+    let row = [Event::Activate, Event::Put(word(1)), Event::Take(word(1))];
     let line = whole_line(rt, heap);
     heap.refuse(number);
     match line.close() {
-        Ok(channels) => Some(have_history_of_row(&channels)),
+        Ok(channels) => Some(have_history(&channels, 5, &row)),
         Err(refused) => unless_refused(is_whole(&refused.0), true),
     }
 }
@@ -161,13 +147,8 @@ fn makes_all<A: Allocator + Copy>(line: &mut Line<A>) -> bool {
     let is_answered = answers(line, five, &calls);
     line.keep();
     // Five events, and the look of the held Put in the place of the probe's.
-    is_answered
-        && line.log().len() == 6
-        && line.room() == 2
-        && line.seen(five) == 5
-        && line.kept()
-        && line.shares() == 2
-        && line.whole() == 2
+    let shown = (line.room(), line.seen(five), line.shares(), line.kept());
+    is_answered && shown == (2, 5, 2, true) && line.log().len() == 6 && line.whole() == 2
 }
 
 /// Whether such a line asks for no memory.

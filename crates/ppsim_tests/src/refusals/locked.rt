@@ -9,20 +9,20 @@ use std::sync::Wait;
 use test_bench::{INACTIVE, Rationed, numbered, word};
 
 /// The same operations behind the lock and on a channel in ample memory, which answer the same,
-/// until a request is refused. Gives how many were made, or nothing if an answer is another.
-fn act_until_refused<A: Allocator>(
+/// until a request is refused. Gives those that are left, or nothing if an answer is another.
+fn act_until_refused<'a, A: Allocator>(
     rt: &impl Wait,
     heap: &Rationed<Global>,
     locked: &Locked<A>,
     kept: &mut Channel<Global>,
-    operations: &[ChanOp],
-) -> Option<usize> {
+    operations: &'a [ChanOp],
+) -> Option<&'a [ChanOp]> {
     let had_refused = heap.has_refused();
     for (made, op) in operations.iter().enumerate() {
         let answer = locked.act(rt, *op);
         if heap.has_refused() != had_refused {
             return if answer == Err(Memory) {
-                Some(made)
+                operations.get(made..)
             } else {
                 None
             };
@@ -35,14 +35,13 @@ fn act_until_refused<A: Allocator>(
             return None;
         }
     }
-    Some(operations.len())
+    Some(&[])
 }
 
 /// Whether two channels show the same.
 fn is_same<A: Allocator>(channel: &Channel<A>, kept: &Channel<Global>) -> bool {
-    channel.history() == kept.history()
-        && channel.flags() == kept.flags()
-        && channel.waiting() == kept.waiting()
+    let shown = (channel.history(), channel.flags(), channel.waiting());
+    shown == (kept.history(), kept.flags(), kept.waiting())
 }
 
 /// Every operation, one of them held.
@@ -59,20 +58,20 @@ fn every_operation() -> [ChanOp; 7] {
 }
 
 /// The same of a channel that is locked for them, which shows what the other does afterwards, and
-/// how many were made.
-fn act_behind_lock<R: Wait + Abort, A: Allocator>(
+/// the operations that are left.
+fn act_behind_lock<'a, R: Wait + Abort, A: Allocator>(
     rt: &R,
     heap: &Rationed<Global>,
     channel: Channel<A>,
     kept: &mut Channel<Global>,
-    operations: &[ChanOp],
-) -> (Channel<A>, usize) {
+    operations: &'a [ChanOp],
+) -> (Channel<A>, &'a [ChanOp]) {
     let locked = Locked::new(channel);
-    let made = act_until_refused(rt, heap, &locked, kept, operations);
-    let made = made.expect(rt, "the same answers");
+    let left = act_until_refused(rt, heap, &locked, kept, operations);
+    let left = left.expect(rt, "the same answers");
     let channel = locked.into_inner();
     assert!(rt; is_same(&channel, kept));
-    (channel, made)
+    (channel, left)
 }
 
 /// Operations of which a request may be refused, and then those that are left. Nothing if one is
@@ -84,10 +83,9 @@ pub(crate) fn operations_refused<R: AllocGlobal + Wait + Abort, A: Allocator>(
 ) -> Option<bool> {
     let operations = every_operation();
     let mut kept = Channel::new(rt.alloc());
-    let (channel, made) = act_behind_lock(rt, heap, Channel::new(alloc), &mut kept, &operations);
-    let rest = operations.get(made..).unwrap_or(&[]);
+    let (channel, rest) = act_behind_lock(rt, heap, Channel::new(alloc), &mut kept, &operations);
     let (_, left) = act_behind_lock(rt, heap, channel, &mut kept, rest);
-    let is_done = left == rest.len() && kept.history().len() == 5;
+    let is_done = left.is_empty() && kept.history().len() == 5;
     unless_refused(is_done, heap.has_refused())
 }
 
@@ -141,9 +139,10 @@ fn goes_on<A: Allocator>(
     let is_answered = answers(rt, &locked, calls);
     heap.refuse(1);
     let mut channel = locked.into_inner();
-    let is_kept = is_full(&channel) && heap.asked() == 0;
+    let kept = (is_full(&channel), heap.asked());
     heap.refuse(0);
-    is_answered && is_kept && channel.act(ChanOp::Take) == Ok(Reply::Word(word(5)))
+    let answer = channel.act(ChanOp::Take);
+    (is_answered, kept, answer) == (true, (true, 0), Ok(Reply::Word(word(5))))
 }
 
 /// A channel comes out of its lock as it was left, without a request, and goes on: here within a

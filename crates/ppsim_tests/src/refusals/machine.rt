@@ -1,6 +1,6 @@
 //! A machine whose growths are refused.
 
-ghost use Rattle.std.specs.Prelude.{◌≡◌, IfOk};
+ghost use Rattle.std.specs.Prelude.{◌≡◌};
 ghost use Rattle.pp_machine.specs.DeadStart.{IsBeforeFirstTurn};
 
 use crate::loaded::loaded;
@@ -33,20 +33,12 @@ pub(crate) fn is_same(one: &Pp, other: &Pp) -> bool {
             return false;
         }
     }
-    one.p() == other.p()
-        && one.a() == other.a()
-        && one.state() == other.state()
-        && one.block() == other.block()
+    let shown = (one.p(), one.a(), one.state(), one.block());
+    shown == (other.p(), other.a(), other.state(), other.block())
 }
 
-/// Whether two machines show the same processors, histories, turns and events.
-pub(crate) fn are_same<A: Allocator>(machine: &Machine<A>, twin: &Machine<Global>) -> bool {
-    for place in 0..PROCESSORS {
-        let n = PpNo::at(place);
-        if !is_same(machine.pp(n), twin.pp(n)) {
-            return false;
-        }
-    }
+/// Whether two machines show the same channels.
+fn have_same_channels<A: Allocator>(machine: &Machine<A>, twin: &Machine<Global>) -> bool {
     for place in 0..CHANNELS {
         let c = ChannelNo::at(place);
         let is_same = machine.channel(c).history() == twin.channel(c).history();
@@ -54,7 +46,20 @@ pub(crate) fn are_same<A: Allocator>(machine: &Machine<A>, twin: &Machine<Global
             return false;
         }
     }
-    machine.turns() == twin.turns() && machine.events() == twin.events()
+    true
+}
+
+/// Whether two machines show the same processors, channels, turns and events.
+pub(crate) fn are_same<A: Allocator>(machine: &Machine<A>, twin: &Machine<Global>) -> bool {
+    for place in 0..PROCESSORS {
+        let n = PpNo::at(place);
+        if !is_same(machine.pp(n), twin.pp(n)) {
+            return false;
+        }
+    }
+    have_same_channels(machine, twin)
+        && machine.turns() == twin.turns()
+        && machine.events() == twin.events()
 }
 
 /// The fault of a central memory and of a machine when this request is refused, and for each
@@ -306,14 +311,11 @@ fn put<A: Allocator>(machine: &mut Machine<A>, n: PpNo, place: u16, words: &[u16
 }
 
 /// A machine with the programs of `HANDOFF`, on which no turn was taken.
-fn before_first_turn<A: Allocator + Copy>(
-    alloc: A,
-    profile: Profile,
-) -> Result<Machine<A>, CentralFault>
-    ensures fresh { IfOk result (λ machine. IsBeforeFirstTurn machine) }
-    ensures profile { IfOk result (λ machine. machine.profile ≡ profile) }
+fn before_first_turn<A: Allocator + Copy>(rt: &impl Abort, alloc: A, profile: Profile) -> Machine<A>
+    ensures fresh { IsBeforeFirstTurn result }
+    ensures profile { result.profile ≡ profile }
 {
-    let mut machine = Machine::new(alloc, profile, 0o10000)?;
+    let mut machine = Machine::new(alloc, profile, 0o10000).expect(rt, "a machine");
     put(
         &mut machine,
         first(),
@@ -321,7 +323,7 @@ fn before_first_turn<A: Allocator + Copy>(
         &[0o7405, 0o1407, 0o7205, 0o0300],
     );
     put(&mut machine, first().next(), 0o200, &[0o7005, 0o0300]);
-    Ok(machine)
+    machine
 }
 
 /// All processors but one are to wait, and a request may be refused: then the machine is as its
@@ -350,8 +352,8 @@ pub(crate) fn dead_start_refused<R: AllocGlobal + Abort>(
     number: u64,
 ) -> Option<bool> {
     heap.refuse(0);
-    let mut machine = before_first_turn(heap, profile).expect(rt, "a machine");
-    let mut twin = before_first_turn(rt.alloc(), profile).expect(rt, "a twin");
+    let mut machine = before_first_turn(rt, heap, profile);
+    let mut twin = before_first_turn(rt, rt.alloc(), profile);
     heap.refuse(number);
     start_alike(heap, &mut machine, &mut twin)
 }

@@ -50,10 +50,10 @@ fn loaded<'a>(
 /// Whether `turns` turns of the barrel are made, and four more steps.
 fn makes_turns(machine: &mut RationedMachine, turns: u32) -> bool {
     let (zero, one) = (first(), first().next());
-    machine.run_barrel(turns).is_ok()
-        && machine.run_turns(&[one, zero]).is_ok()
-        && machine.step(one) == Ok(Outcome::Held)
-        && machine.step(zero) == Ok(Outcome::AtRest)
+    let is_run = machine.run_barrel(turns).is_ok() && machine.run_turns(&[one, zero]).is_ok();
+    let steps = [machine.step(one), machine.step(zero)];
+    is_run
+        && steps == [Ok(Outcome::Held), Ok(Outcome::AtRest)]
         && machine.turns() == u64::from(turns) + 4
 }
 
@@ -79,9 +79,12 @@ fn goes_on(machine: &mut RationedMachine, turns: u32) -> bool {
     let words = Word60::truncated(0o0001_0002_0003_0004_0005);
     let others = Word60::truncated(0o0006_0007_0010_0011_0012);
     put_words(machine.pp_mut(first().next()), 0o7000, &[1]);
-    machine.write_central(Word18::truncated(5), words)
-        && machine.write_central(Word18::truncated(6), others)
-        && !machine.write_central(Word18::truncated(7), others)
+    let are_written = [
+        machine.write_central(Word18::truncated(5), words),
+        machine.write_central(Word18::truncated(6), others),
+        machine.write_central(Word18::truncated(7), others),
+    ];
+    are_written == [true, true, false]
         && makes_turns(machine, turns)
         && have_ended(machine)
         && machine.central().read(Word18::truncated(3)) == Some(words)

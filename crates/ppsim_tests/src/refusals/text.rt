@@ -8,6 +8,15 @@ use std::sync::Wait;
 use std::thread::Threads;
 use test_bench::{BLOCK, Rationed};
 
+/// What is said of a run that ended with this status and text.
+fn answer(status: u8, text: &str) -> Option<bool> {
+    if status == 4 && text.is_empty() || status == 0 && text.contains(" MEMORY\n") {
+        None
+    } else {
+        Some(status == 0 && text.contains("CH05 000000 PP00 ACN\n"))
+    }
+}
+
 /// Nothing if a run ends for want of memory as it should, in a worker, which the text says, or as a
 /// whole, and then without a text; else whether all of the text comes.
 pub(crate) fn with_little<R: AllocGlobal + Files + Threads + Wait + Sync>(
@@ -31,9 +40,5 @@ pub(crate) fn with_little<R: AllocGlobal + Files + Threads + Wait + Sync>(
     ];
     let ended = ending(rt, heap, (&words, BLOCK));
     let text = str::from_utf8(ended.output.taken()).unwrap_or("");
-    if ended.status == 4 && text.is_empty() || ended.status == 0 && text.contains(" MEMORY\n") {
-        None
-    } else {
-        Some(ended.status == 0 && text.contains("CH05 000000 PP00 ACN\n"))
-    }
+    answer(ended.status, text)
 }

@@ -71,8 +71,28 @@ PP 31
 START 0100
 ";
 
-/// Loads a deck and runs it. Nothing if the load or the run is refused memory, or some of the
+/// Runs a machine without events so far. Nothing if the run is refused memory, or some of the
 /// workers are, for which those that wait for them give up; else whether a channel has events.
+fn run_machine<R: Threads + Wait + Sync, G: Gate + Sync, A: Allocator + Copy + Send + Sync>(
+    rt: &R,
+    gate: &G,
+    alloc: A,
+    machine: &Machine<A>,
+    channel: ChannelNo,
+) -> Option<bool>
+    requires { ReportFitsInMemory A.row A.Allocator }
+{
+    if !machine.events().is_empty() {
+        return None;
+    }
+    let limits = Limits::new(100, 1000)?;
+    match run_threads(rt, alloc, machine, limits, gate) {
+        Ok(report) => has_events(machine, &report, channel),
+        Err(_) => None,
+    }
+}
+
+/// The same of the machine of a deck, and nothing if the load is refused memory.
 pub(crate) fn run_deck<R: Threads + Wait + Sync, G: Gate + Sync, A: Allocator + Copy + Send + Sync>(
     rt: &R,
     gate: &G,
@@ -83,17 +103,10 @@ pub(crate) fn run_deck<R: Threads + Wait + Sync, G: Gate + Sync, A: Allocator + 
 ) -> Option<bool>
     requires { ReportFitsInMemory A.row A.Allocator }
 {
-    let Ok(deck) = read_deck(alloc, profile, text.as_bytes()) else {
-        return None;
-    };
-    if !deck.machine.events().is_empty() {
-        return None;
+    match read_deck(alloc, profile, text.as_bytes()) {
+        Ok(deck) => run_machine(rt, gate, alloc, &deck.machine, channel),
+        Err(_) => None,
     }
-    let limits = Limits::new(100, 1000)?;
-    let Ok(report) = run_threads(rt, alloc, &deck.machine, limits, gate) else {
-        return None;
-    };
-    has_events(&deck.machine, &report, channel)
 }
 
 /// Nothing if this request of central memory behind locks is refused; else whether it has its size.

@@ -1,7 +1,7 @@
 //! Long runs and decks of odd sizes over an allocator that counts the requests and refuses none: so
 //! none may be out of memory.
 
-use super::runs::ending;
+use super::runs::{Ended, ending};
 use pp_machine::Profile;
 use pp_sim::{barrel_text, read_deck};
 use std::alloc::{AllocError, Global};
@@ -9,6 +9,14 @@ use std::fs::Files;
 use std::sync::Wait;
 use std::thread::Threads;
 use test_bench::{BLOCK, HANDOFF, HANDOFF_ON_TWENTY, HANDOFF_TEXT, Rationed};
+
+/// Whether a run ended well, and with this text after so many other bytes.
+fn has_text(ended: &Ended, before: usize, text: &str) -> bool {
+    let output = ended.output.taken();
+    ended.status == 0
+        && output.ends_with(text.as_bytes())
+        && output.len() == before.saturating_add(text.len())
+}
 
 /// How many requests for memory a run with one thread per processor makes, as long as allowed, if
 /// it has this text after so many other bytes. Lines, logs, answers and text grow.
@@ -30,11 +38,7 @@ pub(crate) fn requests_by_threads<R: AllocGlobal + Files + Threads + Wait + Sync
     ];
     let heap = Rationed::new(rt.alloc());
     let ended = ending(rt, &heap, (&words, deck));
-    let output = ended.output.taken();
-    let is_right = ended.status == 0
-        && output.ends_with(text.as_bytes())
-        && output.len() == before.saturating_add(text.len());
-    if is_right { Some(heap.asked()) } else { None }
+    has_text(&ended, before, text).then_some(heap.asked())
 }
 
 /// The text of the deck `BLOCK` in every schedule, worked by hand.
@@ -56,14 +60,10 @@ CH05 INACTIVE
 
 #[test]
 fn largest_central_memory_by_threads(rt: HostRuntime) {
-    let is_right = match format!(in rt.alloc(); "CENTRAL 400000\n{BLOCK}") {
-        Ok(deck) => {
-            requests_by_threads(&rt, "10", &deck, (0, BLOCK_TEXT)) > Some(40)
-                && requests_by_threads(&rt, "20", &deck, (0, BLOCK_TEXT)) > Some(40)
-        }
-        Err(_) => false,
-    };
-    assert!(rt; is_right);
+    let deck = format!(in rt.alloc(); "CENTRAL 400000\n{BLOCK}").expect(&rt, "a deck");
+    for processors in ["10", "20"] {
+        assert!(rt; requests_by_threads(&rt, processors, &deck, (0, BLOCK_TEXT)) > Some(40));
+    }
 }
 
 /// PP 0 and PP 1 make function codes on channel 5 as fast as they can, 63 of them and a jump back.
@@ -86,11 +86,8 @@ CH05 INACTIVE
 #[test]
 fn many_events_by_threads(rt: HostRuntime) {
     let events = 2 * (1562 * 63 + 32);
-    let is_right = match deck_of_functions(rt.alloc()) {
-        Ok(deck) => { requests_by_threads(&rt, "10", &deck, (events * 26, ENDS)).is_some() }
-        Err(_) => false,
-    };
-    assert!(rt; is_right);
+    let deck = deck_of_functions(rt.alloc()).expect(&rt, "a deck");
+    assert!(rt; requests_by_threads(&rt, "10", &deck, (events * 26, ENDS)).is_some());
 }
 
 /// Whether a run of one turn more than the program takes has this text, and asks for memory more
@@ -106,8 +103,12 @@ fn ends_after_a_million(alloc: Global, profile: Profile, text: &str) -> bool {
 
 #[test]
 fn a_million_and_one_turns(rt: HostRuntime) {
-    assert!(rt; ends_after_a_million(rt.alloc(), Profile::Ten, HANDOFF_TEXT));
-    assert!(rt; ends_after_a_million(rt.alloc(), Profile::Twenty, HANDOFF_ON_TWENTY));
+    for (profile, text) in [
+        (Profile::Ten, HANDOFF_TEXT),
+        (Profile::Twenty, HANDOFF_ON_TWENTY),
+    ] {
+        assert!(rt; ends_after_a_million(rt.alloc(), profile, text));
+    }
 }
 
 /// Whether a text is a deck with a central memory of this size.
@@ -118,19 +119,19 @@ fn has_central(heap: &Rationed<Global>, text: &[u8], size: u32) -> bool {
     }
 }
 
-/// Whether each front of a text is a deck, and for each a machine grows.
-fn are_decks(alloc: Global, text: &[u8]) -> bool {
-    let heap = Rationed::new(alloc);
+/// Whether each front of a text is a deck.
+fn are_decks(heap: &Rationed<Global>, text: &[u8]) -> bool {
     for size in 0..=text.len() {
-        if !has_central(&heap, text.get(..size).unwrap_or(&[]), 0o10000) {
+        if !has_central(heap, text.get(..size).unwrap_or(&[]), 0o10000) {
             return false;
         }
     }
-    heap.asked() > text.len() as u64
+    true
 }
 
-/// A comment of each length up to 2,000 bytes is a deck.
+/// A comment of each length up to 2,000 bytes is a deck, and for each a machine grows.
 #[test]
 fn decks_of_each_size(rt: HostRuntime) {
-    assert!(rt; are_decks(rt.alloc(), &[b'*'; 2000]));
+    let heap = Rationed::new(rt.alloc());
+    assert!(rt; are_decks(&heap, &[b'*'; 2000]) && heap.asked() > 2000);
 }

@@ -59,8 +59,10 @@ fn tells_writer<R: AllocGlobal + Files + Threads + Wait + Sync>(rt: &R, kind: Er
 #[test]
 fn devices_that_give_up(rt: HostRuntime) {
     for kind in &KINDS {
-        assert!(rt; tells_reader(&rt, *kind), "{kind:?}");
-        assert!(rt; tells_writer(&rt, *kind), "{kind:?}");
+        assert!(rt;
+            tells_reader(&rt, *kind) && tells_writer(&rt, *kind),
+            "{kind:?}"
+        );
     }
 }
 
@@ -73,18 +75,20 @@ fn flushes_after<R: AllocGlobal + Files + Threads + Wait + Sync>(
 ) -> bool {
     let mut output = Sink::new(rt.alloc(), text.len(), 1, Failure::TakesNothing);
     ends(rt, words, &mut Source::whole(input), &mut output, 0, b"")
-        && output.taken() == text
-        && output.failures() == 0
+        && (output.taken(), output.failures()) == (text, 0)
         && is_write_fault(rt, (words, input), text, 1, Failure::Flush)
 }
 
 /// The whole text is taken byte by byte, and then a flush that fails is a fault of the writer.
 #[test]
 fn flushes(rt: HostRuntime) {
-    let text = HANDOFF_TEXT.as_bytes();
-    assert!(rt; flushes_after(&rt, (&WORDS_OF_A_RUN, HANDOFF), text));
-    let text = HANDOFF_ON_TWENTY.as_bytes();
-    assert!(rt; flushes_after(&rt, (&WORDS_OF_TWENTY, HANDOFF), text));
+    let runs: [(&[&str], &str); 2] = [
+        (&WORDS_OF_A_RUN, HANDOFF_TEXT),
+        (&WORDS_OF_TWENTY, HANDOFF_ON_TWENTY),
+    ];
+    for (words, text) in runs {
+        assert!(rt; flushes_after(&rt, (words, HANDOFF), text.as_bytes()));
+    }
 }
 
 /// An output that fills up at the end of the text is not noticed, and one that fails is not touched
@@ -116,10 +120,9 @@ fn is_untold<R: AllocGlobal + Files + Threads + Wait + Sync>(
     let mut error = Sink::new(rt.alloc(), 0, 1000, failure);
     let words = ["ppsim", "barrel", "--turns", turns];
     let heap = Rationed::new(rt.alloc());
-    run_program(rt, &heap, &words, &mut input, &mut output, &mut error) == status
-        && output.failures() == failures
+    let ended = run_program(rt, &heap, &words, &mut input, &mut output, &mut error);
+    (ended, output.failures(), output.taken().len()) == (status, failures, taken)
         && (error.failures() > 0) == (status != 0)
-        && output.taken().len() == taken
 }
 
 #[test]
@@ -152,12 +155,13 @@ const TOO_LONG: (u8, &[u8]) = (1, b"ppsim: deck fault 1 at line 0\n");
 #[test]
 fn spaces_past_the_longest_deck(rt: HostRuntime) {
     let spaces = vec![in rt.alloc(); b' '; 2_000_000].expect(&rt, "spaces");
-    let past = spaces.get(..1_048_577).unwrap_or(&[]);
-    let longest = spaces.get(..1_048_576).unwrap_or(&[]);
     let fault: (u8, &[u8]) = (3, b"ppsim: read fault\n");
-    assert!(rt;
-        ends_on_text(&rt, (past, 1000), TOO_LONG, (0, 0))
-            && ends_on_text(&rt, (longest, 1000), fault, (0, 1))
-            && ends_on_text(&rt, (&spaces, usize::MAX), TOO_LONG, (951_423, 0))
-    );
+    for (size, piece, ending, left) in [
+        (1_048_577, 1000, TOO_LONG, (0, 0)),
+        (1_048_576, 1000, fault, (0, 1)),
+        (2_000_000, usize::MAX, TOO_LONG, (951_423, 0)),
+    ] {
+        let text = spaces.get(..size).unwrap_or(&[]);
+        assert!(rt; ends_on_text(&rt, (text, piece), ending, left), "{size}");
+    }
 }

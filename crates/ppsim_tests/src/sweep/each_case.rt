@@ -75,17 +75,19 @@ fn byte_by_byte<R: AllocGlobal + Files + Threads + Wait + Sync>(
     let mut writer = Sink::new(rt.alloc(), usize::MAX, 1, Failure::TakesNothing);
     let (status, error) = (ended.status, ended.error.taken());
     ends(rt, words, &mut reader, &mut writer, status, error)
-        && writer.taken() == ended.output.taken()
-        && reader.calls() as usize == input.len().saturating_add(1)
+        && (writer.taken(), reader.calls() as usize)
+            == (ended.output.taken(), input.len().saturating_add(1))
 }
 
 /// Readers and writers that fail, and sound ones of one byte.
 #[test]
 fn devices_of_each_case(rt: HostRuntime) {
     for &(words, input, _) in cases() {
-        assert!(rt; tells_reader(&rt, (words, input)), "{words:?}");
-        assert!(rt; tells_writers(&rt, (words, input)), "{words:?}");
-        assert!(rt; byte_by_byte(&rt, (words, input)), "{words:?}");
+        let run = (words, input);
+        assert!(rt;
+            tells_reader(&rt, run) && tells_writers(&rt, run) && byte_by_byte(&rt, run),
+            "{words:?}"
+        );
     }
 }
 
@@ -107,9 +109,8 @@ fn is_at_once<R: AllocGlobal + Files + Threads + Wait + Sync>(
         ends(rt, words, &mut reader, &mut writer, status, error)
     };
     has_ended
-        && found.status == status
         && found.output.taken().is_empty() == (status != 0)
-        && reader.calls() == 0
+        && (found.status, reader.calls()) == (status, 0)
         && writer.failures() == u32::from(status == 0)
 }
 

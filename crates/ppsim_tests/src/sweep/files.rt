@@ -62,26 +62,35 @@ fn ends_on<R: AllocGlobal + Files + Threads + Wait + Sync>(
     ends(rt, &WORDS_OF_A_RUN, &mut file, &mut output, status, error) && output.taken().is_empty()
 }
 
-/// As an output a device that is full, and a file that may be read alone, as a closed output may
-/// not be written; the standard error may fail too. As an input a folder, a file that may be
-/// written alone, zeros without end, and nothing at all.
+/// A path, whether it may be written alone or read alone, and the status and standard error.
+type Device = (&'static str, bool, u8, &'static [u8]);
+
+/// As an output a device that is full, a file that may be read alone, as a closed output may not be
+/// written, and one that takes all.
+const OUTPUTS: [Device; 3] = [
+    ("/dev/full", true, 3, b"ppsim: write fault\n"),
+    ("/dev/null", false, 3, b"ppsim: write fault\n"),
+    ("/dev/null", true, 0, b""),
+];
+
+/// As an input a folder, a file that may be written alone, zeros without end, and nothing at all.
+const INPUTS: [Device; 4] = [
+    ("/", false, 3, b"ppsim: read fault\n"),
+    ("/dev/null", true, 3, b"ppsim: read fault\n"),
+    ("/dev/zero", false, 1, b"ppsim: deck fault 1 at line 0\n"),
+    ("/dev/null", false, 0, b""),
+];
+
+/// The standard error may fail too.
 #[test]
 fn outputs_and_inputs(rt: HostRuntime) {
-    let fault: (u8, &[u8]) = (3, b"ppsim: write fault\n");
-    assert!(rt;
-        ends_onto(&rt, "/dev/full", true, fault)
-            && ends_onto(&rt, "/dev/null", false, fault)
-            && ends_onto(&rt, "/dev/null", true, (0, b""))
-            && ends_untold(&rt)
-    );
-    let fault: (u8, &[u8]) = (3, b"ppsim: read fault\n");
-    let too_long: (u8, &[u8]) = (1, b"ppsim: deck fault 1 at line 0\n");
-    assert!(rt;
-        ends_on(&rt, "/", false, fault)
-            && ends_on(&rt, "/dev/null", true, fault)
-            && ends_on(&rt, "/dev/zero", false, too_long)
-            && ends_on(&rt, "/dev/null", false, (0, b""))
-    );
+    for &(path, is_written, status, error) in &OUTPUTS {
+        assert!(rt; ends_onto(&rt, path, is_written, (status, error)));
+    }
+    for &(path, is_written, status, error) in &INPUTS {
+        assert!(rt; ends_on(&rt, path, is_written, (status, error)));
+    }
+    assert!(rt; ends_untold(&rt));
 }
 
 /// Whether a run with these words ends so, without an output, and reads nothing of the input.

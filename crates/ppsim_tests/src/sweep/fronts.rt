@@ -34,18 +34,18 @@ fn deck(alloc: Global) -> Result<String, AllocError> {
     Ok(deck)
 }
 
-/// Why a part of the deck is refused: its last line is a keyword that is cut off, or one that has
-/// nothing after it and should. Words may be cut anywhere.
+/// Whether a line is a keyword that is cut off, or one that has nothing after it and should.
+fn is_cut_off(line: &str) -> bool {
+    let begins_with_letter = matches!(line.as_bytes(), [b'A'..=b'Z', ..]);
+    begins_with_letter && line.split_whitespace().count() == 1 && line != "DEAD"
+}
+
+/// Why a part of the deck is refused: its last line is cut off. Words may be cut anywhere.
 fn fault_of(front: &str) -> Option<DeckFault> {
     let line = u32::try_from(front.split('\n').count()).unwrap_or(0);
+    let code = DeckCode::UnknownLine;
     let last = front.rsplit('\n').next().unwrap_or("");
-    let begins_with_letter = matches!(last.as_bytes(), [b'A'..=b'Z', ..]);
-    let has_one_field = last.split_whitespace().count() == 1;
-    if begins_with_letter && has_one_field && last != "DEAD" {
-        let code = DeckCode::UnknownLine;
-        return Some(DeckFault { line, code });
-    }
-    None
+    is_cut_off(last).then_some(DeckFault { line, code })
 }
 
 /// Whether a part of the deck is refused for this fault, or taken, by both calls that read decks.
@@ -65,32 +65,26 @@ fn is_refused_for(
 }
 
 /// How many parts of a deck are refused, up to 2,000 bytes, if each is refused or taken as it
-/// should be, and for each a machine grows, twice.
-fn refused(alloc: Global, deck: &str) -> Option<u32> {
-    let heap = Rationed::new(alloc);
+/// should be.
+fn refused(alloc: Global, heap: &Rationed<Global>, deck: &str) -> Option<u32> {
     let mut faults = 0u32;
     for size in 0..=2000usize {
         let front = deck.get(..size)?;
         let fault = fault_of(front);
-        if !is_refused_for(alloc, &heap, front, fault) {
+        if !is_refused_for(alloc, heap, front, fault) {
             return None;
         }
         if fault.is_some() {
             faults = faults.wrapping_add(1);
         }
     }
-    if heap.asked() > 4000 {
-        Some(faults)
-    } else {
-        None
-    }
+    Some(faults)
 }
 
+/// For each part a machine grows, twice.
 #[test]
 fn fronts_of_a_deck(rt: HostRuntime) {
-    let faults = match deck(rt.alloc()) {
-        Ok(deck) => refused(rt.alloc(), &deck),
-        Err(_) => None,
-    };
-    assert!(rt; faults > Some(200));
+    let heap = Rationed::new(rt.alloc());
+    let deck = deck(rt.alloc()).expect(&rt, "a deck");
+    assert!(rt; refused(rt.alloc(), &heap, &deck) > Some(200) && heap.asked() > 4000);
 }

@@ -54,16 +54,22 @@ PP01 P=0105 A=000000 STOPPED
 CH05 ACTIVE EMPTY
 ";
 
-/// The text of the run: each word is put and then taken.
+/// Each word is put and then taken.
+fn push_word(text: &mut String, sent: u32) -> Result<(), AllocError> {
+    let put = sent.wrapping_mul(2).wrapping_add(1);
+    let taken = put.wrapping_add(1);
+    let word = word_of_sender(sent % 4096);
+    write!(
+        text,
+        "CH05 {put:06} PP00 PUT {word:04o}\nCH05 {taken:06} PP01 TAK {word:04o}\n"
+    )
+}
+
+/// The text of the run.
 fn long_text(alloc: Global) -> Result<String, AllocError> {
     let mut text = "CH05 000000 PP00 ACN\n".to_string(alloc)?;
     for sent in 0..SENT {
-        let (put, taken) = (2 * sent + 1, 2 * sent + 2);
-        let word = word_of_sender(sent % 4096);
-        write!(
-            text,
-            "CH05 {put:06} PP00 PUT {word:04o}\nCH05 {taken:06} PP01 TAK {word:04o}\n"
-        )?;
+        push_word(&mut text, sent)?;
     }
     text.push_str(ENDS)?;
     Ok(text)
@@ -71,9 +77,7 @@ fn long_text(alloc: Global) -> Result<String, AllocError> {
 
 #[test]
 fn long_pair_by_threads(rt: HostRuntime) {
-    let is_right = match (deck(rt.alloc()), long_text(rt.alloc())) {
-        (Ok(deck), Ok(text)) => { requests_by_threads(&rt, "10", &deck, (0, &text)) > Some(40) }
-        _ => false,
-    };
-    assert!(rt; is_right);
+    let deck = deck(rt.alloc()).expect(&rt, "a deck");
+    let text = long_text(rt.alloc()).expect(&rt, "a text");
+    assert!(rt; requests_by_threads(&rt, "10", &deck, (0, &text)) > Some(40));
 }

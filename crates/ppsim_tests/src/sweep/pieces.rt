@@ -2,7 +2,6 @@
 
 use super::requests::LONG_TEXT;
 use super::runs::{Run, ends, is_write_fault};
-use std::alloc::AllocError;
 use std::fs::Files;
 use std::io::ErrorKind;
 use std::sync::Wait;
@@ -49,15 +48,8 @@ fn tells_failure<R: AllocGlobal + Files + Threads + Wait + Sync>(
 }
 
 /// Whether a run has this text, which comes in pieces, and each writer that gives up is a fault.
-fn goes_out<R: AllocGlobal + Files + Threads + Wait + Sync>(
-    rt: &R,
-    run: Run,
-    text: Result<String, AllocError>,
-) -> bool {
-    let Ok(text) = text else {
-        return false;
-    };
-    comes_in_pieces(rt, run, &text)
+fn goes_out<R: AllocGlobal + Files + Threads + Wait + Sync>(rt: &R, run: Run, text: &str) -> bool {
+    comes_in_pieces(rt, run, text)
         && tells_failure(
             rt,
             run,
@@ -69,18 +61,9 @@ fn goes_out<R: AllocGlobal + Files + Threads + Wait + Sync>(
 
 #[test]
 fn texts_in_pieces(rt: HostRuntime) {
+    let text = text_of_sessions(rt.alloc(), 1000).expect(&rt, "a text");
+    let report = report_of_sessions(rt.alloc(), 1000).expect(&rt, "a report");
     assert!(rt;
-        goes_out(
-            &rt,
-            (&LONG_TEXT, SESSIONS),
-            text_of_sessions(rt.alloc(), 1000)
-        )
-    );
-    assert!(rt;
-        goes_out(
-            &rt,
-            (&THREADS, SESSIONS),
-            report_of_sessions(rt.alloc(), 1000)
-        )
+        goes_out(&rt, (&LONG_TEXT, SESSIONS), &text) && goes_out(&rt, (&THREADS, SESSIONS), &report)
     );
 }

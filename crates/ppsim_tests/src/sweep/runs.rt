@@ -61,17 +61,7 @@ pub(crate) fn requests_refused<R: AllocGlobal + Files + Threads + Wait + Sync>(
 ) -> Option<u64> {
     let expected = whole(rt, run);
     let heap = Rationed::new(rt.alloc());
-    for number in 1..1000u64 {
-        heap.refuse(number);
-        let ended = unless_out_of_memory(&ending(rt, &heap, run), &expected);
-        let was_refused = heap.has_refused();
-        match ended {
-            None if was_refused => {}
-            Some(true) if !was_refused => return Some(number),
-            _ => return None,
-        }
-    }
-    None
+    heap.refuse_each(|_| unless_out_of_memory(&ending(rt, &heap, run), &expected))
 }
 
 /// Whether a run over these devices ends with this status and this standard error.

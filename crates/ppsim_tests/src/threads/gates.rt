@@ -1,7 +1,6 @@
 //! Gates, which see each try of each worker: workers run at once, and give up as their limits say.
 
-use crate::loaded::loaded;
-use crate::threads::runs::{LONG, counting, has_block, run};
+use crate::threads::runs::{LONG, counting, has_block, run, run_deck};
 use pp_machine::{PROCESSORS, PpNo, Profile};
 use pp_runner::Gate;
 use std::sync::atomic::{AtomicU64, Ordering};
@@ -51,7 +50,7 @@ fn gate_together(rt: HostRuntime) {
             flags: [zero(), zero(), zero(), zero(), zero(), zero()],
             met: zero(),
         };
-        let report = run(&rt, &gate, LONG, loaded(&rt, rt.alloc(), profile, BLOCK));
+        let report = run_deck(&rt, &gate, LONG, profile, BLOCK);
         assert!(rt; has_block(&report) && gate.met.load(Ordering::SeqCst) == 6);
     }
 }
@@ -115,7 +114,7 @@ fn uneven_gates(rt: HostRuntime) {
     let gate = Uneven { flag: zero() };
     for profile in [Profile::Ten, Profile::Twenty] {
         for _ in 0..200u32 {
-            let report = run(&rt, &gate, LONG, loaded(&rt, rt.alloc(), profile, BLOCK));
+            let report = run_deck(&rt, &gate, LONG, profile, BLOCK);
             assert!(rt; has_block(&report));
         }
     }

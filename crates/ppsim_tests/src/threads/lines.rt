@@ -36,21 +36,30 @@ fn events_told(log: &[Entry]) -> usize {
     told
 }
 
-/// Whether the log of two lines, once they are joined, records as many events as the channel has
-/// after a close, in a lawful history.
-fn is_told(first: Line<Global>, second: Line<Global>, channel: ChannelNo) -> bool
+/// Whether the log of a line records as many events as the channel has after a close, in a lawful
+/// history.
+fn is_told(line: Line<Global>, channel: ChannelNo) -> bool
+    requires { line.view.shares ≡ line.view.whole }
+{
+    let told = events_told(line.log());
+    match line.close() {
+        Ok(channels) => {
+            let history = channels[channel.index()].history();
+            told == history.len() && is_lawful(history)
+        }
+        Err(_) => false,
+    }
+}
+
+/// The same of two lines, once they are joined.
+fn are_told(first: Line<Global>, second: Line<Global>, channel: ChannelNo) -> bool
     requires table { second.table ≡ first.table }
     requires shares { first.view.shares + second.view.shares ≡ first.view.whole }
 {
-    let Ok(line) = first.join(second) else {
-        return false;
-    };
-    let told = events_told(line.log());
-    let Ok(channels) = line.close() else {
-        return false;
-    };
-    let history = channels[channel.index()].history();
-    told == history.len() && is_lawful(history)
+    match first.join(second) {
+        Ok(line) => is_told(line, channel),
+        Err(_) => false,
+    }
 }
 
 #[test]
@@ -68,5 +77,5 @@ fn two_threads(rt: HostRuntime) {
         move || act_in_turn(first, five, session),
         move || act_in_turn(second, five, [ChanOp::Take; 3]),
     );
-    assert!(rt; is_told(first, second, five));
+    assert!(rt; are_told(first, second, five));
 }

@@ -19,14 +19,16 @@ fn keeps_words<A: Allocator>(
     let (last, behind) = (Word18::truncated(0o40), Word18::truncated(0o41));
     let written = Word60::truncated(0o4321);
     heap.refuse(1);
-    shared.size() == 33
-        && shared.read(rt, Word18::truncated(0o37)) == Some(loaded)
-        && shared.write(rt, last, written)
-        && shared.read(rt, last) == Some(written)
-        && !shared.write(rt, behind, loaded)
-        && shared.read(rt, behind).is_none()
-        && shared.read(rt, last) == Some(written)
-        && shared.read(rt, Word18::ZERO) == Some(Word60::ZERO)
+    let is_taken = shared.write(rt, last, written) && !shared.write(rt, behind, loaded);
+    let held = [
+        shared.read(rt, Word18::ZERO),
+        shared.read(rt, Word18::truncated(0o37)),
+        shared.read(rt, last),
+        shared.read(rt, behind),
+    ];
+    is_taken
+        && held == [Some(Word60::ZERO), Some(loaded), Some(written), None]
+        && shared.size() == 33
         && heap.asked() == 0
 }
 

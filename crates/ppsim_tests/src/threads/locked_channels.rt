@@ -13,14 +13,16 @@ const CODES: u16 = 1000;
 
 /// A function code, and a session in which a word waits.
 fn are_waiting(channel: &mut Channel<Global>) -> bool {
-    channel.act(ChanOp::Function(word(0o12))) == Ok(Reply::Done)
-        && channel.act(ChanOp::Activate) == Ok(Reply::Done)
-        && channel.act(ChanOp::Put(word(5))) == Ok(Reply::Done)
+    let replies = [
+        channel.act(ChanOp::Function(word(0o12))),
+        channel.act(ChanOp::Activate),
+        channel.act(ChanOp::Put(word(5))),
+    ];
+    replies == [Ok(Reply::Done); 3]
 }
 
-/// A copy goes on behind the lock; the channel stays.
-#[test]
-fn one_session_behind_a_lock(rt: HostRuntime) {
+/// Whether such a channel goes on behind a lock, and comes out of it as it should.
+fn goes_on(rt: &impl Wait, channel: Channel<Global>) -> bool {
     let calls = [
         (ChanOp::Probe, numbered(Reply::Flags(FULL), 3)),
         (ChanOp::Put(word(6)), numbered(Reply::Held(FULL), 3)),
@@ -34,13 +36,19 @@ fn one_session_behind_a_lock(rt: HostRuntime) {
         Event::Take(word(5)),
         Event::Disconnect,
     ];
+    let locked = Locked::new(channel);
+    let is_answered = answers(rt, &locked, &calls);
+    let channel = locked.into_inner();
+    is_answered && channel.history() == events.as_slice()
+}
+
+/// A copy goes on behind the lock; the channel stays.
+#[test]
+fn one_session_behind_a_lock(rt: HostRuntime) {
     let mut channel = Channel::new(rt.alloc());
     let is_waiting = are_waiting(&mut channel);
-    let locked = Locked::new(channel.copy().expect(&rt, "a copy"));
-    let is_answered = answers(&rt, &locked, &calls);
-    let copy = locked.into_inner();
-    assert!(rt; is_waiting && is_answered && copy.history() == events.as_slice());
-    assert!(rt; channel.history().len() == 3);
+    let copy = channel.copy().expect(&rt, "a copy");
+    assert!(rt; is_waiting && goes_on(&rt, copy) && channel.history().len() == 3);
 }
 
 /// Sends function codes, and gives the number of each.

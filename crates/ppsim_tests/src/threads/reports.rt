@@ -1,7 +1,6 @@
 //! What the reports of runs hold that their texts do not show.
 
-use crate::loaded::loaded;
-use crate::threads::runs::{LONG, is_taken, passed, run};
+use crate::threads::runs::{LONG, is_taken, passed, run_deck};
 use pp_machine::Profile;
 use pp_runner::{End, NoGate, Report};
 use std::alloc::Global;
@@ -29,24 +28,16 @@ fn is_raced(report: &Report<Global>) -> bool {
         Some(false) => (0o77, 0),
         None => return false,
     };
-    zero.pp.get(word(0o300)) == word(1)
-        && zero.pp.get(word(0o301)) == word(second)
+    [zero.pp.get(word(0o300)), zero.pp.get(word(0o301))] == [word(1), word(second)]
         && zero.pp.a().get() == a
-        && zero.finish == End::Stopped
-        && one.finish == End::Stopped
+        && [zero.finish, one.finish] == [End::Stopped, End::Stopped]
 }
 
 /// The second word is in the memory of the processor that took it, or the zero that ends a block.
 #[test]
 fn a_block_against_a_disconnect(rt: HostRuntime) {
     for profile in [Profile::Ten, Profile::Twenty] {
-        let report = run(
-            &rt,
-            &NoGate,
-            LONG,
-            loaded(&rt, rt.alloc(), profile, DISCONNECT_RACE),
-        );
-        assert!(rt; is_raced(&report));
+        assert!(rt; is_raced(&run_deck(&rt, &NoGate, LONG, profile, DISCONNECT_RACE)));
     }
 }
 
@@ -63,6 +54,6 @@ fn is_at_limit(report: &Report<Global>) -> bool {
 fn a_step_limit(rt: HostRuntime) {
     let jump = "PP 0\n0100 0400\nSTART 0100\n";
     for profile in [Profile::Ten, Profile::Twenty] {
-        assert!(rt; is_at_limit(&run(&rt, &NoGate, LONG, loaded(&rt, rt.alloc(), profile, jump))));
+        assert!(rt; is_at_limit(&run_deck(&rt, &NoGate, LONG, profile, jump)));
     }
 }

@@ -1,7 +1,6 @@
 //! Ten processors that pass words round a ring, each in a thread of its own.
 
-use crate::loaded::loaded;
-use crate::threads::runs::run;
+use crate::threads::runs::run_deck;
 use pp_machine::Profile;
 use pp_runner::{End, NoGate, Report};
 use std::alloc::Global;
@@ -62,6 +61,6 @@ fn has_gone_round(report: &Report<Global>) -> bool {
 /// A processor whose neighbour has made all its steps waits in vain.
 #[test]
 fn ring_of_ten(rt: HostRuntime) {
-    let machine = loaded(&rt, rt.alloc(), Profile::Ten, RING);
-    assert!(rt; has_gone_round(&run(&rt, &NoGate, (100_000, 1_000_000), machine)));
+    let limits = (100_000, 1_000_000);
+    assert!(rt; has_gone_round(&run_deck(&rt, &NoGate, limits, Profile::Ten, RING)));
 }

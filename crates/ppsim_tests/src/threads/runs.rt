@@ -23,9 +23,20 @@ pub(crate) fn run<R: AllocGlobal + Threads + Wait + Sync + Abort, G: Gate + Sync
     (steps, patience): (u32, u32),
     machine: Machine<Global>,
 ) -> Report<Global> {
-    assert!(rt; machine.events().is_empty(), "events before the run");
+    assert!(rt; machine.events().is_empty());
     let limits = Limits::new(steps, patience).expect(rt, "limits");
     run_threads(rt, rt.alloc(), &machine, limits, gate).expect(rt, "a report")
+}
+
+/// The same of the machine of a deck.
+pub(crate) fn run_deck<R: AllocGlobal + Threads + Wait + Sync + Abort, G: Gate + Sync>(
+    rt: &R,
+    gate: &G,
+    limits: (u32, u32),
+    profile: Profile,
+    deck: &str,
+) -> Report<Global> {
+    run(rt, gate, limits, loaded(rt, rt.alloc(), profile, deck))
 }
 
 /// The history of the channel of this number after a run.
@@ -97,30 +108,34 @@ fn sent<R: AllocGlobal + Abort>(rt: &R, profile: Profile) -> Machine<Global> {
     machine
 }
 
-/// Whether the words were passed on channel 1, but for the last, which the disconnect may lose, the
-/// sender and the receiver have stopped, the sender at the end of its program, and no worker's log
-/// has the Activate that opened the channel before the run.
-fn is_sent(report: &Report<Global>) -> bool {
+/// Whether a worker's log has the Activate that opened channel 1 before the run.
+fn is_opening_told(report: &Report<Global>) -> bool {
     for worker in &report.ends {
         for entry in worker.log.iter() {
             if entry.channel == ChannelNo::at(1) && entry.number == 0 {
-                return false;
+                return true;
             }
         }
     }
+    false
+}
+
+/// Whether the words were passed on channel 1, but for the last, which the disconnect may lose, and
+/// the sender and the receiver have stopped, the sender at the end of its program.
+fn is_sent(report: &Report<Global>) -> bool {
     let [sender, receiver, ..] = report.ends.as_slice() else {
         return false;
     };
     is_taken(passed(report, 1, &[0, 0o1405, 0o300]), 0).is_some()
-        && sender.finish == End::Stopped
+        && [sender.finish, receiver.finish] == [End::Stopped, End::Stopped]
         && sender.pp.p() == word(0o104)
-        && receiver.finish == End::Stopped
 }
 
 #[test]
 fn dead_start_threads(rt: HostRuntime) {
     for profile in [Profile::Ten, Profile::Twenty] {
-        assert!(rt; is_sent(&run(&rt, &NoGate, LONG, sent(&rt, profile))));
+        let report = run(&rt, &NoGate, LONG, sent(&rt, profile));
+        assert!(rt; is_sent(&report) && !is_opening_told(&report));
     }
 }
 
@@ -129,20 +144,29 @@ const NUMBERS: [u8; 20] = [
     0, 1, 2, 3, 4, 5, 6, 7, 0o10, 0o11, 0o20, 0o21, 0o22, 0o23, 0o24, 0o25, 0o26, 0o27, 0o30, 0o31,
 ];
 
+/// Whether a log has a look at the channel of this number, open and empty, after its first event,
+/// and nothing else.
+fn is_look(log: &[Entry], number: u8) -> bool {
+    match ChannelNo::new(number) {
+        Some(channel) => {
+            let what = Seen::Saw(EMPTY);
+            let look = Entry {
+                channel,
+                number: 1,
+                what,
+            };
+            log == [look].as_slice()
+        }
+        None => false,
+    }
+}
+
 /// Whether this many workers all gave up on the channel of their number, which stayed as it was
-/// opened, and which they saw only after that, open and empty.
+/// opened, and which they saw only after that.
 fn wait_in_vain(report: &Report<Global>, count: usize) -> bool {
     for (number, worker) in NUMBERS.iter().zip(report.ends.iter()) {
-        let Some(channel) = ChannelNo::new(*number) else {
-            return false;
-        };
-        let look = Entry {
-            channel,
-            number: 1,
-            what: Seen::Saw(EMPTY),
-        };
         if worker.finish != End::Patience
-            || worker.log.as_slice() != [look].as_slice()
+            || !is_look(worker.log.as_slice(), *number)
             || history(report, *number) != Some([Event::Activate].as_slice())
         {
             return false;
@@ -155,12 +179,7 @@ fn wait_in_vain(report: &Report<Global>, count: usize) -> bool {
 #[test]
 fn nobody_sends(rt: HostRuntime) {
     for (profile, count) in [(Profile::Ten, 10), (Profile::Twenty, 20)] {
-        let report = run(
-            &rt,
-            &NoGate,
-            (100, 5),
-            loaded(&rt, rt.alloc(), profile, "DEAD\n"),
-        );
+        let report = run_deck(&rt, &NoGate, (100, 5), profile, "DEAD\n");
         assert!(rt; wait_in_vain(&report, count));
     }
 }
@@ -181,10 +200,8 @@ fn is_passed(report: &Report<Global>) -> bool {
     let [zero, one, ..] = report.ends.as_slice() else {
         return false;
     };
-    passed(report, 5, &[8]) == Some(&[])
-        && zero.answers.len() == 3
-        && one.answers.len() == 2
-        && one.pp.a() == Word18::truncated(8)
+    let counts = [zero.answers.len(), one.answers.len()];
+    passed(report, 5, &[8]) == Some(&[]) && (counts, one.pp.a()) == ([3, 2], Word18::truncated(8))
 }
 
 /// A machine that has had turns, but no events, goes on by threads from where it stands.

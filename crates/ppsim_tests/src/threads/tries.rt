@@ -1,8 +1,7 @@
 //! The tries of each worker, as a gate sees them.
 
-use crate::loaded::loaded;
 use crate::threads::gates::{wait_for, zero};
-use crate::threads::runs::{counting, passed, run};
+use crate::threads::runs::{counting, passed, run, run_deck};
 use pp_machine::{PROCESSORS, PpNo, Profile};
 use pp_runner::{End, Gate, Report};
 use std::alloc::Global;
@@ -68,8 +67,8 @@ fn tries_of_all(rt: HostRuntime) {
     for (profile, processors) in [(Profile::Ten, 10), (Profile::Twenty, 20)] {
         let gate = Tally::new();
         let report = run(&rt, &gate, (5000, 1), counting(&rt, profile));
-        assert!(rt; report.ends.len() == processors && report.channels.len() == 24);
-        assert!(rt; have_tried(&gate, &report));
+        let is_whole = report.ends.len() == processors && report.channels.len() == 24;
+        assert!(rt; is_whole && have_tried(&gate, &report));
     }
 }
 
@@ -81,22 +80,16 @@ fn is_in_vain(gate: &Tally, report: &Report<Global>, patience: u32) -> bool {
     let [zero, one, ..] = report.ends.as_slice() else {
         return false;
     };
-    gate.tries(first()) == Some(2)
-        && gate.tries(first().next()) == Some(u64::from(patience))
-        && zero.finish == End::Fault(1)
-        && one.finish == End::Patience
+    let tries = [gate.tries(first()), gate.tries(first().next())];
+    tries == [Some(2), Some(u64::from(patience))]
+        && [zero.finish, one.finish] == [End::Fault(1), End::Patience]
 }
 
 #[test]
 fn patience(rt: HostRuntime) {
     for patience in [1, 2, 50, 20_011, 1_000_001] {
         let gate = Tally::new();
-        let report = run(
-            &rt,
-            &gate,
-            (100, patience),
-            loaded(&rt, rt.alloc(), Profile::Ten, IN_VAIN),
-        );
+        let report = run_deck(&rt, &gate, (100, patience), Profile::Ten, IN_VAIN);
         assert!(rt; is_in_vain(&gate, &report, patience), "patience {patience}");
     }
 }
@@ -125,7 +118,8 @@ impl Gate for LastTry {
             return;
         }
         self.turns[place].store(turn, Ordering::SeqCst);
-        for (put, last_try) in [2, 4, 6].into_iter().zip(self.last_tries) {
+        for n in 0..3usize {
+            let (put, last_try) = (2 + 2 * n as u64, self.last_tries[n]);
             if place == 0 && turn == put {
                 wait_for(&self.turns[1], last_try);
             }
@@ -141,10 +135,13 @@ fn is_passed(gate: &LastTry, report: &Report<Global>, patience: u32) -> bool {
     let [_, one, ..] = report.ends.as_slice() else {
         return false;
     };
+    let turns = [
+        gate.turns[0].load(Ordering::SeqCst),
+        gate.turns[1].load(Ordering::SeqCst),
+    ];
     one.finish == End::Stopped
         && passed(report, 5, &[1, 2, 3]) == Some(&[])
-        && gate.turns[0].load(Ordering::SeqCst) == 7
-        && gate.turns[1].load(Ordering::SeqCst) == 3 * u64::from(patience)
+        && turns == [7, 3 * u64::from(patience)]
 }
 
 /// Patience is counted anew at each step, and each try is made, also the last.
@@ -160,8 +157,7 @@ fn each_last_try_is_made(rt: HostRuntime) {
             last_tries,
             turns: [zero(), zero()],
         };
-        let machine = loaded(&rt, rt.alloc(), Profile::Ten, THREE_WORDS);
-        let report = run(&rt, &gate, (100, patience), machine);
+        let report = run_deck(&rt, &gate, (100, patience), Profile::Ten, THREE_WORDS);
         assert!(rt; is_passed(&gate, &report, patience), "patience {patience}");
     }
 }

@@ -1,7 +1,7 @@
 use Rattle.std.proofs.Common.{length, sym, ◌∙◌}
 use Rattle.std.proofs.lemmas.Bool.{eqb-true}
 use Rattle.std.proofs.lemmas.List.{nil_from_length}
-use Rattle.ppsim_tests.proofs.refusals.threads.run_deck.Goals as goal
+use Rattle.ppsim_tests.proofs.refusals.threads.run_machine.Goals as goal
 
 pub run_threads-requires-send-A : goal.run_threads-requires-send-A
 run_threads-requires-send-A g c κs within = c.type_bounds.send-A
