@@ -56,7 +56,13 @@ fn main(rt: HostRuntime) -> anyhow::Result<ExitCode> {
     for name in PAGES.lines() {
         run_page(&rt, name)?;
     }
-    Ok(run_main(&rt, &rt, &mut rt.stdin(), &mut rt.stdout(), &mut rt.stderr()))
+    Ok(run_main(
+        &rt,
+        &rt,
+        &mut rt.stdin(),
+        &mut rt.stdout(),
+        &mut rt.stderr(),
+    ))
 }
 
 /// Runs the commands of a page, and says whether all is as the page has it.

@@ -6,5 +6,11 @@ use pp_sim::run_main;
 use std::process::ExitCode;
 
 fn main(rt: HostRuntime) -> ExitCode {
-    run_main(&rt, &rt, &mut rt.stdin(), &mut rt.stdout(), &mut rt.stderr())
+    run_main(
+        &rt,
+        &rt,
+        &mut rt.stdin(),
+        &mut rt.stdout(),
+        &mut rt.stderr(),
+    )
 }
