@@ -6,6 +6,7 @@ use std::process::ExitCode;
 use test_bench::{HANDOFF, HANDOFF_TEXT, Sink, Source};
 
 /// An environment with these words.
+#[derive(Drop)]
 struct Words<'a>(&'a [&'a [u8]]);
 
 impl Env for Words<'_> {
