@@ -3,7 +3,7 @@ use Rattle.std.proofs.Common.{◌≡◌, ◌∙◌, ℕ, ◌+◌, ◌-◌, ◌<�
 use Rattle.std.specs.Prelude.{Box, ◌≢◌, ◌↔◌, is_some}
 use Rattle.std.specs.Bool.{then_some}
 use Rattle.std.specs.Box.{box_value}
-use Rattle.clap.specs.Words.{App, HasKind, IsAmong, Kinds, Text, Row, HasMatchesOf, fault_of, is_simple_and_free, kind_of, rows_of, subcommand_of, subcommand_rows, subcommand_rows_of, subcommand_name_of}
+use Rattle.clap.specs.Words.{App, HasKind, IsAmong, Kinds, Text, Row, fault_of, is_simple_and_free, kind_of, rows_of, subcommand_of, subcommand_rows, subcommand_rows_of, subcommand_name_of}
 use Rattle.clap.specs.declared.{error.Error.Error, parser.matches.Found.Found, parser.matches.SubCommand.SubCommand, parser.matches.ArgMatches.ArgMatches, parser.matches.ArgMatches.TheViews.out-ArgMatches, parser.matches.ArgMatches.TheViews.out-SubCommand}
 use Rattle.clap.specs.declared.error.kind.ErrorKind.TheVariants.{OutOfMemory}
 use Rattle.pp_numbers.specs.declared.{window.Window.Window, profile.Profile.Profile}
@@ -37,18 +37,10 @@ pair_of None name rows e h = cc
 pair_of (Some x) name rows e h = grind arith
 
 -- the command that a parse met, by the words
-pub met_command : (words : List Text) (app : App) (m : ArgMatches) (name : Text) (f : Found) → ReadsAlike words app → HasMatchesOf app words m
+pub met_command : (words : List Text) (m : ArgMatches) (name : Text) (f : Found) → subcommand_of ppsim words ≡ subcommand_rows_of m
     → Some name ≡ subcommand_name_of m → Some (rows_of f) ≡ option_map (λ p. p.1) (subcommand_rows_of m)
     → subcommand_of ppsim words ≡ Some (name, rows_of f)
-met_command words app m name f alike h e k = grind (arith, pair_of)
-
-none_of : {Z : Type 0} (o : Option (Box SubCommand Z)) → None ≡ option_map (λ b. (out-SubCommand (box_value b)).name.now) o → subcommand_rows o ≡ None
-none_of None e = refl
-none_of (Some x) e = cc
-
--- or none
-pub met_none : (words : List Text) (app : App) (m : ArgMatches) → ReadsAlike words app → HasMatchesOf app words m → None ≡ subcommand_name_of m → subcommand_of ppsim words ≡ None
-met_none words app m alike h e = sym alike.subcommand ∙ sym (h alike.simple).1 ∙ none_of (out-ArgMatches m).subcommand e
+met_command words m name f met e k = met ∙ pair_of (out-ArgMatches m).subcommand name (rows_of f) e k
 
 -- ---- options and commands, one by one
 

@@ -1,12 +1,12 @@
 -- Lists of numbers, number by number.
-use Rattle.std.proofs.Common.{◌≡◌, ℕ, ◌+◌, ◌==◌, ◌<◌, ◌≤◌, add-one, drop-cons, get_or, Bool, true, false, List, [], ◌∷◌, ◌++◌, length, drop, None, Some, refl, sym, ap, ◌∙◌, subst, arith}
+use Rattle.std.proofs.Common.{◌≡◌, ℕ, suc, ◌+◌, ◌==◌, ◌<◌, ◌≤◌, Bool, true, false, List, [], ◌∷◌, length, drop, Option, None, Some, refl, sym, ap, ◌∙◌, subst, arith}
 use Rattle.std.specs.Prelude.{◌&&◌, ◌||◌, All, IsSome, IsTrue, position, slice_index_or, slice_set, take}
 use Rattle.std.proofs.lemmas.Bool.{cases_eq, eq-eqb, false≢true, ne_eqb}
 use Rattle.std.specs.List.{position_or_len, slice_split}
 use Rattle.std.proofs.lemmas.Grind.{common_steps}
 use Rattle.std.proofs.lemmas.List.Splits.{slice_split_first, slice_split_none}
 use Rattle.std.proofs.lemmas.List.Sums.{fails_before_first}
-use Rattle.std.proofs.lemmas.List.{drop_all, length-append, get_or-set_other, get_or-set_same, length-set}
+use Rattle.std.proofs.lemmas.List.{get_or-set_other, get_or-set_same, length-set}
 use Rattle.std.proofs.lemmas.List.Elements.{All-cons, All-head, All-tail}
 use Rattle.pp_numbers.specs.ChannelNo.{channel_count, channel_index, names_channel, channel_places}
 use Rattle.pp_numbers.specs.PpNo.{is_named, names_processor, processor_count, processor_index, processor_places}
@@ -14,14 +14,6 @@ use Rattle.pp_command.specs.ChannelList.{is_flagged_channel}
 use Rattle.pp_command.specs.NumberList.{AreFlagged, is_among, is_comma, numbered, numbers_of}
 
 -- ---- the numbers of a list, from left to right
-
-pub next_number : {A : Type 0} (text number : List ℕ) (passed : List A) (here : A) → length passed < length (slice_split is_comma text) → number ≡ get_or (slice_split is_comma text) (length passed) number → drop (length passed) (numbers_of text) ≡ number ∷ drop (length (passed ++ here ∷ [])) (numbers_of text)
-unfolding numbers_of
-next_number text number passed here lt e = drop-cons (slice_split is_comma text) (length passed) number lt ∙ rw (sym e, length-append passed (here ∷ []), add-one (length passed)) refl
-
-pub no_number : (text : List ℕ) (i : ℕ) → i ≡ length (slice_split is_comma text) → drop i (numbers_of text) ≡ []
-unfolding numbers_of
-no_number text i e = drop_all i (slice_split is_comma text) (omega (arith, e))
 
 -- the first number ends at the first comma
 pub parted : (text : List ℕ) (place : ℕ) → position is_comma text ≡ Some place → numbers_of text ≡ take place text ∷ numbers_of (drop (place + 1) text)
@@ -37,6 +29,11 @@ unfolding numbers_of
 one_number text at =
     let long : length text ≤ position_or_len is_comma text = grind (arith, common_steps) in
     slice_split_none is_comma text (λ k d below. fails_before_first is_comma text k d (omega (arith, long, below)))
+
+-- what of a text is left, in bytes
+abbrev pub bytes_in : Option (List ℕ) → ℕ
+bytes_in None = 0
+bytes_in (Some text) = suc (length text)
 
 -- ---- flags of the numbers so far
 

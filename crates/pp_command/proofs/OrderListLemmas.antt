@@ -59,11 +59,6 @@ of_item : (profile : Profile) (item : List ℕ) (items : List (List ℕ)) (steps
     → option_map (λ more. steps ++ more) (all_steps profile (item ∷ items)) ≡ option_map (λ more. steps ++ more) (option_and_then (λ (ns : List ℕ). option_map (λ more. ns ++ more) (all_steps profile items)) own)
 of_item profile item items steps own is = ap (λ (o : Option (List ℕ)). option_map (λ more. steps ++ more) (option_and_then (λ (ns : List ℕ). option_map (λ more. ns ++ more) (all_steps profile items)) o)) is
 
--- what of a text is left, in bytes
-abbrev pub bytes_in : Option (List ℕ) → ℕ
-bytes_in None = 0
-bytes_in (Some text) = suc (length text)
-
 -- more room, filled with one processor
 pub filled : (order : List ℕ) (n k len end : ℕ) → len ≡ length order → end ≡ len + k → take end order ++ replicate (end - len) n ≡ order ++ replicate k n
 filled order n k len end is more =

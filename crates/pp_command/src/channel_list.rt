@@ -1,6 +1,7 @@
 ghost use Rattle.std.specs.Prelude.{Bool, List, MatchOption};
 ghost use Rattle.pp_command.specs.ChannelList.{AreListed};
 
+use crate::number_list::first_of;
 use pp_numbers::{CHANNELS, ChannelNo};
 use pp_word::numeral;
 
@@ -11,9 +12,12 @@ pub fn listed_channels(text: &[u8]) -> Option<[bool; CHANNELS]>
         (AreListed text.now) }
 {
     let mut flags = [false; CHANNELS];
-    for number in text.split(|byte| *byte == b',') {
+    let mut rest = Some(text);
+    while let Some(list) = rest {
+        let (number, behind) = first_of(list);
         let channel = ChannelNo::new(numeral(8, 2, number)? as u8)?;
         flags[channel.index()] = true;
+        rest = behind;
     }
     Some(flags)
 }

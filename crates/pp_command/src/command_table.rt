@@ -429,8 +429,10 @@ pub fn commands() -> [CommandHelp; 16]
 pub fn command_named(name: &str) -> Option<CommandHelp>
     ensures { option_map (λ help. command_of_form help.form.now) result ≡ command_named name.now }
 {
-    commands()
-        .iter()
-        .find(|help| help.form.name == name)
-        .copied()
+    for help in &commands() {
+        if help.form.name == name {
+            return Some(*help);
+        }
+    }
+    None
 }

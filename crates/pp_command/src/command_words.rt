@@ -1,5 +1,6 @@
 ghost use Rattle.std.specs.Prelude.{◌≡◌, ◌↔◌, ℕ, [], List, Option, IsTrue, map, option_map, IfOk, IfErr, IfNone, IfSome, OnOk};
-ghost use Rattle.pp_command.specs.CommandLine.{AskFor, AsksForMore, Finds, IsAskedOf, IsFaultBy, IsOfARun, IsOfEveryOrder, IsRefused, IsTestedBy, IsWorkOf, MixesForms, Name, ReadsFile, refusals};
+ghost use Rattle.clap.specs.Words.{Text, subcommand_of, subcommand_rows_of};
+ghost use Rattle.pp_command.specs.CommandLine.{AskFor, AsksForMore, Finds, IsAskedOf, IsFaultBy, IsOfARun, IsOfEveryOrder, IsRefused, IsTestedBy, IsWorkOf, MixesForms, Name, ReadsFile, ppsim, refusals};
 ghost use Rattle.pp_command.specs.declared.work.Work.{Work};
 ghost use Rattle.pp_condition.specs.declared.until.Until.{Until};
 
@@ -7,13 +8,13 @@ use crate::command::command;
 use crate::command_kind::CommandKind;
 use crate::command_table::command_named;
 use crate::option_values::{
-    channels_of, fits_a_picture, is_flagged, limits_of, number_of, order_of, profile_of, states_of,
-    turns_of, until_of, window_of,
+    channels_of, fits_a_picture, is_flagged, limits_of, order_of, profile_of, states_of, turns_of,
+    until_of, window_of,
 };
 use crate::text_of::text_of;
 use crate::{Asked, LineFault, Tested, Values, Work};
-use clap::Error;
 use clap::error::ErrorKind;
+use clap::{ArgMatches, Error};
 use pp_numbers::CHANNELS;
 use std::alloc::{AllocError, Allocator, Global};
 
@@ -38,7 +39,7 @@ fn work_of<V: Values>(kind: CommandKind, values: &V) -> Option<Work>
     let profile = profile_of(values)?;
     match kind {
         CommandKind::Threads => {
-            let limits = limits_of(number_of(values, "steps")?, number_of(values, "patience")?)?;
+            let limits = limits_of(values)?;
             Some(Work::Threads { profile, limits })
         }
         CommandKind::Lint => Some(Work::Lint { profile }),
@@ -148,10 +149,24 @@ pub fn read_words<'a>(
     let Ok(command) = command(alloc, words) else {
         return Err(LineFault::Memory);
     };
-    let matches = match command.try_get_matches_from(words) {
-        Ok(matches) => matches,
-        Err(error) => return Err(refusal(error)),
-    };
+    match command.try_get_matches_from(words) {
+        Ok(matches) => asked_in(alloc, &matches),
+        Err(error) => Err(refusal(error)),
+    }
+}
+
+/// What the command that clap met in some words asks for, and the file to read.
+fn asked_in<'a>(
+    alloc: Global,
+    matches: &ArgMatches<'a>,
+) -> Result<(Asked<Global>, Option<&'a str>), LineFault>
+    ensures work { (words : List Text) → (subcommand_of ppsim words ≡ subcommand_rows_of matches.now) → IfOk result (λ read.
+        AskFor words read.0.work read.0.first.items read.0.until) }
+    ensures file { (words : List Text) → (subcommand_of ppsim words ≡ subcommand_rows_of matches.now) → IfOk result (λ read.
+        Name words (option_map (λ s. s.now) read.1)) }
+    ensures refused { (words : List Text) → (subcommand_of ppsim words ≡ subcommand_rows_of matches.now) → (refusals words ≡ [])
+        → IfErr result (IsRefused words) }
+{
     let Some((name, inner)) = matches.subcommand() else {
         return Err(LineFault::Number);
     };
@@ -159,13 +174,11 @@ pub fn read_words<'a>(
         return Err(LineFault::Number);
     };
     let kind = help.form.kind;
-    let Ok(found) = asked_of(alloc, kind, inner) else {
-        return Err(LineFault::Memory);
-    };
-    match found {
-        Some(asked) => Ok((asked, named_file(inner.get_str("file")))),
-        None if asks_for_more(kind, inner) => Err(LineFault::Picture),
-        None if mixes_forms(kind, inner) => Err(LineFault::Forms),
-        None => Err(LineFault::Number),
+    match asked_of(alloc, kind, inner) {
+        Ok(Some(asked)) => Ok((asked, named_file(inner.get_str("file")))),
+        Ok(None) if asks_for_more(kind, inner) => Err(LineFault::Picture),
+        Ok(None) if mixes_forms(kind, inner) => Err(LineFault::Forms),
+        Ok(None) => Err(LineFault::Number),
+        Err(_) => Err(LineFault::Memory),
     }
 }

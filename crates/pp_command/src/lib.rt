@@ -8,6 +8,7 @@ mod command_macros;
 mod command_table;
 mod command_words;
 mod line_fault;
+mod number_list;
 mod number_range;
 mod option_values;
 mod order_list;

@@ -2,17 +2,22 @@ ghost use Rattle.std.specs.Prelude.{◌≡◌, ◌-◌, ◌≤◌, ◌↔◌, Is
 ghost use Rattle.pp_numbers.specs.Limits.{AreLimits};
 ghost use Rattle.pp_command.specs.CommandLine.{Finds, ReadsAddress, ReadsBounds, ReadsChosen, ReadsCondition, ReadsNumber, ReadsOrder, ReadsProcessor, ReadsProcessors, ReadsProfile, ReadsTurn, ReadsFlag, ReadsStates, ReadsTimes, ReadsTurns, ReadsUntil, ReadsWindow, most_drawn};
 
-use crate::number_range::{FROM, PATIENCE, STATES, STEPS, TIMES, TURNS};
+use crate::number_range::{FROM, NumberRange, PATIENCE, STATES, STEPS, TIMES, TURNS};
 use crate::processor_list::listed_processors;
 use crate::{Values, listed_channels, listed_order};
 use pp_condition::{Condition, Until, condition_in};
 use pp_numbers::{Bounds, CHANNELS, Limits, MOST_TURNS, PROCESSORS, PpNo, Profile, Window};
 use std::alloc::{AllocError, Allocator};
 
-pub(crate) fn number_of<V: Values>(values: &V, id: &str) -> Option<u32>
-    ensures { Finds (ReadsNumber (V.value values.now id.now)) result }
+/// The number in an option's value, if it is in this range.
+fn number_in<V: Values>(values: &V, id: &str, range: NumberRange) -> Option<u32>
+    ensures { Finds (λ n. ReadsNumber (V.value values.now id.now) n
+        × ((range.least ≤ n) × (n ≤ range.most))) result }
 {
-    values.value_of(id)?.parse::<u32>().ok()
+    match values.value_of(id)?.parse::<u32>() {
+        Ok(number) if range.contains(number) => Some(number),
+        _ => None,
+    }
 }
 
 /// The profile with as many processors as the options say, if there is one; the 6600's own if they
@@ -20,25 +25,25 @@ pub(crate) fn number_of<V: Values>(values: &V, id: &str) -> Option<u32>
 pub(crate) fn profile_of<V: Values>(values: &V) -> Option<Profile>
     ensures { Finds (ReadsProfile (V.value values.now (codes "processors"))) result }
 {
-    if values.value_of("processors").is_none() {
+    let Some(text) = values.value_of("processors") else {
         return Some(Profile::Ten);
-    }
-    match number_of(values, "processors") {
-        Some(10) => Some(Profile::Ten),
-        Some(20) => Some(Profile::Twenty),
+    };
+    match text.parse::<u32>() {
+        Ok(10) => Some(Profile::Ten),
+        Ok(20) => Some(Profile::Twenty),
         _ => None,
     }
 }
 
-/// The limits of two numbers, if they are in range. The ranges printed in the help are those of
-/// `Limits`.
-pub(crate) fn limits_of(steps: u32, patience: u32) -> Option<Limits>
-    ensures exists { IsSome result ↔ AreLimits (record { steps = steps; patience = patience }) }
-    ensures value { IfSome result (λ l. l ≡ record { steps = steps; patience = patience }) }
+/// The limits that the options say, if they are in range. The ranges printed in the help are those
+/// of `Limits`.
+pub(crate) fn limits_of<V: Values>(values: &V) -> Option<Limits>
+    ensures { Finds (λ limits. ReadsNumber (V.value values.now (codes "steps")) limits.steps
+        × ReadsNumber (V.value values.now (codes "patience")) limits.patience
+        × AreLimits limits) result }
 {
-    if !STEPS.contains(steps) || !PATIENCE.contains(patience) {
-        return None;
-    }
+    let steps = number_in(values, "steps", STEPS)?;
+    let patience = number_in(values, "patience", PATIENCE)?;
     Some(Limits::new(steps, patience).unwrap())
 }
 
@@ -46,14 +51,14 @@ pub(crate) fn limits_of(steps: u32, patience: u32) -> Option<Limits>
 pub(crate) fn turns_of<V: Values>(values: &V) -> Option<u32>
     ensures { Finds (ReadsTurns (V.value values.now)) result }
 {
-    number_of(values, "turns").filter(|turns| TURNS.contains(*turns))
+    number_in(values, "turns", TURNS)
 }
 
 /// The number of standings that the options say, if it is in range.
 pub(crate) fn states_of<V: Values>(values: &V) -> Option<u32>
     ensures { Finds (ReadsStates (V.value values.now)) result }
 {
-    number_of(values, "states").filter(|states| STATES.contains(*states))
+    number_in(values, "states", STATES)
 }
 
 /// The processor of a machine of this profile that `--pp` gives, in octal, if there is one.
@@ -142,10 +147,7 @@ fn times_of<V: Values>(values: &V) -> Option<u32>
     ensures { Finds (ReadsTimes (V.value values.now (codes "times"))) result }
 {
     match values.value_of("times") {
-        Some(text) => text
-            .parse::<u32>()
-            .ok()
-            .filter(|times| TIMES.contains(*times)),
+        Some(_) => number_in(values, "times", TIMES),
         None => Some(1),
     }
 }
@@ -175,7 +177,7 @@ pub(crate) fn turn_of<V: Values>(values: &V, id: &str, default: u32) -> Option<u
     ensures { Finds (ReadsTurn default (V.value values.now id.now)) result }
 {
     match values.value_of(id) {
-        Some(text) => text.parse::<u32>().ok().filter(|turn| FROM.contains(*turn)),
+        Some(_) => number_in(values, id, FROM),
         None => Some(default),
     }
 }

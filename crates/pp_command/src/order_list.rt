@@ -1,8 +1,9 @@
-ghost use Rattle.std.specs.Prelude.{◌≡◌, ◌<◌, ◌∷◌, IfOk, IfSome, length, option_map, replicate};
+ghost use Rattle.std.specs.Prelude.{◌≡◌, IfOk, option_map, replicate};
 ghost use Rattle.pp_numbers.specs.Profile.{has_processor};
-ghost use Rattle.pp_command.specs.NumberList.{numbered, numbers_in, numbers_of};
+ghost use Rattle.pp_command.specs.NumberList.{numbered};
 ghost use Rattle.pp_command.specs.OrderList.{item_steps, listed_steps, steps_of};
 
+use crate::number_list::first_of;
 use crate::number_range::TURNS;
 use pp_numbers::{PpNo, Profile};
 use pp_word::numeral;
@@ -34,18 +35,6 @@ pub fn listed_order<A: Allocator>(
         rest = behind;
     }
     Ok(Some(order))
-}
-
-/// The first item of a list, and what stands behind its comma, if it has one.
-fn first_of(list: &[u8]) -> (&[u8], Option<&[u8]>)
-    ensures parted { numbers_of list.now
-        ≡ result.0.now ∷ numbers_in (option_map (λ behind. behind.now) result.1) }
-    ensures shorter { IfSome result.1 (λ behind. length behind.now < length list.now) }
-{
-    match list.iter().position(|byte| *byte == b',') {
-        Some(place) => (&list[..place], Some(&list[place + 1..])),
-        None => (list, None),
-    }
 }
 
 /// Some steps in a row of one processor.

@@ -1,6 +1,7 @@
 ghost use Rattle.std.specs.Prelude.{Bool, List, MatchOption};
 ghost use Rattle.pp_command.specs.ProcessorList.{AreProcessorsListed};
 
+use crate::number_list::first_of;
 use pp_numbers::{PROCESSORS, Profile};
 use pp_word::numeral;
 
@@ -13,9 +14,12 @@ pub fn listed_processors(profile: Profile, text: &[u8]) -> Option<[bool; PROCESS
         (AreProcessorsListed profile text.now) }
 {
     let mut flags = [false; PROCESSORS];
-    for number in text.split(|byte| *byte == b',') {
+    let mut rest = Some(text);
+    while let Some(list) = rest {
+        let (number, behind) = first_of(list);
         let processor = profile.processor(numeral(8, 2, number)? as u8)?;
         flags[processor.index()] = true;
+        rest = behind;
     }
     Some(flags)
 }

@@ -1,6 +1,7 @@
 use Rattle.std.specs.Prelude.{option_map}
 use Rattle.pp_command.specs.NumberList.{numbers_in}
-use Rattle.pp_command.proofs.OrderListLemmas.{ListsSoFar, bytes_in}
+use Rattle.pp_command.proofs.NumberListLemmas.{bytes_in}
+use Rattle.pp_command.proofs.OrderListLemmas.{ListsSoFar}
 use Rattle.pp_command.proofs.order_list.listed_order.Given as goal
 
 abbrev pub invariant-loop-rest : goal.invariant-loop-rest

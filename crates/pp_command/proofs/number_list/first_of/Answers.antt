@@ -5,7 +5,7 @@ use Rattle.std.proofs.lemmas.Iterator.Search.{position_from_yields_List}
 use Rattle.std.proofs.lemmas.List.{take_rest}
 use Rattle.pp_command.specs.NumberList.{is_comma, numbers_of}
 use Rattle.pp_command.proofs.NumberListLemmas.{one_number, parted}
-use Rattle.pp_command.proofs.order_list.first_of.Goals as goal
+use Rattle.pp_command.proofs.number_list.first_of.Goals as goal
 
 pub returns-in-Some-clause-parted : goal.returns-in-Some-clause-parted
 returns-in-Some-clause-parted c =
