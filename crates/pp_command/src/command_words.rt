@@ -117,7 +117,10 @@ pub fn asked_of<V: Values, A: Allocator>(
 pub fn named_file(word: Option<&str>) -> Option<&str>
     ensures { ReadsFile (option_map (λ s. s.now) word.entry) (option_map (λ s. s.now) result) }
 {
-    word.filter(|path| *path != "-")
+    match word {
+        Some("-") => None,
+        _ => word,
+    }
 }
 
 /// The fault of a parse that failed.

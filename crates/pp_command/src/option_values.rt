@@ -65,8 +65,10 @@ pub(crate) fn states_of<V: Values>(values: &V) -> Option<u32>
 pub(crate) fn processor_of<V: Values>(values: &V, profile: Profile) -> Option<PpNo>
     ensures { Finds (ReadsProcessor profile (V.value values.now (codes "pp"))) result }
 {
-    let number = u8::from_str_radix(values.value_of("pp")?, 8).ok()?;
-    profile.processor(number)
+    match u8::from_str_radix(values.value_of("pp")?, 8) {
+        Ok(number) => profile.processor(number),
+        Err(_) => None,
+    }
 }
 
 /// The processors of a machine of this profile that `--pp` lists, in octal, if it is given; nothing
@@ -78,7 +80,7 @@ pub(crate) fn processors_of<V: Values>(
     ensures { Finds (ReadsProcessors profile (V.value values.now (codes "pp"))) result }
 {
     match values.value_of("pp") {
-        Some(text) => Some(Some(listed_processors(profile, text.as_bytes())?)),
+        Some(text) => listed_processors(profile, text.as_bytes()).map(Some),
         None => Some(None),
     }
 }
@@ -89,7 +91,7 @@ pub(crate) fn channels_of<V: Values>(values: &V, id: &str) -> Option<Option<[boo
     ensures { Finds (ReadsChosen (V.value values.now id.now)) result }
 {
     match values.value_of(id) {
-        Some(text) => Some(Some(listed_channels(text.as_bytes())?)),
+        Some(text) => listed_channels(text.as_bytes()).map(Some),
         None => Some(None),
     }
 }
@@ -123,7 +125,7 @@ pub(crate) fn condition_of<V: Values>(
     ensures { Finds (ReadsCondition profile (V.value values.now id.now)) result }
 {
     match values.value_of(id) {
-        Some(text) => Some(Some(condition_in(profile, text.as_bytes())?)),
+        Some(text) => condition_in(profile, text.as_bytes()).map(Some),
         None => Some(None),
     }
 }

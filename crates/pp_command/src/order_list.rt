@@ -3,7 +3,7 @@ ghost use Rattle.pp_numbers.specs.Profile.{has_processor};
 ghost use Rattle.pp_command.specs.NumberList.{numbered};
 ghost use Rattle.pp_command.specs.OrderList.{item_steps, listed_steps, steps_of};
 
-use crate::number_list::first_of;
+use crate::number_list::{first_of, place_of};
 use crate::number_range::TURNS;
 use pp_numbers::{PpNo, Profile};
 use pp_word::numeral;
@@ -49,7 +49,7 @@ fn item_of(profile: Profile, text: &[u8]) -> Option<Item>
     ensures { option_map (λ item. replicate item.steps item.processor) result
         ≡ item_steps profile text.now }
 {
-    match text.iter().position(|byte| *byte == b':') {
+    match place_of(b':', text) {
         Some(place) => item_by(profile, &text[..place], numeral(10, 6, &text[place + 1..])),
         None => item_by(profile, text, Some(1)),
     }
