@@ -1,5 +1,7 @@
 //! Names that are close to a word, by clap's measure.
 
+ghost use Rattle.std.specs.Prelude.{◌≤◌, length};
+
 use crate::text::Text;
 use pp_command::{OptionForm, commands};
 use std::alloc::Allocator;
@@ -14,8 +16,7 @@ fn add_name<A: Allocator + Copy>(
 ) {
     match jaro(text.alloc(), word, name) {
         Ok(closeness) if closeness > 0.7 => {
-            let place = names.iter().position(|other| closeness < other.0);
-            let place = place.unwrap_or(names.len());
+            let place = place_of(closeness, names);
             if names.insert(place, (closeness, name)).is_err() {
                 text.refuse();
             }
@@ -25,6 +26,18 @@ fn add_name<A: Allocator + Copy>(
     }
 }
 
+/// The first place of a name that is closer than this; the end, if none is.
+fn place_of(closeness: f64, names: &[(f64, &str)]) -> usize
+    ensures { result ≤ length names.now }
+{
+    for (place, other) in names.iter().enumerate() {
+        if closeness < other.0 {
+            return place;
+        }
+    }
+    names.len()
+}
+
 /// Says which commands have names close to a word, the closest last.
 pub(crate) fn say_similar_commands<A: Allocator + Copy>(text: &mut Text<A>, word: &str) {
     let mut names = Vec::new(text.alloc());
@@ -32,6 +45,11 @@ pub(crate) fn say_similar_commands<A: Allocator + Copy>(text: &mut Text<A>, word
         add_name(text, &mut names, word, help.form.name);
     }
     add_name(text, &mut names, word, "help");
+    say_similar(text, &names);
+}
+
+/// Says that these commands are similar, if there are any.
+fn say_similar<A: Allocator + Copy>(text: &mut Text<A>, names: &[(f64, &str)]) {
     let Some((first, others)) = names.split_first() else {
         return;
     };
@@ -51,12 +69,30 @@ pub(crate) fn similar_option<A: Allocator + Copy>(
     options: &[OptionForm],
     requests: &[&'static str],
 ) -> Option<&'static str> {
-    let mut names = Vec::new(text.alloc());
+    let mut closest = (0.0, None);
     for option in options {
-        add_name(text, &mut names, word, option.name);
+        closest = closer(text, word, option.name, closest);
     }
     for name in requests {
-        add_name(text, &mut names, word, name);
+        closest = closer(text, word, name, closest);
     }
-    Some(names.last()?.1)
+    closest.1
+}
+
+/// This name, and how close it is to a word, if it is close and no farther than the closest so far;
+/// else that one.
+fn closer<A: Allocator + Copy>(
+    text: &mut Text<A>,
+    word: &str,
+    name: &'static str,
+    closest: (f64, Option<&'static str>),
+) -> (f64, Option<&'static str>) {
+    match jaro(text.alloc(), word, name) {
+        Ok(closeness) if closeness > 0.7 && closeness >= closest.0 => (closeness, Some(name)),
+        Ok(_) => closest,
+        Err(_) => {
+            text.refuse();
+            closest
+        }
+    }
 }
