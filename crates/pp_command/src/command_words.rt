@@ -163,12 +163,15 @@ fn asked_in<'a>(
     alloc: Global,
     matches: &ArgMatches<'a>,
 ) -> Result<(Asked<Global>, Option<&'a str>), LineFault>
-    ensures work { (words : List Text) → (subcommand_of ppsim words ≡ subcommand_rows_of matches.now) → IfOk result (λ read.
-        AskFor words read.0.work read.0.first.items read.0.until) }
-    ensures file { (words : List Text) → (subcommand_of ppsim words ≡ subcommand_rows_of matches.now) → IfOk result (λ read.
-        Name words (option_map (λ s. s.now) read.1)) }
-    ensures refused { (words : List Text) → (subcommand_of ppsim words ≡ subcommand_rows_of matches.now) → (refusals words ≡ [])
-        → IfErr result (IsRefused words) }
+    ensures work { (words : List Text)
+        → (subcommand_of ppsim words ≡ subcommand_rows_of matches.now)
+        → IfOk result (λ read. AskFor words read.0.work read.0.first.items read.0.until) }
+    ensures file { (words : List Text)
+        → (subcommand_of ppsim words ≡ subcommand_rows_of matches.now)
+        → IfOk result (λ read. Name words (option_map (λ s. s.now) read.1)) }
+    ensures refused { (words : List Text)
+        → (subcommand_of ppsim words ≡ subcommand_rows_of matches.now)
+        → (refusals words ≡ []) → IfErr result (IsRefused words) }
 {
     let Some((name, inner)) = matches.subcommand() else {
         return Err(LineFault::Number);
