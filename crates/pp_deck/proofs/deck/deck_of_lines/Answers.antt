@@ -1,6 +1,6 @@
 use Rattle.std.proofs.Common.{◌≡◌, Result, Ok, Err, ap, arith, sym, ◌∙◌}
 use Rattle.std.specs.Prelude.{◌≢◌}
-use Rattle.std.specs.Result.{IfErr, result_or}
+use Rattle.std.specs.Result.{IfErr, IfOk, result_or}
 use Rattle.pp_deck.specs.DeckText.{lines_of}
 use Rattle.pp_deck.specs.Reading.{before_lines}
 use Rattle.pp_deck.specs.declared.deck_fault.{DeckCode.TheVariants.Memory, DeckFault.DeckFault}
@@ -54,10 +54,14 @@ loop-fields-preserved g c =
 pub into_deck-requires : goal.into_deck-requires
 into_deck-requires g c = before_first_turn c.args.profile _ _ _ _ c.loop-fields.invariant.read
 
+ok_or_fault : {A E : Type 0} (r : Result A E) (fault : DeckFault) (Q P : A → Type 0) → ((x : A) → Q x → P x) → IfOk r Q → IfOk (result_or r (Err fault)) P
+ok_or_fault (Ok x) fault Q P so is = so x is
+ok_or_fault (Err e) fault Q P so is = tt
+
 pub returns-clause-ok : goal.returns-clause-ok
 returns-clause-ok g c =
     let all = read_all c.args.profile _ _ _ _ c.loop-fields.invariant.read (no_line _ _ _ c.loop-fields.invariant.within c.loop-fields.invariant.left c.in_default-next_line.ensures.none) in
-    grind (arith, all)
+    rw c.or.ensures (ok_or_fault c.into_deck.result c.fault-2.result _ _ (λ deck is. all ∙ ap (λ d. Ok d) (sym is)) c.into_deck.ensures)
 
 not_memory : {A E : Type 0} (r : Result A E) (fault : DeckFault) (P : DeckFault → Type 0) → fault.code ≡ Memory → IfErr (result_or r (Err fault)) (λ fault. fault.code ≢ Memory → P fault)
 not_memory (Ok x) fault P is = tt
