@@ -14,7 +14,7 @@ use Rattle.pp_run.specs.Determinacy.{IsQuiet}
 use Rattle.pp_ends.specs.declared.ending.Ending.{Ending}
 use Rattle.pp_ends.specs.declared.ending.Ending.TheVariants as endings
 use Rattle.pp_ends.specs.declared.ending.Ending.TheVariants.{AtRest, GoingOn, Stuck}
-use Rattle.pp_ends.specs.Endings.{EndsQuietFrom, FirstRepeats, IsEnding, StandAlike, after_turns}
+use Rattle.pp_ends.specs.Ending.{EndsQuietFrom, FirstRepeats, EndsWith, StandAlike, after_turns}
 use Rattle.pp_ends.proofs.MoveLemmas.{kept_waits}
 use Rattle.pp_ends.proofs.RepeatLemmas.{IsLawfulMachine, repeats_on, run_lawful, stepped_alike}
 use Rattle.pp_ends.proofs.StillLemmas.{quiet_from, same_from}
@@ -73,7 +73,7 @@ quiet_before t n turns late m l r q =
 -- ---- each ending
 
 pub final_ending : (ending : Ending) (turns more : ℕ) (m : MachineState) → length m.histories ≡ channel_count
-    → HoldsOnEachChannel m → ending ≢ GoingOn → IsEnding ending turns m → IsEnding ending (turns + more) m
+    → HoldsOnEachChannel m → ending ≢ GoingOn → EndsWith ending turns m → EndsWith ending (turns + more) m
 final_ending (AtRest t) turns more m all headline ends e = record {
   ends = ends_quiet t turns more m e.ends;
   at_rest = λ n. subst IsAtRest (same_processor t turns more n m e.ends) (e.at_rest n);

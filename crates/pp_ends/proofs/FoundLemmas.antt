@@ -7,7 +7,7 @@ use Rattle.pp_numbers.specs.Profile.{processors_in}
 use Rattle.pp_machine.specs.Run.{barrel, run}
 use Rattle.pp_numbers.specs.declared.profile.Profile.{Profile}
 use Rattle.pp_numbers.proofs.ProfileLemmas.{more_rounds}
-use Rattle.pp_ends.specs.Endings.{FirstRepeats, Repeats, StandAlike, after_turns}
+use Rattle.pp_ends.specs.Ending.{FirstRepeats, Repeats, StandAlike, after_turns}
 use Rattle.pp_ends.specs.Rounds.{AreAlikeAfter, IsPeriod, IsStart, PeriodWithin, StartWithin, after_rounds}
 use Rattle.pp_ends.proofs.RepeatLemmas.{IsLawfulMachine, after_more, run_alike, run_lawful}
 

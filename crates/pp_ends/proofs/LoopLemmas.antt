@@ -7,7 +7,7 @@ use Rattle.pp_machine.specs.MachineState.{MachineState}
 use Rattle.pp_numbers.specs.PpNo.{names_processor, processor_count, processor_index, processor_places}
 use Rattle.pp_numbers.specs.Profile.{processor_in_turn}
 use Rattle.pp_run.specs.Determinacy.{Waits}
-use Rattle.pp_ends.specs.Endings.{TellsMove, after_turns}
+use Rattle.pp_ends.specs.Ending.{TellsMove, after_turns}
 use Rattle.pp_ends.specs.Loops.{IsLoop, MovesIn, TellLoops, TellsLoop, loop_of, noted, place_at, widened}
 use Rattle.pp_ends.specs.declared.loops.Loop.{Loop}
 

@@ -5,7 +5,7 @@ use Rattle.pp_machine.specs.MachineState.{MachineState}
 use Rattle.pp_ends.specs.declared.ending.Ending.{Ending}
 use Rattle.pp_ends.specs.declared.ending.Ending.TheVariants as endings
 use Rattle.pp_ends.specs.declared.ending.Ending.TheVariants.{AtRest, GoingOn, Stuck}
-use Rattle.pp_ends.specs.Endings.{FirstRepeats, IsEnding, IsStillFrom}
+use Rattle.pp_ends.specs.Ending.{FirstRepeats, EndsWith, IsStillFrom}
 
 no_sooner : (t u turns : ℕ) (m : MachineState) → IsStillFrom t turns m → IsStillFrom u turns m → u ≤ t
 no_sooner t u turns m s other = elim (cases_lt t u) [
@@ -24,7 +24,7 @@ one_repetition t n u k turns m one other =
     let starts : t ≡ u = omega (arith, one.with_it u k other.repeats (sym sums), other.with_it t n one.repeats sums) in
     (starts, omega (arith, sums, starts))
 
-pub one_ending : (one other : Ending) (turns : ℕ) (m : MachineState) → IsEnding one turns m → IsEnding other turns m → one ≡ other
+pub one_ending : (one other : Ending) (turns : ℕ) (m : MachineState) → EndsWith one turns m → EndsWith other turns m → one ≡ other
 one_ending (AtRest t) (AtRest u) turns m a b = ap (λ (k : ℕ). AtRest k) (one_turn t u turns m a.ends.still b.ends.still)
 one_ending (Stuck t) (Stuck u) turns m a b = ap (λ (k : ℕ). Stuck k) (one_turn t u turns m a.ends.still b.ends.still)
 one_ending (endings.Repeats t n) (endings.Repeats u k) turns m a b =

@@ -13,7 +13,7 @@ use Rattle.pp_processor.proofs.StepLemmas.{rest_changes_nothing}
 use Rattle.pp_run.specs.Determinacy.{IsQuiet, Waits}
 use Rattle.pp_run.proofs.StepFacts.{own_step}
 use Rattle.pp_ends.specs.declared.progress_mark.ProgressMark.{ProgressMark}
-use Rattle.pp_ends.specs.Endings.{TellsMove, TellsRunning}
+use Rattle.pp_ends.specs.Ending.{TellsMove, TellsRunning}
 use Rattle.pp_ends.specs.ProgressMark.{mark_of}
 use Rattle.pp_ends.proofs.MoveLemmas.{kept_waits}
 use Rattle.pp_ends.proofs.ProgressMarkLemmas.{stands_still}

@@ -17,7 +17,7 @@ use Rattle.pp_run.proofs.StepFacts.{central_by, processors_by}
 use Rattle.pp_run.proofs.AlikeLemmas.{answers_alike, central_alike, channels_alike}
 use Rattle.pp_run.proofs.BarrelLemmas.{barrel_again}
 pub use Rattle.pp_run.proofs.AlikeLemmas.{IsLawfulMachine, run_lawful}
-use Rattle.pp_ends.specs.Endings.{Repeats, StandAlike, after_turns}
+use Rattle.pp_ends.specs.Ending.{Repeats, StandAlike, after_turns}
 
 -- ---- one step
 

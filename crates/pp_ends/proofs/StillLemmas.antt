@@ -10,7 +10,7 @@ use Rattle.pp_machine.proofs.RunLemmas.{barrel_more, length-barrel}
 use Rattle.pp_numbers.specs.declared.profile.Profile.{Profile}
 use Rattle.pp_run.specs.Determinacy.{IsQuiet, Waits}
 use Rattle.pp_run.proofs.StepFacts.{central_by, event_by, event_by_need, histories_by, histories_none, own_step, processors_by, trace_by, trace_with}
-use Rattle.pp_ends.specs.Endings.{AreSameButTurns, EndsQuietFrom, WaitsAt, after_turns}
+use Rattle.pp_ends.specs.Ending.{AreSameButTurns, EndsQuietFrom, WaitsAt, after_turns}
 
 pub waited : (n : ℕ) (m : MachineState) → Waits n m
     → stepped n m ≡ record m { turns = counted m.turns }

@@ -8,7 +8,7 @@ use Rattle.pp_numbers.specs.PpNo.{all_processors, is_named}
 use Rattle.pp_word.specs.Numeral.{decimal, octal, short_decimal}
 use Rattle.pp_text.specs.PrintedText.{line_end, processor_line, used_channel_line}
 use Rattle.pp_text.specs.Standing.{standing}
-use Rattle.pp_ends.specs.Endings.{after_turns}
+use Rattle.pp_ends.specs.Ending.{after_turns}
 use Rattle.pp_ends.specs.Loops.{loop_of}
 use Rattle.pp_ends.specs.declared.{ending.Ending.Ending, loops.Loop.Loop}
 use Rattle.pp_ends.specs.declared.ending.Ending.TheVariants.{AtRest, GoingOn, Repeats, Stuck}

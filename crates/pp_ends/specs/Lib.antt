@@ -1,4 +1,4 @@
-pub mod Endings
+pub mod Ending
 pub mod Loops
 pub mod EndsText
 -- cited by private contracts alone

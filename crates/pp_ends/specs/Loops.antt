@@ -3,7 +3,7 @@ use Rattle.std.specs.Prelude.{◌≡◌, ℕ, ◌+◌, ◌<◌, ◌≤◌, Bool,
 use Rattle.pp_machine.specs.MachineState.{MachineState, processor_of}
 use Rattle.pp_numbers.specs.PpNo.{names_processor, processor_index}
 use Rattle.pp_numbers.specs.Profile.{processor_in_turn}
-use Rattle.pp_ends.specs.Endings.{MovesAt, after_turns}
+use Rattle.pp_ends.specs.Ending.{MovesAt, after_turns}
 use Rattle.pp_ends.specs.declared.{ending.Ending.Ending, loops.Loop.Loop}
 use Rattle.pp_ends.specs.declared.ending.Ending.TheVariants as endings
 

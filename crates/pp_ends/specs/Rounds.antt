@@ -2,7 +2,7 @@
 use Rattle.std.specs.Prelude.{ℕ, ◌+◌, ◌*◌, ◌<◌, ◌≤◌, Option, None, Some}
 use Rattle.pp_machine.specs.MachineState.{MachineState}
 use Rattle.pp_numbers.specs.Profile.{processors_in}
-use Rattle.pp_ends.specs.Endings.{StandAlike, after_turns}
+use Rattle.pp_ends.specs.Ending.{StandAlike, after_turns}
 
 -- a machine after this many rounds
 abbrev pub after_rounds : ℕ → MachineState → MachineState

@@ -1,7 +1,7 @@
 ghost use Rattle.std.specs.Prelude.{◌≡◌, ◌↔◌, IsNone, IsSome, IsTrue, false};
 ghost use Rattle.pp_run.specs.BareMachine.{StandsFor};
 ghost use Rattle.pp_machine.specs.MachineState.{MachineState};
-ghost use Rattle.pp_ends.specs.Endings.{StandAlike};
+ghost use Rattle.pp_ends.specs.Ending.{StandAlike};
 
 use crate::recent_mismatches::{RecentMismatches, Spot};
 use pp_channel::{CHANNELS, ChannelNo, ChannelState};

@@ -9,7 +9,7 @@ ghost use Rattle.pp_run.specs.Determinacy.{IsQuiet, Waits};
 ghost use Rattle.pp_ends.specs.declared.{ending.Ending.Ending, loops.Loop.Loop};
 ghost use Rattle.pp_ends.specs.declared.ending.Ending.TheVariants.{GoingOn};
 ghost use Rattle.pp_ends.specs.EndsText.{FitsItsEnding, ends_text, ends_turn};
-ghost use Rattle.pp_ends.specs.Endings.{AreSameButTurns, EndsQuietFrom, IsEnding, Repeats, StandAlike, after_turns};
+ghost use Rattle.pp_ends.specs.Ending.{AreSameButTurns, EndsQuietFrom, EndsWith, Repeats, StandAlike, after_turns};
 
 /// A step that leaves its processor as it was waits: it makes no event and writes no central word.
 /// No list of steps whatever changes anything but the turns counted of a machine that is quiet; and
@@ -28,11 +28,11 @@ pub fn ends_law()
     ensures repeats { (t n k : ℕ) (m : MachineState) → length m.histories ≡ channel_count
         → HoldsOnEachChannel m → Repeats t n m
         → StandAlike (after_turns t m) (after_turns (t + k * n) m) }
-    ensures one { (one other : Ending) (turns : ℕ) (m : MachineState) → IsEnding one turns m
-        → IsEnding other turns m → one ≡ other }
+    ensures one { (one other : Ending) (turns : ℕ) (m : MachineState) → EndsWith one turns m
+        → EndsWith other turns m → one ≡ other }
     ensures lasts { (ending : Ending) (turns more : ℕ) (m : MachineState)
         → length m.histories ≡ channel_count → HoldsOnEachChannel m → ending ≢ GoingOn
-        → IsEnding ending turns m → IsEnding ending (turns + more) m }
+        → EndsWith ending turns m → EndsWith ending (turns + more) m }
 {}
 
 /// The text of an ending tells the ending, its period and the turn that it names: two texts that

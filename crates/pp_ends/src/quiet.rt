@@ -3,7 +3,7 @@ ghost use Rattle.pp_run.specs.{BareMachine.StandsFor, Determinacy.IsQuiet};
 ghost use Rattle.pp_machine.specs.MachineState.{MachineState};
 ghost use Rattle.pp_machine.specs.MachineStep.{answer_to, stepped};
 ghost use Rattle.pp_processor.specs.Replay.{fits};
-ghost use Rattle.pp_ends.specs.Endings.{TellsMove, TellsRunning};
+ghost use Rattle.pp_ends.specs.Ending.{TellsMove, TellsRunning};
 
 use crate::progress_mark::ProgressMark;
 use pp_machine::{Answer, Need, PROCESSORS, PpNo};

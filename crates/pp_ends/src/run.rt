@@ -1,7 +1,7 @@
 ghost use Rattle.std.specs.Prelude.{◌≡◌, ◌<◌, ◌^◌, ℕ, length, IfOk, IfSome, IsNone};
 ghost use Rattle.pp_run.specs.{BareMachine.StandsFor, Determinacy.IsQuiet};
 ghost use Rattle.pp_machine.specs.{MachineState.MachineState, Run.barrel};
-ghost use Rattle.pp_ends.specs.Endings.{IsEnding, IsStillFrom, after_turns};
+ghost use Rattle.pp_ends.specs.Ending.{EndsWith, IsStillFrom, after_turns};
 
 use crate::Ending;
 use crate::quiet::{is_quiet, is_running, step_moves};
@@ -19,7 +19,7 @@ pub fn find_ending<A: Allocator + Copy, B: Allocator>(
     machine: &Machine<B>,
     turns: u32,
 ) -> Result<Ending, Memory>
-    ensures { IfOk result (λ ending. IsEnding ending turns machine.now) }
+    ensures { IfOk result (λ ending. EndsWith ending turns machine.now) }
 {
     machine.is_sound();
     if let Some(ending) = quiet_ending(alloc, machine, turns)? {
@@ -46,7 +46,7 @@ fn quiet_ending<A: Allocator + Copy, B: Allocator>(
     turns: u32,
 ) -> Result<Option<Ending>, Memory>
     ensures ending { IfOk result (λ found. IfSome found (λ ending.
-        IsEnding ending turns machine.now)) }
+        EndsWith ending turns machine.now)) }
     ensures moves { IfOk result (λ found. IsNone found
         → ¬ IsQuiet (after_turns turns machine.now)) }
 {

@@ -63,7 +63,7 @@ module _ (ns : List ℕ) (m : MachineState) (all : length m.processors ≡ proce
       by_need (Read a) e =
           let same : slice_get now.central a ≡ slice_get (at_moment ns m (reached q)).central a = elim (cases_lt a (length m.central)) [
             | inl low ↦
-                let owns : Owns ns m q a = λ u h w g. d.apart u (reached q) a h go.within low (w, g) (inl (here ∙ e)) ∙ go.mine in
+                let owns : Owns ns m q a = λ u h w g. d.race_free.apart u (reached q) a h go.within low (w, g) (inl (here ∙ e)) ∙ go.mine in
                 read_alike a now (at_moment ns m (reached q)) sizes (f.stands.word q a owns)
             | inr past ↦
                 let size : length now.central ≡ length m.central = f.stands.size in
@@ -291,7 +291,7 @@ module _ (ns : List ℕ) (m : MachineState) (all : length m.processors ≡ proce
 
   owner : (a : ℕ) → a < length m.central → (q : ℕ) × Owns ns m q a
   owner a low = elim (find_writer a (length ns) (omega arith)) [
-    | inl found ↦ (get_or ns found.0 0, (λ u h w e. d.apart u found.0 a h found.1 low (w, e) (inr found.2)))
+    | inl found ↦ (get_or ns found.0 0, (λ u h w e. d.race_free.apart u found.0 a h found.1 low (w, e) (inr found.2)))
     | inr none ↦ (zero, (λ u h w e. absurd (none u h w e)))
   ]
 

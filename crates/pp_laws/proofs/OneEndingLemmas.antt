@@ -6,7 +6,7 @@ use Rattle.pp_machine.specs.Headline.{IsMachine}
 use Rattle.pp_machine.specs.MachineState.{MachineState}
 use Rattle.pp_machine.specs.Run.{run}
 use Rattle.pp_run.specs.Determinacy.{IsQuiet}
-use Rattle.pp_ends.specs.Endings.{StandAlike}
+use Rattle.pp_ends.specs.Ending.{StandAlike}
 use Rattle.pp_orders.specs.Endings.{AreAllEndings, AreEndings, LeadsTo, after_order}
 use Rattle.pp_orders.proofs.AlikeLemmas.{lawful, leads_back, leads_to, reaches}
 use Rattle.pp_orders.proofs.EndingsLemmas.{reaches_on}

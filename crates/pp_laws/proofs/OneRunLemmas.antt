@@ -21,7 +21,7 @@ use Rattle.pp_runner.specs.End.{IsEnd}
 use Rattle.pp_numbers.specs.Limits.{RunLimits}
 use Rattle.pp_runner.specs.Report.{IsReportOf}
 use Rattle.pp_runner.specs.WorkerReport.{AreWorkers}
-use Rattle.pp_report.specs.Serial.{LeadsTo, processors_left}
+use Rattle.pp_report.specs.Serial.{LeadsToReport, processors_left}
 use Rattle.pp_laws.specs.OneRun.{CannotMove, EndsAtRest, IsOver, ShowsPartsOf}
 
 -- a step that waits
@@ -34,7 +34,7 @@ waits_in_place n m turns = grind (arith, own_step, event_by, central_by)
 waits_for : (n c : ℕ) (op : ChanOp) (m : MachineState) → need (processor_of n m) ≡ Need.Channel c op → Stays op (processor_of n m) (history_of c m) → Waits n m
 waits_for n c op m needs stays = grind (arith, own_step, event_by_need, central_by)
 
-module _ {A : Type 0} (others : List ℕ) (m : MachineState) (report : Report A) (order : List Access) (leads : LeadsTo others m report order) where
+module _ {A : Type 0} (others : List ℕ) (m : MachineState) (report : Report A) (order : List Access) (leads : LeadsToReport others m report order) where
   abbrev now : MachineState
   now = run others m
 
@@ -51,7 +51,7 @@ module _ {A : Type 0} (others : List ℕ) (m : MachineState) (report : Report A)
     channels = λ c. let part = parts.channels c in (part.0, sym (happened c) ∙ part.1.history);
   }
 
-  pub leads_alike : (ns : List ℕ) → length m.processors ≡ processor_count → length m.histories ≡ channel_count → AreAlike now (run ns m) → LeadsTo ns m report order
+  pub leads_alike : (ns : List ℕ) → length m.processors ≡ processor_count → length m.histories ≡ channel_count → AreAlike now (run ns m) → LeadsToReport ns m report order
   leads_alike ns all each alike =
       let many = run_processors ns m ∙ all in
       let channels = run_histories ns m ∙ each in

@@ -1,9 +1,8 @@
 -- What the last line of the text of the races says.
 use Rattle.std.proofs.Common.{◌≡◌, ℕ, List, ◌++◌, sym, ◌∙◌}
 use Rattle.pp_deck.specs.DeckMeaning.{LoadedDeck}
-use Rattle.pp_run.specs.Determinacy.{IsDeterminate}
+use Rattle.pp_run.specs.Determinacy.{IsDeterminate, IsRaceFreeSoFar}
 use Rattle.pp_races.specs.Findings.{findings}
-use Rattle.pp_races.specs.RaceFree.{IsRaceFreeSoFar}
 use Rattle.pp_races.specs.RacesText.{verdict_line, verdict_of}
 use Rattle.pp_races.specs.declared.verdict.Verdict.{Verdict}
 use Rattle.pp_races.specs.declared.verdict.Verdict.TheVariants.{NoRaceSoFar, Same}

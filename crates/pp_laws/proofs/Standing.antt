@@ -141,7 +141,7 @@ module _ (ns : List ℕ) (m : MachineState) (all : length m.processors ≡ proce
     | inr past ↦ here q t h (inl (omega arith))
     | inl below ↦ elim (cases_eq (get_or ns t 0) q) [
       | inr other ↦ past_other q t below other (catch_up k q (suc t) (omega arith) (omega arith))
-      | inl mine ↦ elim (d.steps t below) [
+      | inl mine ↦ elim (d.race_free.steps t below) [
         | inl waits ↦ past_waiting q t below mine waits (catch_up k q (suc t) (omega arith) (omega arith))
         | inr timely ↦ here q t h (inr (record { within = below; mine = mine; timely = timely }))
       ]

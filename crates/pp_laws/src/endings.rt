@@ -4,7 +4,7 @@ ghost use Rattle.std.specs.Prelude.{◌≡◌, ◌<◌, ◌≤◌, ℕ, List, �
 ghost use Rattle.pp_machine.specs.Run.{run};
 ghost use Rattle.pp_deck.specs.DeckMeaning.{LoadedDeck};
 ghost use Rattle.pp_run.specs.Determinacy.{IsQuiet};
-ghost use Rattle.pp_ends.specs.Endings.{StandAlike};
+ghost use Rattle.pp_ends.specs.Ending.{StandAlike};
 ghost use Rattle.pp_orders.specs.Endings.{AreAllEndings, AreEndings, IsEnding, LeadsTo, after_order};
 ghost use Rattle.pp_endings.specs.EndingsText.{IsEndingsText};
 ghost use Rattle.pp_races.specs.RacesText.{verdict_line};

@@ -5,15 +5,14 @@ ghost use Rattle.pp_numbers.specs.ChannelNo.{channel_count};
 ghost use Rattle.pp_machine.specs.MachineState.{MachineState};
 ghost use Rattle.pp_numbers.specs.PpNo.{processor_count};
 ghost use Rattle.pp_machine.specs.Run.{run};
-ghost use Rattle.pp_run.specs.Determinacy.{AreAlike, IsDeterminate, IsQuiet, ShowsParts, IsEmbeddedIn};
+ghost use Rattle.pp_run.specs.Determinacy.{AreAlike, IsDeterminate, IsEmbeddedIn, IsQuiet, IsRaceFreeSoFar, ShowsParts};
 ghost use Rattle.pp_orders.specs.Endings.{AreAllEndings};
 ghost use Rattle.pp_deck.specs.DeckMeaning.{LoadedDeck, deck_meaning};
 ghost use Rattle.pp_report.specs.Types.{Profile, Report};
 ghost use Rattle.pp_laws.specs.OneRun.{EndsAtRest, IsOver, ShowsPartsOf};
-ghost use Rattle.pp_report.specs.Serial.{LeadsTo};
+ghost use Rattle.pp_report.specs.Serial.{LeadsToReport};
 ghost use Rattle.pp_numbers.specs.Limits.{RunLimits};
 ghost use Rattle.pp_runner.specs.Report.{IsReportOf};
-ghost use Rattle.pp_races.specs.RaceFree.{IsRaceFreeSoFar};
 ghost use Rattle.pp_races.specs.RacesText.{verdict_line};
 ghost use Rattle.pp_races.specs.declared.verdict.Verdict.TheVariants.{NoRaceSoFar, Same};
 ghost use Rattle.pp_sim.specs.TextOf.{IsRacesText, run_of};
@@ -62,7 +61,7 @@ pub fn one_run_law<A: Allocator>()
         (limits : RunLimits) (report : Report A)
         → deck_meaning profile text ≡ Ok deck → IsDeterminate ns deck.machine
         → (is : IsReportOf limits deck.machine report) → IsOver report
-        → LeadsTo ns deck.machine report is.order }
+        → LeadsToReport ns deck.machine report is.order }
     ensures rest { (limits : RunLimits) (m : MachineState) (report : Report A)
         → IsReportOf limits m report → All (λ w. EndsAtRest w.finish) report.ends.items
         → IsOver report }
@@ -123,7 +122,7 @@ pub fn races_report_law<A: Allocator>()
         → deck_meaning profile bytes ≡ Ok deck
         → IsRacesText first turns deck text → text ≡ before ++ verdict_line Same
         → (is : IsReportOf limits deck.machine report) → IsOver report
-        → LeadsTo (run_of first turns deck) deck.machine report is.order }
+        → LeadsToReport (run_of first turns deck) deck.machine report is.order }
 {
     one_run_law::<A>();
 }

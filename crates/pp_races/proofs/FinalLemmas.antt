@@ -16,12 +16,11 @@ use Rattle.pp_machine.specs.Run.{run}
 use Rattle.pp_processor.specs.declared.{need.Need.Need}
 use Rattle.pp_processor.specs.declared.need.Need.TheVariants.{Channel}
 use Rattle.pp_processor.proofs.StepLemmas.{nothing_at_rest}
-use Rattle.pp_run.specs.Determinacy.{IsDeterminate, IsSettled, UsesAt, at_moment, history_at, need_at}
+use Rattle.pp_run.specs.Determinacy.{IsDeterminate, IsRaceFreeSoFar, IsSettled, UsesAt, at_moment, history_at, need_at}
 use Rattle.pp_run.proofs.Moments.{moment_past, run_central}
 use Rattle.pp_races.specs.Findings.{end_by_need, end_of, is_shared, sharing_of}
 use Rattle.pp_races.specs.OtherFlags.{waits_at}
 use Rattle.pp_races.specs.OnePass.{WaitsAt}
-use Rattle.pp_races.specs.RaceFree.{IsRaceFreeSoFar}
 use Rattle.pp_races.specs.Soundness.{AreLastOf, IsSound, TurnTestIsExact, least_of, open_of}
 use Rattle.pp_races.specs.Watch.{Missed, Watch, each_below, each_number, entry_of, first_race, missed_event}
 use Rattle.pp_races.specs.declared.{finding.Finding.Finding}
@@ -139,7 +138,6 @@ module _ (ns : List ℕ) (m : MachineState) (w : Watch) (all : length m.processo
 
   pub determinate : IsDeterminate ns m
   determinate = record {
-    steps = (free ns m w each all_now s shares).steps;
+    race_free = free ns m w each all_now s shares;
     settled = settled;
-    apart = (free ns m w each all_now s shares).apart;
   }

@@ -10,7 +10,7 @@ use Rattle.pp_numbers.specs.PpNo.{names_processor, processor_count, processor_nu
 use Rattle.pp_machine.specs.Run.{run}
 use Rattle.pp_machine.proofs.RunLemmas.{run_more}
 use Rattle.pp_processor.specs.declared.need.Need.{Need}
-use Rattle.pp_run.specs.Determinacy.{IsDeterminate, UsesAt, WritesAt, at_moment, need_at}
+use Rattle.pp_run.specs.Determinacy.{IsDeterminate, IsRaceFreeSoFar, UsesAt, WritesAt, at_moment, need_at}
 use Rattle.pp_run.proofs.Moments.{moment_next, moment_each, mono, run_central, run_processors}
 use Rattle.pp_races.specs.Findings.{end_of, findings, findings_at_end, sharing_of}
 use Rattle.pp_races.specs.OnePass.{Watched}
@@ -21,7 +21,6 @@ use Rattle.pp_races.specs.WatchTables.{AreKept}
 use Rattle.pp_races.specs.declared.{cursor.Cursor.Cursor, finding.Finding.Finding, missed.Missed.Missed, word_use.WordUse.WordUse}
 use Rattle.pp_races.proofs.FinalLemmas.{determinate, free}
 use Rattle.pp_races.proofs.GoingOnLemmas.{no_race}
-use Rattle.pp_races.specs.RaceFree.{IsRaceFreeSoFar}
 use Rattle.pp_races.specs.RacesText.{is_going_on}
 use Rattle.std.specs.List.{list_all}
 use Rattle.pp_races.proofs.GrowLemmas.{behind, findings_are, forgets, forgotten, watched_push}

@@ -2,7 +2,6 @@ pub mod OtherFlags
 pub mod Watch
 pub mod Findings
 pub mod RacesText
-pub mod RaceFree
 pub mod RacesAnswer
 -- cited by private contracts alone: nobody has to read these to believe what the crate promises
 pub mod ByFlags

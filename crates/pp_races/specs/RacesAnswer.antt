@@ -3,12 +3,11 @@ use Rattle.std.specs.Prelude.{◌≡◌, ◌≢◌, ◌≤◌, ℕ, true, List, 
 use Rattle.std.specs.List.{list_all}
 use Rattle.pp_machine.specs.MachineState.{MachineState}
 use Rattle.pp_machine.specs.Run.{run}
-use Rattle.pp_run.specs.Determinacy.{IsDeterminate}
+use Rattle.pp_run.specs.Determinacy.{IsDeterminate, IsRaceFreeSoFar}
 use Rattle.pp_text.specs.Written.{IsReportWritten}
 use Rattle.pp_text.specs.declared.report_fault.ReportFault.{ReportFault}
 use Rattle.pp_races.specs.Findings.{findings}
 use Rattle.pp_races.specs.RacesText.{is_going_on, races_text}
-use Rattle.pp_races.specs.RaceFree.{IsRaceFreeSoFar}
 
 -- THE PROMISE: the text is written; if nothing is found the run is determinate, and if nothing but
 -- processors that go on, no step of it races so far; the machine has made the run, or after a fault

@@ -3,9 +3,8 @@
 ghost use Rattle.std.specs.Prelude.{◌≡◌, ◌≢◌, ◌≤◌, ℕ, true, [], length, take, IfErr, IfOk, OnErr, OnOk};
 ghost use Rattle.std.specs.List.{list_all};
 ghost use Rattle.pp_machine.specs.Run.{run};
-ghost use Rattle.pp_run.specs.Determinacy.{IsDeterminate};
+ghost use Rattle.pp_run.specs.Determinacy.{IsDeterminate, IsRaceFreeSoFar};
 ghost use Rattle.pp_races.specs.Findings.{findings};
-ghost use Rattle.pp_races.specs.RaceFree.{IsRaceFreeSoFar};
 ghost use Rattle.pp_races.specs.RacesText.{is_going_on};
 ghost use Rattle.pp_races.specs.Printing.{PrintsFindings, PrintsFirst};
 ghost use Rattle.pp_races.specs.Watch.{unwatched};

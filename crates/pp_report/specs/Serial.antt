@@ -27,7 +27,7 @@ processors_left m report =
 
 -- The steps of these processors, one after another, lead a machine to what a report of it leaves,
 -- whose accesses came in this order: all processors, all histories, all words of central memory.
-pub record LeadsTo {A : Type 0} (ns : List ℕ) (m : MachineState) (report : Report A)
+pub record LeadsToReport {A : Type 0} (ns : List ℕ) (m : MachineState) (report : Report A)
     (order : List Access) : Type 0 where
   pub processors : (run ns m).processors ≡ processors_left m report
   pub histories : (run ns m).histories ≡ report.channels
@@ -44,7 +44,7 @@ answers_along n (k ∷ ns) m = (if n == k then answer_to (need (processor_of k m
 -- at rest. The steps of each worker's processor get the very answers that the worker got, in order.
 pub record IsSerialRunOf {A : Type 0} (ns : List ℕ) (m : MachineState) (report : Report A)
     (order : List Access) : Type 0 where
-  pub leads : LeadsTo ns m report order
+  pub leads : LeadsToReport ns m report order
   pub named : All (λ n. IsTrue (has_processor m.profile n)) ns
   pub steps : length ns ≡ sum_by (λ w. length w.answers.items) report.ends.items
   pub moved : (i n : ℕ) → slice_get ns i ≡ Some n → step_outcome n (run (take i ns) m) ≡ Moved

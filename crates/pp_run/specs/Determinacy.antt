@@ -116,15 +116,20 @@ WritesAt a x = (word : ℕ) × (x ≡ Need.Write a word)
 abbrev pub UsesAt : ℕ → Need → Type 0
 UsesAt a x = (x ≡ Need.Read a) ⊎ WritesAt a x
 
--- ONE LIST OF STEPS DETERMINES THE RESULT OF ALL OTHERS: each of its steps waits or is race-free;
--- after the last, each processor is settled; only the processor that writes a central word uses it.
-pub record IsDeterminate (ns : List ℕ) (m : MachineState) : Type 0 where
+-- no step of a list races so far: each waits or is race-free, and only the processor that writes a
+-- central word uses it
+pub record IsRaceFreeSoFar (ns : List ℕ) (m : MachineState) : Type 0 where
   pub steps : (t : ℕ) → t < length ns
       → Waits (slice_index ns t) (at_moment ns m t) ⊎ IsRaceFree ns m t
-  pub settled : (q : ℕ) → IsSettled ns m q
   pub apart : (u t a : ℕ) → u < length ns → t < length ns → a < length m.central
       → WritesAt a (need_at ns m u) → UsesAt a (need_at ns m t)
       → slice_index ns u ≡ slice_index ns t
+
+-- ONE LIST OF STEPS DETERMINES THE RESULT OF ALL OTHERS: no step of it races, and after the last
+-- each processor is settled.
+pub record IsDeterminate (ns : List ℕ) (m : MachineState) : Type 0 where
+  pub race_free : IsRaceFreeSoFar ns m
+  pub settled : (q : ℕ) → IsSettled ns m q
 
 -- the events of a trace on channel c, in order, each with the processor that made it
 abbrev pub made_on : ℕ → List Trace → List (ℕ × Event)

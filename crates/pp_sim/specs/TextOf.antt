@@ -16,7 +16,7 @@ use Rattle.pp_text.specs.TextLaw.{FitsItsText}
 use Rattle.pp_state.specs.CentralText.{central_text}
 use Rattle.pp_state.specs.MemoryText.{memory_text}
 use Rattle.pp_state.specs.StateText.{state_after}
-use Rattle.pp_ends.specs.Endings.{IsEnding}
+use Rattle.pp_ends.specs.Ending.{EndsWith}
 use Rattle.pp_ends.specs.EndsText.{ends_text_of}
 use Rattle.pp_ends.specs.Loops.{AreLoops}
 use Rattle.pp_ends.specs.declared.{ending.Ending.Ending, loops.Loop.Loop}
@@ -26,11 +26,10 @@ use Rattle.pp_steps.specs.StepsText.{steps_text}
 use Rattle.pp_steps.specs.StepsWhere.{HasLinesWhere}
 use Rattle.pp_steps.specs.declared.choice.Choice.{Choice}
 use Rattle.pp_races.specs.Findings.{findings}
-use Rattle.pp_races.specs.RaceFree.{IsRaceFreeSoFar}
 use Rattle.pp_races.specs.RacesText.{is_going_on, races_text}
 use Rattle.pp_sessions.specs.SessionsText.{sessions_after}
 use Rattle.pp_draw.specs.DrawingText.{drawing_of_run}
-use Rattle.pp_run.specs.Determinacy.{IsDeterminate}
+use Rattle.pp_run.specs.Determinacy.{IsDeterminate, IsRaceFreeSoFar}
 use Rattle.pp_condition.specs.Until.{IsEndOf}
 use Rattle.pp_condition.specs.declared.{condition.Condition.Condition, until.Until.Until}
 use Rattle.pp_command.specs.TextOf.{turns_of, with_turns}
@@ -93,7 +92,7 @@ central_after bounds steps deck = central_text bounds (run steps deck.machine).c
 pub record IsEndsText (turns : ℕ) (deck : LoadedDeck) (text : List ℕ) : Type 0 where
   pub ending : Ending
   pub loops : List (Option Loop)
-  pub ends : IsEnding ending turns deck.machine
+  pub ends : EndsWith ending turns deck.machine
   pub looped : AreLoops loops ending deck.machine
   pub text_is : text ≡ ends_text_of (in_use deck) ending turns deck.machine loops
 

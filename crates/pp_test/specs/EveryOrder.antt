@@ -3,7 +3,7 @@ use Rattle.std.specs.Prelude.{◌≡◌, ◌≢◌, ◌⊎◌, ℕ, ◌==◌, �
 use Rattle.pp_word.specs.Numeral.{short_decimal}
 use Rattle.pp_machine.specs.Run.{run}
 use Rattle.pp_deck.specs.DeckMeaning.{LoadedDeck}
-use Rattle.pp_ends.specs.Endings.{StandAlike}
+use Rattle.pp_ends.specs.Ending.{StandAlike}
 use Rattle.pp_text.specs.PrintedText.{line_end}
 use Rattle.pp_orders.specs.Endings.{AreAllEndings, AreEndings, CanBeListed, LeadsTo}
 use Rattle.pp_endings.specs.EndingsText.{order_line}
@@ -13,13 +13,13 @@ use Rattle.pp_test.specs.Verdict.{Holds, is_held, last_words, lines_in, verdict}
 
 -- the lines of an ending: those of the run of just the steps of the order that leads into it, and
 -- of what is found in the deck of these bytes
-abbrev pub IsEndingText : List ℕ → LoadedDeck → List ℕ → List ℕ → Type 0
-IsEndingText bytes deck order text = IsJudgedText bytes order (length order) deck text
+abbrev pub AreLinesAfter : List ℕ → LoadedDeck → List ℕ → List ℕ → Type 0
+AreLinesAfter bytes deck order text = IsJudgedText bytes order (length order) deck text
 
 -- they are as these bytes, of which the deck is, expect
 abbrev pub IsHeldAfter : List ℕ → LoadedDeck → List ℕ → Type 0
 IsHeldAfter bytes deck order =
-    (lines : List ℕ) × IsEndingText bytes deck order lines × (is_held bytes lines ≡ true)
+    (lines : List ℕ) × AreLinesAfter bytes deck order lines × (is_held bytes lines ≡ true)
 
 abbrev pub ending_word : ℕ → List ℕ
 ending_word endings = if endings == 1 then codes " ENDING" else codes " ENDINGS"
@@ -46,7 +46,7 @@ pub record FirstFails (bytes : List ℕ) (deck : LoadedDeck) (orders : List (Lis
   pub within : place < length orders
   pub before : All (IsHeldAfter bytes deck) (take place orders)
   pub lines : List ℕ
-  pub lines_are : IsEndingText bytes deck (slice_index_or orders place []) lines
+  pub lines_are : AreLinesAfter bytes deck (slice_index_or orders place []) lines
   pub fails : is_held bytes lines ≡ false
   pub text_is : text ≡ order_line (slice_index_or orders place []) ++ verdict bytes lines
 
@@ -85,7 +85,7 @@ IsEveryOrderText bytes deck held text =
 -- what the deck expects holds of the lines of the run of just these steps
 pub record MeetsExpectations (bytes : List ℕ) (deck : LoadedDeck) (order : List ℕ) : Type 0 where
   pub lines : List ℕ
-  pub lines_are : IsEndingText bytes deck order lines
+  pub lines_are : AreLinesAfter bytes deck order lines
   pub holds : All (Holds (lines_in lines)) (expectations bytes)
 
 -- steps end quiet only as some order does that meets what is expected

@@ -18,7 +18,7 @@ use Rattle.pp_deck.specs.InUse.{in_use}
 use Rattle.pp_listing.specs.ListedLine.{deck_line}
 use Rattle.pp_text.specs.PrintedText.{each_below, event_text, line_end, used_channel_line}
 use Rattle.pp_state.specs.StateText.{standing_line}
-use Rattle.pp_ends.specs.Endings.{IsEnding}
+use Rattle.pp_ends.specs.Ending.{EndsWith}
 use Rattle.pp_ends.specs.declared.ending.Ending.{Ending}
 use Rattle.pp_ends.specs.declared.ending.Ending.TheVariants.{AtRest, GoingOn, Repeats, Stuck}
 use Rattle.pp_sessions.specs.SessionsText.{sessions_text}
@@ -69,7 +69,7 @@ lines_after steps deck ending = let after = run steps deck.machine in
 -- their steps do
 abbrev pub EndsAfter : List ℕ → ℕ → MachineState → Ending → Type 0
 EndsAfter first turns m ending =
-    IsEnding ending (turns - length first) (run (take turns first) m)
+    EndsWith ending (turns - length first) (run (take turns first) m)
 
 -- the text of a loaded deck and of its run of N turns, in which these processors come first
 pub record IsRunText (first : List ℕ) (turns : ℕ) (deck : LoadedDeck) (text : List ℕ) : Type 0

@@ -5,7 +5,7 @@ ghost use Rattle.std.specs.Io.KnownBytes.{Appends};
 ghost use Rattle.pp_deck.specs.DeckMeaning.{LoadedDeck, deck_meaning};
 ghost use Rattle.pp_endings.specs.EndingsText.{order_line};
 ghost use Rattle.pp_lint.specs.LintText.{lint_text};
-ghost use Rattle.pp_test.specs.EveryOrder.{FirstFails, IsEndingText, IsEveryOrderText, IsHeldAfter, ending_word, held_line, or_more};
+ghost use Rattle.pp_test.specs.EveryOrder.{FirstFails, AreLinesAfter, IsEveryOrderText, IsHeldAfter, ending_word, held_line, or_more};
 ghost use Rattle.pp_test.specs.Expectations.{expectations};
 ghost use Rattle.pp_test.specs.Reading.{has_expectation};
 ghost use Rattle.pp_test.specs.Verdict.{is_held, last_words, verdict};
@@ -212,7 +212,7 @@ fn lines_of_ending<A: Allocator + Copy>(
     requires found { findings.now ≡ lint_text profile bytes.now }
     requires few { length order.now ≤ 999999 }
     ensures { IfOk result (λ lines. (deck : LoadedDeck) → deck_meaning profile bytes.now ≡ Ok deck
-        → IsEndingText bytes.now deck order.now lines.items) }
+        → AreLinesAfter bytes.now deck order.now lines.items) }
 {
     deck_law();
     let Ok(mut loaded) = read_deck(alloc, profile, bytes) else {

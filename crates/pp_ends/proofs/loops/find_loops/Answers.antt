@@ -10,7 +10,7 @@ use Rattle.pp_machine.specs.Run.{barrel}
 use Rattle.pp_run.specs.BareMachine.{StandsFor}
 use Rattle.pp_machine.proofs.RunLemmas.{barrel_more, length-barrel}
 use Rattle.pp_numbers.specs.declared.profile.Profile.{Profile}
-use Rattle.pp_ends.specs.Endings.{after_turns}
+use Rattle.pp_ends.specs.Ending.{after_turns}
 use Rattle.pp_ends.specs.Loops.{AreLoops, TellLoops, loop_of}
 use Rattle.pp_ends.specs.declared.{ending.Ending.Ending, loops.Loop.Loop}
 use Rattle.pp_ends.specs.declared.ending.Ending.TheVariants.{Repeats}

@@ -1,7 +1,7 @@
 use Rattle.std.proofs.Common.{◌≡◌, ◌≤◌, length}
 use Rattle.pp_run.specs.BareMachine.{StandsFor}
 use Rattle.pp_numbers.specs.PpNo.{processor_count}
-use Rattle.pp_ends.specs.Endings.{after_turns}
+use Rattle.pp_ends.specs.Ending.{after_turns}
 use Rattle.pp_ends.specs.Loops.{TellLoops}
 use Rattle.pp_ends.proofs.loops.find_loops.Given as goal
 

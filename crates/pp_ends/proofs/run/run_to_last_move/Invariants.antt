@@ -2,7 +2,7 @@ use Rattle.std.proofs.Common.{◌≡◌, ℕ}
 use Rattle.pp_run.specs.BareMachine.{StandsFor}
 use Rattle.pp_machine.specs.MachineState.{MachineState}
 use Rattle.pp_machine.specs.Run.{barrel}
-use Rattle.pp_ends.specs.Endings.{IsStillFrom, after_turns}
+use Rattle.pp_ends.specs.Ending.{IsStillFrom, after_turns}
 use Rattle.pp_ends.proofs.run.run_to_last_move.Given as goal
 
 abbrev pub invariant-loop-turn : goal.invariant-loop-turn

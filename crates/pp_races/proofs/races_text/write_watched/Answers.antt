@@ -4,10 +4,9 @@ use Rattle.std.specs.List.{list_all}
 use Rattle.std.proofs.lemmas.List.{take_all}
 use Rattle.std.proofs.lemmas.Result.{err_from_is_err_and}
 use Rattle.pp_machine.specs.MachineState.{MachineState}
-use Rattle.pp_run.specs.Determinacy.{IsDeterminate}
+use Rattle.pp_run.specs.Determinacy.{IsDeterminate, IsRaceFreeSoFar}
 use Rattle.pp_text.specs.Written.{IsReportWritten}
 use Rattle.pp_races.specs.Findings.{findings}
-use Rattle.pp_races.specs.RaceFree.{IsRaceFreeSoFar}
 use Rattle.pp_races.specs.RacesAnswer.{AnswersRaces}
 use Rattle.pp_machine.specs.Run.{run}
 use Rattle.pp_text.specs.declared.report_fault.ReportFault.{ReportFault}

@@ -4,9 +4,8 @@ use Rattle.pp_sim.proofs.AnswerLemmas.{answers_reported}
 use Rattle.pp_sim.proofs.texts.write_raced.Goals as goal
 use Rattle.pp_machine.specs.Run.{run_order}
 use Rattle.pp_races.specs.Findings.{findings}
-use Rattle.pp_races.specs.RaceFree.{IsRaceFreeSoFar}
 use Rattle.pp_races.specs.RacesText.{is_going_on, races_text}
-use Rattle.pp_run.specs.Determinacy.{IsDeterminate}
+use Rattle.pp_run.specs.Determinacy.{IsDeterminate, IsRaceFreeSoFar}
 use Rattle.pp_sim.specs.TextOf.{IsRacesText}
 
 pub returns : goal.returns

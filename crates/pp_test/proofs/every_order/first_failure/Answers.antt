@@ -3,7 +3,7 @@ use Rattle.std.specs.Prelude.{All}
 use Rattle.std.proofs.lemmas.List.{get_or-map, length-map, take_all}
 use Rattle.std.proofs.lemmas.List.Elements.{All-more}
 use Rattle.pp_endings.specs.EndingsText.{order_line}
-use Rattle.pp_test.specs.EveryOrder.{IsEndingText, IsHeldAfter}
+use Rattle.pp_test.specs.EveryOrder.{AreLinesAfter, IsHeldAfter}
 use Rattle.pp_test.specs.Verdict.{is_held, verdict}
 use Rattle.pp_test.proofs.every_order.first_failure.Goals as goal
 
@@ -48,7 +48,7 @@ returns-then-not-branch-clause-some g c = λ deck meant.
       within = in_map (λ ending. ending.order.items) c.args.endings.now i low;
       before = c.loop-ending.invariant deck meant;
       lines = lines;
-      lines_are = subst (λ (order : List ℕ). IsEndingText bytes deck order lines) at (c.in_ok-lines.ensures deck meant);
+      lines_are = subst (λ (order : List ℕ). AreLinesAfter bytes deck order lines) at (c.in_ok-lines.ensures deck meant);
       fails = held ∙ c.if-not-branch.true;
       text_is = written ∙ ap (λ (items : List ℕ). items ++ (order_line c.as_slice-order.result.now ++ verdict bytes lines)) c.new-text.ensures.items
           ∙ ap (λ (order : List ℕ). order_line order ++ verdict bytes lines) at;

@@ -4,7 +4,7 @@ use Rattle.std.proofs.lemmas.Bool.{cases_lt}
 use Rattle.std.proofs.lemmas.List.{take_all}
 use Rattle.pp_machine.specs.MachineState.{MachineState}
 use Rattle.pp_machine.specs.Run.{run}
-use Rattle.pp_ends.specs.Endings.{IsEnding}
+use Rattle.pp_ends.specs.Ending.{EndsWith}
 use Rattle.pp_ends.specs.declared.ending.Ending.{Ending}
 use Rattle.pp_test.specs.RunLines.{EndsAfter}
 use Rattle.pp_test.proofs.run_lines.ending_of_run.Goals as goal
@@ -19,11 +19,11 @@ least_by xs n count is (inl short) =
 least_by xs n count is (inr long) = ap (λ k. take k xs) (omega (arith, is, long))
 
 ends_so : (first : List ℕ) (turns count rest : ℕ) (m after : MachineState) (ending : Ending) → count ≡ min (length first) turns → rest ≡ turns - count
-    → after ≡ run (take count first) m → IsEnding ending rest after → EndsAfter first turns m ending
+    → after ≡ run (take count first) m → EndsWith ending rest after → EndsAfter first turns m ending
 ends_so first turns count rest m after ending least is ran ends =
     let left : rest ≡ turns - length first = omega (arith, least, is) in
     let stands : after ≡ run (take turns first) m = ran ∙ ap (λ ns. run ns m) (least_by first turns count least (cases_lt (length first) turns)) in
-    subst (λ k. IsEnding ending k (run (take turns first) m)) left (subst (IsEnding ending rest) stands ends)
+    subst (λ k. EndsWith ending k (run (take turns first) m)) left (subst (EndsWith ending rest) stands ends)
 
 pub returns : goal.returns
 returns g c = ok_gives c.find_ending.result c.find_ending.ensures

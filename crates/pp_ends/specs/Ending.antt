@@ -72,17 +72,17 @@ pub record FirstRepeats (t n turns : ℕ) (m : MachineState) : Type 0 where
   pub with_it : (u k : ℕ) → Repeats u k m → u + k ≡ t + n → t ≤ u
 
 -- GOING ON: the run doesn't end quiet, and no repetition lies within it
-pub record GoesOn (turns : ℕ) (m : MachineState) : Type 0 where
+pub record EndsGoingOn (turns : ℕ) (m : MachineState) : Type 0 where
   pub moves : ¬ IsQuiet (after_turns turns m)
   pub goes_on : (u k : ℕ) → u + k ≤ turns → ¬ Repeats u k m
 
 -- the endings, as `Ending` names them
-abbrev pub IsEnding : Ending → ℕ → MachineState → Type 0
-IsEnding (AtRest from) turns m = EndsAtRestFrom from turns m
-IsEnding (Stuck from) turns m = EndsStuckFrom from turns m
-IsEnding (endings.Repeats from every) turns m =
+abbrev pub EndsWith : Ending → ℕ → MachineState → Type 0
+EndsWith (AtRest from) turns m = EndsAtRestFrom from turns m
+EndsWith (Stuck from) turns m = EndsStuckFrom from turns m
+EndsWith (endings.Repeats from every) turns m =
     (¬ IsQuiet (after_turns turns m)) × FirstRepeats from every turns m
-IsEnding GoingOn turns m = GoesOn turns m
+EndsWith GoingOn turns m = EndsGoingOn turns m
 
 -- ---- cited by private contracts alone
 
