@@ -164,8 +164,8 @@ fn parted(shown: &str) -> (u8, &str) {
     }
 }
 
-/// The lines of a page that build the program and run it on an example, as in
-/// `(cd FOLDER && rt run -- WORDS < PATH/NAME)`, each as `ppsim WORDS < NAME`.
+/// The lines of a page that run the program on an example, as in
+/// `(cd FOLDER && rt try -- WORDS < PATH/NAME)`, each as `ppsim WORDS < NAME`.
 pub fn first_runs(alloc: Global, page: &str) -> anyhow::Result<Vec<String>> {
     let mut all = Vec::new(alloc);
     for line in page.lines() {

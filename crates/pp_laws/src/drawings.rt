@@ -1,6 +1,6 @@
 //! The law of the text of drawings.
 
-ghost use Rattle.std.specs.Prelude.{ℕ, Bool, List, Option, codes};
+ghost use Rattle.std.specs.Prelude.{Bool, List, Option, codes};
 ghost use Rattle.pp_machine.specs.MachineState.{MachineState};
 ghost use Rattle.pp_numbers.specs.declared.window.Window.{Window};
 ghost use Rattle.pp_draw.specs.DrawingText.{drawing};

@@ -1,7 +1,7 @@
 -- Dead start: processors that wait for their programs, each on the channel of its own number.
 -- (Manual 60100000, part on dead start: each of these processors is set to an input to its memory
 -- from place 0000 on, from the channel of its own number, which is active and empty.)
-use Rattle.std.specs.Prelude.{◌≡◌, ℕ, ◌≤◌, ◌&&◌, Bool, false, true, IsTrue, List, [], ◌∷◌, Some, map, if◌then◌else◌, slice_index_or, slice_set}
+use Rattle.std.specs.Prelude.{◌≡◌, ℕ, ◌≤◌, ◌&&◌, Bool, false, true, IsTrue, List, [], ◌∷◌, map, if◌then◌else◌, slice_index_or, slice_set}
 use Rattle.std.specs.List.{range_with_len}
 use Rattle.pp_numbers.specs.ChannelNo.{channel_count, channel_index, channel_number, names_channel}
 use Rattle.pp_channel.specs.declared.event.Event.{Event}

@@ -87,7 +87,7 @@ impl<A: Allocator> Central<A> {
         true
     }
 
-    /// The first address at which two central memories differ; address 0 if they aren't as large.
+    /// The first address at which two central memories differ; address 0 if their sizes differ.
     pub fn first_difference(&self, other: &Central<A>) -> Option<Word18>
         ensures same { IsNone result → self.now ≡ other.now }
         ensures differ { IsSome result → self.now ≢ other.now }

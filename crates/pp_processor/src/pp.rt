@@ -111,7 +111,7 @@ impl Pp {
         self.a
     }
 
-    /// Whether it is running.
+    /// Its state: running, stopped, or at a numbered fault.
     pub fn state(&self) -> PpState
         ensures value { result ≡ self.now.state }
         // Every processor at a fault is at a numbered one, however it came there.

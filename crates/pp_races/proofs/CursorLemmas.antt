@@ -104,11 +104,6 @@ module _ (events missed : List Missed) (cursor : Cursor) (is : IsCursor events m
   pub passed : (test : Flags → Bool) (place : ℕ) → IsFirst test events cursor.from place → IsCursor events (from_alike test missed) (record { from = place; searched = cursor.searched })
   passed test place first = grind (arith, first_left, moved)
 
-  pub passed_all : IsCursor events [] (record { from = length events; searched = cursor.searched })
-  passed_all =
-      subst (λ (x : List Missed). IsCursor events x (record { from = length events; searched = cursor.searched })) (drop_all (length events) events (omega arith))
-      (moved (length events) is.within (omega arith))
-
   -- one more event
   pub one_more : (event : Missed) → IsCursor (events ++ event ∷ []) (missed ++ event ∷ []) cursor
   one_more event = grind (arith, drop-append-le, get_or_append_left, length_push)

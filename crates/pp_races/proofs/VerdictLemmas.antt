@@ -9,9 +9,6 @@ use Rattle.std.proofs.lemmas.List.{reverse-append}
 
 -- ---- none
 
-abbrev of_some : Bool → Verdict
-of_some going_on = if going_on then NoRaceSoFar else MayDiffer
-
 -- findings come to nothing only where there is none
 pub same_none : (all : List Finding) → Same ≡ verdict_of all → all ≡ []
 same_none all is = grind arith

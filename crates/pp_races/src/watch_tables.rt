@@ -1,6 +1,6 @@
 //! The tables by which a run is watched.
 
-ghost use Rattle.std.specs.Prelude.{◌≡◌, IfOk, length, replicate, vec_len};
+ghost use Rattle.std.specs.Prelude.{◌≡◌, IfOk, length, vec_len};
 ghost use Rattle.pp_numbers.specs.ChannelNo.{channel_count};
 ghost use Rattle.pp_races.specs.Tables.{entry_count, AreEmpty, AreUses};
 ghost use Rattle.pp_races.specs.Watch.{unwatched};

@@ -79,11 +79,8 @@ unfolding weight
 count_events [] = refl
 count_events (entry ∷ log) = omega (arith, weighed entry.channel entry.what (events_in log), count_events log, sum_by-cons (λ (x : Entry). cond (is_event x.what) 1 0) entry log)
 
-one_if : Bool → ℕ
-one_if b = cond b 1 0
-
 told_weight : (c number : ℕ) (entry : Entry) → weight entry ≡ 0 → told_by c number entry ≡ 0
-unfolding weight one_if
+unfolding weight
 told_weight c number entry none = grind arith
 
 times_weight : (c number : ℕ) (log : List Entry) → sum_by weight log ≡ 0 → times_logged c number log ≡ 0

@@ -13,8 +13,8 @@ use std::thread::Threads;
 use std::{env, io};
 
 /// Does what the words of the command line ask for, which the environment has, over these three
-/// streams, and answers the status to exit with: 0 done, 1 deck or trace refused, 2 command line
-/// refused, 3 a device failed, 4 out of memory.
+/// streams, and answers the status to exit with: 0 done, 1 deck or trace refused, no dump, or
+/// something found by `lint` or `test`, 2 command line refused, 3 a device failed, 4 out of memory.
 pub fn run_main<
     R: Alloc<A = Global> + Files + Threads + Wait + Sync,
     W: Env,

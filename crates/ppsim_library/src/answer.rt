@@ -11,9 +11,9 @@ use std::alloc::Allocator;
 #[derive(Clone, Copy)]
 pub struct Answer {
     /// The program's exit status: 0, the work is done; 1, the deck or the trace is refused, the
-    /// deck can't be dumped as it stands, or something is found in it; 2, the words are refused; 4,
-    /// memory was refused. Or 5: the text for standard output is longer than the room, and nothing
-    /// is written.
+    /// deck can't be dumped as it stands, or `lint` or `test` found something; 2, the words are
+    /// refused; 4, memory was refused. Or 5: the text for standard output is longer than the room,
+    /// and nothing is written.
     pub status: u32,
     /// The length of the text for standard output in bytes (decimal). It stands at the front of the
     /// room, but at status 5.

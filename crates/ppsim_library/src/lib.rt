@@ -15,8 +15,8 @@ use fixed_arena::{Memory, Slot, arena_in};
 
 /// Does what a command asks for. Its words, with a byte 0 between two of them, are those that the
 /// program takes behind its own name, as `state`, `--turns`, `40`; they may ask neither for a file
-/// nor for threads. The input is a deck, or the trace for `check`. The texts for the program's two
-/// outputs go into the room, one behind the other.
+/// nor for threads. The input is a deck, or the trace for `check`. The text for standard
+/// output goes into the room; if there is none, that for standard error, as far as it fits.
 #[unsafe(no_mangle)]
 pub extern "C" fn ppsim_run(
     memory: &mut Memory,
