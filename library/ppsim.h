@@ -13,8 +13,8 @@ extern "C" {
 
 enum {
     PPSIM_DONE = 0,
-    PPSIM_BAD_INPUT = 1, /* the deck or the trace is refused, the deck can't be dumped, or something
-                            is found in it: then there is output */
+    PPSIM_BAD_INPUT = 1, /* the deck or the trace is refused, the deck can't be dumped, or lint or
+                            test found something: then there is output */
     PPSIM_BAD_USAGE = 2, /* the words are refused */
     PPSIM_NO_MEMORY = 4, /* the memory does not suffice */
     PPSIM_TOO_LONG = 5   /* the output has more bytes than the room, which is as it was */

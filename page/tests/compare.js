@@ -64,8 +64,8 @@ function comparePage(page) {
   const run = (command, text) => {
     const [, line, name] = /^ppsim (.*?)(?: < (\S+))?(?: > \S+)?$/.exec(command);
     const deck = name ? read(name) : line.includes('{}') ? '' : '{}';
-    const words = line.replace('{}', text).split(/\s+/).filter(Boolean);
-    compare(words.map(it => it === "''" ? '' : it), bytesMeant(deck.replace('{}', () => text)));
+    const words = line.replace('{}', () => text).match(/'[^']*'|\S+/g) ?? [];
+    compare(words.map(it => it.replace(/^'(.*)'$/, '$1')), bytesMeant(deck.replace('{}', () => text)));
   };
   for (const line of fs.readFileSync(page, 'latin1').split('\n')) {
     const command = /^\$ (.*)/.exec(line)?.[1];
@@ -89,9 +89,12 @@ function comparePage(page) {
   }
 }
 
+const PAGES = ['README.md', 'TUTORIAL.md', 'VIEWS.md', 'examples/README.md',
+  'examples/exercises/README.md'];
+
 function comparePages() {
   const cases = fs.readdirSync(path.join(data, 'cases')).map(it => `cases/${it}`);
-  for (const name of ['README.md', 'TUTORIAL.md', 'examples/README.md', ...cases]) {
+  for (const name of PAGES.concat(cases)) {
     comparePage(path.join(data, name));
   }
 }
