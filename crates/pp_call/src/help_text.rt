@@ -2,10 +2,8 @@
 
 use crate::text::Text;
 use crate::usage::say_usage;
-use pp_command::ValueForm::{Flag, Number};
 use pp_command::{
-    ABOUT, CommandHelp, EXAMPLE, FILE_HELP, MANUAL, OptionForm, VERSION, ValueForm, command_named,
-    commands,
+    ABOUT, CommandHelp, EXAMPLE, FILE_HELP, MANUAL, OptionForm, VERSION, command_named, commands,
 };
 use std::alloc::Allocator;
 
@@ -14,25 +12,11 @@ const HELP_ABOUT: &str = "Print this message or the help of the given subcommand
 
 pub(crate) const HELP_USAGE: &str = "Usage: ppsim help [COMMAND]...";
 
-/// What the options of the program are, in its short and its long help; then the rest follows.
-const SHORT_REQUESTS: &str = "
-Options:
-  -h, --help     Print help (see more with '--help')
-  -V, --version  Print version
+/// What the short help says of the option for help.
+const HELP_IN_SHORT: &str = "Print help (see more with '--help')";
 
-@
-";
-
-const LONG_REQUESTS: &str = "
-Options:
-  -h, --help
-          Print help (see a summary with '-h')
-
-  -V, --version
-          Print version
-
-@
-";
+/// The option for help, and what the long help says of it.
+const HELP_AT_LENGTH: &str = "  -h, --help\n          Print help (see a summary with '-h')\n\n";
 
 pub(crate) fn version_text<A: Allocator + Copy>(alloc: A) -> Text<A> {
     let mut text = Text::of(alloc, "ppsim ");
@@ -54,10 +38,13 @@ pub(crate) fn topic_help<A: Allocator + Copy>(alloc: A, topic: &str) -> Text<A> 
 pub(crate) fn program_help<A: Allocator + Copy>(alloc: A, is_long: bool) -> Text<A> {
     let mut text = Text::of(alloc, ABOUT);
     say_commands(&mut text);
+    text.say("\nOptions:\n");
     if is_long {
-        text.say_with(LONG_REQUESTS, MANUAL);
+        text.say(HELP_AT_LENGTH);
+        text.say_with("  -V, --version\n          Print version\n\n@\n", MANUAL);
     } else {
-        text.say_with(SHORT_REQUESTS, EXAMPLE);
+        text.say_with("  -h, --help     @\n", HELP_IN_SHORT);
+        text.say_with("  -V, --version  Print version\n\n@\n", EXAMPLE);
     }
     text
 }
@@ -101,7 +88,7 @@ fn say_long_options<A: Allocator + Copy>(text: &mut Text<A>, options: &'static [
         text.say_option("      ", option);
         text.say_with("\n          @\n\n", option.help());
     }
-    text.say("  -h, --help\n          Print help (see a summary with '-h')\n\n");
+    text.say(HELP_AT_LENGTH);
 }
 
 /// Adds what a command takes, each with its help beside it.
@@ -116,22 +103,20 @@ fn say_options<A: Allocator + Copy>(text: &mut Text<A>, options: &'static [Optio
         say_help(text, option.help(), width_of(option), widest);
     }
     text.say("  -h, --help");
-    say_help(text, "Print help (see more with '--help')", 4, widest);
+    say_help(text, HELP_IN_SHORT, 4, widest);
     text.say("\n");
 }
 
-/// How wide an option is on a command line, beside one without a name and a value.
+/// How many characters an option takes on a command line, its two hyphens left out.
 fn width_of(option: &OptionForm) -> usize {
-    let value = match option.value {
-        Flag(_) => return option.name.len(),
-        Number(_) => "N",
-        ValueForm::Text(value, _) => value,
-    };
-    option
-        .name
-        .len()
-        .saturating_add(value.len())
-        .saturating_add(3)
+    match option.value_name() {
+        None => option.name.len(),
+        Some(value) => option
+            .name
+            .len()
+            .saturating_add(value.len())
+            .saturating_add(3),
+    }
 }
 
 /// Adds the help of an item of this width beside it, behind the widest of the list.

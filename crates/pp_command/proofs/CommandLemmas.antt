@@ -1,14 +1,13 @@
 -- From what clap ensures of a parse to what the words ask for.
 use Rattle.std.proofs.Common.{◌≡◌, ◌∙◌, ℕ, ◌+◌, ◌-◌, ◌<◌, ◌≤◌, add-one, arith, drop, drop-cons, fold, get_or, length, map, Bool, true, false, not, IsTrue, List, [], Option, Some, None, option_map, sym, refl, inl, inr, codes}
-use Rattle.std.specs.Prelude.{Box, ◌≢◌, ◌↔◌, is_some}
+use Rattle.std.specs.Prelude.{Box, ◌≢◌, ◌↔◌}
 use Rattle.std.specs.Bool.{then_some}
 use Rattle.std.specs.Box.{box_value}
 use Rattle.clap.specs.Words.{App, HasKind, IsAmong, Kinds, Text, Row, fault_of, is_simple_and_free, kind_of, rows_of, subcommand_of, subcommand_rows, subcommand_rows_of, subcommand_name_of}
 use Rattle.clap.specs.declared.{error.Error.Error, parser.matches.Found.Found, parser.matches.SubCommand.SubCommand, parser.matches.ArgMatches.ArgMatches, parser.matches.ArgMatches.TheViews.out-ArgMatches, parser.matches.ArgMatches.TheViews.out-SubCommand}
 use Rattle.clap.specs.declared.error.kind.ErrorKind.TheVariants.{OutOfMemory}
 use Rattle.pp_numbers.specs.declared.{window.Window.Window, profile.Profile.Profile}
-use Rattle.pp_numbers.specs.Profile.{processors_in}
-use Rattle.pp_command.specs.CommandLine.{Finds, IsFaultBy, IsRefused, IsWorkOf, ReadsAlike, AsksForMore, AsksForText, AsksForView, ReadsRun, ReadsChannels, ReadsChosen, ReadsEnd, ReadsNumber, ReadsProfile, ReadsTurn, ReadsTurns, ReadsWindow, ppsim, refusals}
+use Rattle.pp_command.specs.CommandLine.{Finds, IsFaultBy, IsRefused, IsWorkOf, ReadsAlike, AsksForMore, AsksForText, AsksForView, ReadsRun, ReadsChannels, ReadsChosen, ReadsEnd, ReadsNumber, ReadsTurn, ReadsTurns, ReadsWindow, ppsim, refusals}
 use Rattle.pp_command.specs.declared.{line_fault.LineFault.LineFault, work.Work.Work, text_of.TextOf.TextOf, view.View.View, command_kind.CommandKind.CommandKind}
 use Rattle.pp_command.specs.declared.command_kind.CommandKind.TheVariants as Kind
 use Rattle.pp_command.specs.declared.line_fault.LineFault.TheVariants.{Forms, Memory, Refused, Number, Picture}
@@ -101,12 +100,6 @@ pub picture : (fits : Bool) (value_of : Text → Option Text) (profile : Profile
     → Finds (AsksForText Kind.Draw value_of profile) (then_some fits (TextOf.Run w.to (View.Draw w.from)))
 picture true value_of profile w reads is = (reads, (refl, is.0 refl))
 picture false value_of profile w reads is = grind (arith, no_picture)
-
--- where the text of an option is there, and is no number, it says no profile
-pub no_profile : {B : Type 0} (of : B → Text) (o : Option B) (text : Option Text) → is_some o ≡ true → option_map of o ≡ text → ((n : ℕ) → ReadsNumber text n → ⊥) → (profile : Profile) → ReadsProfile text profile → ⊥
-no_profile of None text some is none profile reads = absurd (cc)
-no_profile of (Some x) None some is none profile reads = absurd (cc)
-no_profile of (Some x) (Some text) some is none profile reads = none (processors_in profile) reads
 
 -- where the text of an option is there, and lists no channels, `check` asks for nothing
 no_opened : (value : Option Text) → ((flags : Option (List Bool)) → ReadsChosen value flags → ⊥) → (flags : List Bool) → ReadsChannels value flags → ⊥

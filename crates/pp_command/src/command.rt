@@ -36,7 +36,7 @@ impl Display for OptionForm {
 
 impl OptionForm {
     /// What stands for its value on a command line, as in `--turns <N>`, if it takes one.
-    fn value_name(&self) -> Option<&'static str>
+    pub fn value_name(&self) -> Option<&'static str>
         ensures { rule_by self.now.value self.now.name.now ≡ option_map_or
             (λ _. optional_value self.now.name.now) result (flag_option self.now.name.now) }
     {

@@ -9,6 +9,7 @@ use crate::command_macros::{
 };
 use crate::number_range::{DRAWN_FROM, FROM, PATIENCE, STATES, STEPS, TIMES, TO, TURNS};
 
+/// What the program is, with which both its helps begin.
 pub const ABOUT: &str =
     "Simulates the peripheral processors and data channels of a Control Data 6600";
 

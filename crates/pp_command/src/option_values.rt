@@ -1,4 +1,4 @@
-ghost use Rattle.std.specs.Prelude.{◌≡◌, ◌-◌, ◌≤◌, ◌↔◌, IsTrue, codes, option_map, IfOk, IfSome, IsSome};
+ghost use Rattle.std.specs.Prelude.{◌≡◌, ◌-◌, ◌≤◌, ◌↔◌, IsTrue, codes, option_map, IfOk};
 ghost use Rattle.pp_numbers.specs.Limits.{AreLimits};
 ghost use Rattle.pp_command.specs.CommandLine.{Finds, ReadsAddress, ReadsBounds, ReadsChosen, ReadsCondition, ReadsNumber, ReadsOrder, ReadsProcessor, ReadsProcessors, ReadsProfile, ReadsTurn, ReadsFlag, ReadsStates, ReadsTimes, ReadsTurns, ReadsUntil, ReadsWindow, most_drawn};
 
@@ -72,7 +72,7 @@ pub(crate) fn processor_of<V: Values>(values: &V, profile: Profile) -> Option<Pp
 }
 
 /// The processors of a machine of this profile that `--pp` lists, in octal, if it is given; nothing
-/// if the list is none of these.
+/// if the text is no such list.
 pub(crate) fn processors_of<V: Values>(
     values: &V,
     profile: Profile,
@@ -85,8 +85,8 @@ pub(crate) fn processors_of<V: Values>(
     }
 }
 
-/// The channels that an option lists, in octal, if it is given; nothing if the list is none of
-/// channels.
+/// The channels that an option lists, in octal, if it is given; nothing if the text is no such
+/// list.
 pub(crate) fn channels_of<V: Values>(values: &V, id: &str) -> Option<Option<[bool; CHANNELS]>>
     ensures { Finds (ReadsChosen (V.value values.now id.now)) result }
 {
@@ -97,7 +97,7 @@ pub(crate) fn channels_of<V: Values>(values: &V, id: &str) -> Option<Option<[boo
 }
 
 /// The processors of the first steps that `--order` lists, or none if it is not given; nothing if
-/// the list is none of steps.
+/// the text is no such list.
 pub(crate) fn order_of<V: Values, A: Allocator>(
     alloc: A,
     values: &V,

@@ -55,7 +55,7 @@ fn item_of(profile: Profile, text: &[u8]) -> Option<Item>
     }
 }
 
-/// So many steps of the processor with this number, if there is one.
+/// `steps` steps of the processor with this number, if there is one.
 #[tactic(auto, unfolding(crate::specs::NumberList::numbered), // its processor
 using(crate::proofs::OrderListLemmas::no_count, // no number, no count, or both
 crate::proofs::OrderListLemmas::count_of_none, crate::proofs::OrderListLemmas::counted))]

@@ -7,8 +7,8 @@ ghost use Rattle.pp_condition.specs.declared.until.Until.{Until};
 
 /// A run that goes on until a step meets a condition once ends after the first step that does: no
 /// step before its last one meets it; and the last one does, unless none of all its steps meets it.
-/// After more than one such step, too, the last one meets it, if the run is not over. Each run has
-/// one such end.
+/// After more than one such step, too, the last one meets it, if the run is not over. No run has
+/// two such ends.
 pub fn until_law()
     ensures before { (until : Until) (steps : List ℕ) (m : MachineState) (done step : ℕ)
         → until.times ≡ 1 → IsEndOf until steps m done → suc step < done

@@ -1,12 +1,12 @@
 //! Whether a step meets a condition.
 
-ghost use Rattle.std.specs.Prelude.{◌≡◌, ◌↔◌, IsTrue, MatchOption};
+ghost use Rattle.std.specs.Prelude.{◌≡◌, ◌↔◌, IsTrue};
 ghost use Rattle.pp_channel.specs.declared.event.Event.{Event};
 ghost use Rattle.pp_machine.specs.MachineState.{MachineState};
 ghost use Rattle.pp_machine.specs.MachineStep.{stepped};
 ghost use Rattle.pp_run.specs.BareMachine.{StandsFor};
 ghost use Rattle.pp_condition.specs.declared.{condition.Condition.Condition, condition.ProcessorCondition.ProcessorCondition};
-ghost use Rattle.pp_condition.specs.Condition.{ChangesTo, Does, HasForm, IsGiven, Makes, Meets};
+ghost use Rattle.pp_condition.specs.Condition.{ChangesTo, Does, HasForm, IsGiven, Meets};
 
 use crate::{Condition, EventForm, ProcessorCondition};
 use pp_channel::{ChannelNo, Event};
