@@ -58,6 +58,10 @@ pub each_history : (b : Bool) (deck : LoadedDeck) → length deck.machine.histor
 unfolding histories_started
 each_history b deck e = grind (arith, length-map-range_with_len)
 
+pub each_opened : (b : Bool) (deck : LoadedDeck) → length deck.machine.opened ≡ channel_count → length (with_dead_start b deck).machine.opened ≡ channel_count
+unfolding opened_where
+each_opened b deck e = grind (arith, length-map-range_with_len)
+
 pub all_processors : (b : Bool) (deck : LoadedDeck) → length deck.machine.processors ≡ processor_count → length (with_dead_start b deck).machine.processors ≡ processor_count
 unfolding processors_started
 all_processors b deck e = grind (arith, length-map-range_with_len)

@@ -14,15 +14,17 @@ use Rattle.pp_deck.specs.DeckLine.{Line}
 use Rattle.pp_deck.specs.DeckLoad.{word_for, central_word_for, start_in, asks_dead_start, central_loaded, processor_loaded, is_named}
 use Rattle.pp_deck.specs.DeckMeaning.{LoadedDeck, set_by, loaded, size_of, parsed_deck, meaning_of_lines, deck_meaning}
 use Rattle.pp_deck.specs.DeckText.{lines_of}
-use Rattle.pp_deck.proofs.DeadStartLemmas.{is_waiting, waiting, waiting_where, not_waiting, processor_is, opened_is, history_is, all_processors, each_history, stays}
+use Rattle.pp_deck.proofs.DeadStartLemmas.{is_waiting, waiting, waiting_where, not_waiting, processor_is, opened_is, history_is, all_processors, each_history, each_opened, stays}
 use Rattle.pp_deck.proofs.LawLemmas.{processor_here, place_here, registers_here, no_block_here, central_here, named_here, some_name, named_some, own_last, all_last, registers_at, start_set, set_start, word_set, set_word, central_set, set_central}
 use Rattle.pp_numbers.proofs.TableLemmas.{length-tabulate}
-use Rattle.pp_deck.proofs.LoadedRangeLemmas.{named_has, said_in_range}
+use Rattle.pp_deck.proofs.LoadedRangeLemmas.{central_in_range, named_has, said_in_range}
 use Rattle.pp_deck.proofs.MemoryLemmas.{length-central_loaded}
+use Rattle.pp_deck.proofs.RangeLemmas.{size_in_range}
 use Rattle.pp_numbers.specs.declared.profile.Profile.{Profile}
 use Rattle.pp_channel.specs.History.{IsLawful}
 use Rattle.pp_channel.specs.Law.{KeepsLaw}
-use Rattle.pp_machine.specs.Headline.{HoldsOnEachChannel, events_on, opening_history}
+use Rattle.pp_machine.specs.Central.{IsCentral}
+use Rattle.pp_machine.specs.Headline.{HoldsOnEachChannel, IsMachine, events_on, opening_history}
 
 module _ (profile : Profile) where
   as_set : (size : ℕ) (lines : List Line) (n : ℕ) → IsTrue (names_processor n) → (WaitsAtDeadStart profile lines n → ⊥) → processor_of n (loaded profile size lines).machine ≡ processor_of n (set_by profile size lines).machine
@@ -99,7 +101,7 @@ lawful_opening true = (record { first_stretch = []; whole_sessions = []; open_se
 lawful_opening false = (record { first_stretch = []; whole_sessions = []; open_session = None }, refl)
 
 -- where every lawful history keeps the law of sessions
-pub before_first_step : ((h : List Event) → IsLawful h → KeepsLaw h) → (lines : List Line) (deck : LoadedDeck) → KeepsDeckLaw lines deck → HoldsOnEachChannel deck.machine
+before_first_step : ((h : List Event) → IsLawful h → KeepsLaw h) → (lines : List Line) (deck : LoadedDeck) → KeepsDeckLaw lines deck → HoldsOnEachChannel deck.machine
 before_first_step law lines deck holds c named =
     let is : history_of c deck.machine ≡ opening_history c deck.machine = holds.history c named in
     let lawful : IsLawful (history_of c deck.machine) = subst IsLawful (sym is) (lawful_opening (is_opened c deck.machine)) in
@@ -107,4 +109,18 @@ before_first_step law lines deck holds c named =
       traced = is ∙ sym (append-nil (opening_history c deck.machine)) ∙ ap (λ trace. opening_history c deck.machine ++ events_on c trace) (sym holds.no_event);
       lawful = lawful;
       law = law (history_of c deck.machine) lawful;
+    }
+
+-- the machine is then a whole one
+pub whole_machine : ((h : List Event) → IsLawful h → KeepsLaw h) → (profile : Profile) (text : List ℕ) (deck : LoadedDeck) → deck_meaning profile text ≡ Ok deck → IsMachine deck.machine
+whole_machine law profile text deck e =
+    let holds = deck_law_of profile text deck e in
+    let size = size_in_range (lines_of text) in
+    let central : deck.machine.central ≡ central_loaded (size_of (lines_of text)) (parsed_deck profile (lines_of text)) = grind (arith, loaded_is, stays) in
+    record {
+      processors = holds.each_processor;
+      channels = holds.each_channel;
+      opened = grind (arith, loaded_is, each_opened, length-replicate);
+      central = subst IsCentral (sym central) (central_in_range profile _ _ size.0 size.1 (said_in_range profile (lines_of text)));
+      headline = before_first_step law _ deck holds;
     }

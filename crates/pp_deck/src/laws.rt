@@ -6,7 +6,7 @@ ghost use Rattle.pp_deck.specs.DeckLaw.{KeepsDeckLaw, NamesWithin};
 ghost use Rattle.pp_deck.specs.{DeckLine.Line, DeckText.lines_of};
 ghost use Rattle.pp_deck.specs.DeckMeaning.{LoadedDeck, deck_meaning, parsed_deck, size_of};
 ghost use Rattle.pp_deck.specs.Reading.{after_lines, progress_of};
-ghost use Rattle.pp_machine.specs.Headline.{HoldsOnEachChannel};
+ghost use Rattle.pp_machine.specs.Headline.{IsMachine};
 ghost use Rattle.pp_numbers.specs.declared.profile.Profile.{Profile};
 
 use pp_channel::session_law;
@@ -15,8 +15,9 @@ use pp_channel::session_law;
 /// else 0, and the last start of a processor holds. If dead start is asked for, the processors that
 /// the deck does not name wait, each on the channel of its own number. Central memory has the size
 /// that the first line with fields sets, else 10000 words (octal). The machine has the profile for
-/// which the text was read, and no processor is named that it lacks. Each of its channels keeps the
-/// law of sessions.
+/// which the text was read, and no processor is named that it lacks. It is a whole one: all
+/// processors and channels are there, it is known of each channel whether dead start opened it, the
+/// central words are a central memory, and each channel keeps the law of sessions.
 pub fn deck_law()
     ensures size { (profile : Profile) (text : List ℕ) (deck : LoadedDeck)
         → deck_meaning profile text ≡ Ok deck
@@ -28,8 +29,8 @@ pub fn deck_law()
         → deck_meaning profile text ≡ Ok deck → NamesWithin profile deck.named }
     ensures profile { (profile : Profile) (text : List ℕ) (deck : LoadedDeck)
         → deck_meaning profile text ≡ Ok deck → deck.machine.profile ≡ profile }
-    ensures channels { (profile : Profile) (text : List ℕ) (deck : LoadedDeck)
-        → deck_meaning profile text ≡ Ok deck → HoldsOnEachChannel deck.machine }
+    ensures machine { (profile : Profile) (text : List ℕ) (deck : LoadedDeck)
+        → deck_meaning profile text ≡ Ok deck → IsMachine deck.machine }
 {
     session_law();
 }

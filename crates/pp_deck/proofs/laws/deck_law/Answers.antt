@@ -1,4 +1,4 @@
-use Rattle.pp_deck.proofs.DeckLawLemmas.{before_first_step, deck_law_of, deck_size_of, deck_profile_of, deck_names_within}
+use Rattle.pp_deck.proofs.DeckLawLemmas.{deck_law_of, deck_size_of, deck_profile_of, deck_names_within, whole_machine}
 use Rattle.pp_deck.proofs.laws.deck_law.Goals as goal
 
 pub returns-clause-size : goal.returns-clause-size
@@ -13,5 +13,5 @@ returns-clause-profile c = deck_profile_of
 pub returns-clause-names : goal.returns-clause-names
 returns-clause-names c = deck_names_within
 
-pub returns-clause-channels : goal.returns-clause-channels
-returns-clause-channels c profile text deck is = before_first_step c.session_law.ensures _ deck (deck_law_of profile text deck is)
+pub returns-clause-machine : goal.returns-clause-machine
+returns-clause-machine c = whole_machine c.session_law.ensures

@@ -9,7 +9,7 @@ returns g c profile text deck is =
     let holds = c.deck_law.ensures.law profile text deck is in
     let m = deck.machine in
     record {
-      steps = λ ns. c.run_law.ensures ns m holds.each_channel (c.deck_law.ensures.channels profile text deck is);
+      steps = λ ns. c.run_law.ensures ns m holds.each_channel (c.deck_law.ensures.machine profile text deck is).headline;
       threads = λ limits report said. record {
         channels = λ n names.
             let lawful = lawful_on report.channels n said.lawful in
