@@ -7,7 +7,7 @@ use Rattle.pp_call.specs.declared.call_fault.CallFault.{CallFault}
 use Rattle.pp_command.specs.declared.work.Work.{Work}
 use Rattle.pp_condition.specs.declared.until.Until.{Until}
 use Rattle.pp_sim.specs.FaultText.{fault_text}
-use Rattle.pp_sim.specs.Program.{IsDone, NeedsNoThreads}
+use Rattle.pp_sim.specs.Program.{IsDone, NeedsNoThreads, status_of as program_status}
 use Rattle.pp_text.specs.PrintedText.{line_end}
 use Rattle.pp_sim.specs.declared.text_fault.TextFault.{TextFault}
 use Rattle.ppsim_library.specs.declared.answer.Answer.{Answer}
@@ -23,13 +23,9 @@ words_of (byte ∷ bytes) = parts_of (byte ∷ bytes)
 -- the status of a fault: the program's own, but that bytes are read without a fault, and are
 -- written without one but for want of memory
 abbrev pub status_of : TextFault → ℕ
-status_of (TextFault.Deck f) = 1
-status_of (TextFault.NotBetweenPrograms going_on) = 1
-status_of TextFault.Findings = 1
-status_of (TextFault.Trace f) = 1
-status_of TextFault.Memory = 4
 status_of TextFault.Read = 4
 status_of TextFault.Write = 4
+status_of fault = program_status (Err fault)
 
 -- a text stands at the front of the room, and the status is this one; or the room is too small for
 -- it. What is not written is as it was.
@@ -116,17 +112,22 @@ IsDeclinedFor CallFault.Picture a old new = IsRefused a old new
 IsDeclinedFor CallFault.Forms a old new = IsRefused a old new
 
 -- the words ask for no work, and are answered so: they ask for help or the version, are no call, or
--- are one for nothing within the ranges
+-- are one for nothing within the ranges; or memory for them was refused
 abbrev pub IsDeclined : List (List ℕ) → Answer → (old new : List ℕ) → Type 0
 IsDeclined words a old new =
     (fault : CallFault) × IsCallRefused words fault × IsDeclinedFor fault a old new
 
--- THE PROMISE of a call: what its words ask for is answered; or they ask for no work; or they are
--- not text, or name a file, and are refused; or memory for them was refused
+-- how words that are text are answered: by what they ask for; or they ask for no work; or they name
+-- a file, and are refused
+abbrev pub AnswersWords : List (List ℕ) → List ℕ → Answer → (old new : List ℕ) → Type 0
+AnswersWords words input a old new = HasAnswered words input a old new
+    ⊎ (IsDeclined words a old new
+    ⊎ (NamesFile words
+    × IsFailed 2 (line_of (codes "no file is read here: pass its bytes")) a old new))
+
+-- THE PROMISE of a call: words that are text are answered so; words that are not are refused, and
+-- have no other answer
 abbrev pub Answers : List ℕ → List ℕ → Answer → (old new : List ℕ) → Type 0
-Answers text input a old new = HasAnswered (words_of text) input a old new
-    ⊎ (IsDeclined (words_of text) a old new
-    ⊎ ((¬ IsUtf8 text × IsFailed 2 (line_of (codes "a word is not UTF-8")) a old new)
-    ⊎ ((NamesFile (words_of text)
-    × IsFailed 2 (line_of (codes "no file is read here: pass its bytes")) a old new)
-    ⊎ IsWithoutMemory a old new)))
+Answers text input a old new =
+    (IsUtf8 text × AnswersWords (words_of text) input a old new)
+    ⊎ (¬ IsUtf8 text × IsFailed 2 (line_of (codes "a word is not UTF-8")) a old new)
