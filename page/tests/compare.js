@@ -57,6 +57,11 @@ function bytesMeant(text) {
   return Buffer.from(meant, 'latin1');
 }
 
+/** The words of a command line. What stands between two quotes is one word. */
+function wordsOf(line) {
+  return line.split("'").flatMap((it, n) => n % 2 ? [it] : it.split(/\s+/).filter(Boolean));
+}
+
 function comparePage(page) {
   const files = new Map(), folder = path.dirname(page);
   let kind = null, shown = null;
@@ -64,8 +69,7 @@ function comparePage(page) {
   const run = (command, text) => {
     const [, line, name] = /^ppsim (.*?)(?: < (\S+))?(?: > \S+)?$/.exec(command);
     const deck = name ? read(name) : line.includes('{}') ? '' : '{}';
-    const words = line.replace('{}', () => text).match(/'[^']*'|\S+/g) ?? [];
-    compare(words.map(it => it.replace(/^'(.*)'$/, '$1')), bytesMeant(deck.replace('{}', () => text)));
+    compare(wordsOf(line.replace('{}', () => text)), bytesMeant(deck.replace('{}', () => text)));
   };
   for (const line of fs.readFileSync(page, 'latin1').split('\n')) {
     const command = /^\$ (.*)/.exec(line)?.[1];

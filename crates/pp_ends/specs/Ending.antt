@@ -76,7 +76,7 @@ pub record EndsGoingOn (turns : ℕ) (m : MachineState) : Type 0 where
   pub moves : ¬ IsQuiet (after_turns turns m)
   pub goes_on : (u k : ℕ) → u + k ≤ turns → ¬ Repeats u k m
 
--- the endings, as `Ending` names them
+-- how a run of N turns ends, as `Ending` names it
 abbrev pub EndsWith : Ending → ℕ → MachineState → Type 0
 EndsWith (AtRest from) turns m = EndsAtRestFrom from turns m
 EndsWith (Stuck from) turns m = EndsStuckFrom from turns m
