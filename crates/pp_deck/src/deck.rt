@@ -13,7 +13,7 @@ use pp_machine::{Machine, PROCESSORS, Profile};
 use std::alloc::Allocator;
 
 /// The longest text of a deck, in bytes (decimal).
-const LONGEST_TEXT: usize = 1_048_576;
+pub const LONGEST_TEXT: usize = 1_048_576;
 
 /// The size if a deck sets none: 10000 words (octal).
 pub const DEFAULT_SIZE: u32 = 0o10000;

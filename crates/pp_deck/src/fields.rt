@@ -42,7 +42,8 @@ impl<'a> Fields<'a> {
     }
 }
 
-fn is_blank(byte: u8) -> bool
+/// Whether a character stands between fields: a space or a tab.
+pub fn is_blank(byte: u8) -> bool
     ensures { result ≡ is_blank byte }
 {
     byte == b' ' || byte == b'\t'

@@ -13,7 +13,7 @@ mod lines;
 mod octal_number;
 mod reading;
 
-pub use deck::{DEFAULT_SIZE, Deck, read_deck};
+pub use deck::{DEFAULT_SIZE, Deck, LONGEST_TEXT, read_deck};
 pub use deck_fault::{DeckCode, DeckFault};
-pub use fields::Fields;
+pub use fields::{Fields, is_blank};
 pub use laws::{deck_law, reading_law};

@@ -1,10 +1,10 @@
 //! Columns of fields.
 
 ghost use Rattle.std.specs.Prelude.{◌≡◌, ◌+◌, ◌<◌, ◌≤◌, IfNone, IfSome, length};
-ghost use Rattle.pp_deck.specs.DeckText.{is_blank};
 ghost use Rattle.pp_instructions.specs.Column.{begins_field, column_of};
 ghost use Rattle.pp_instructions.specs.FieldsBefore.{IsFieldAt, fields_before};
 
+use pp_deck::is_blank;
 use std::marker::Model;
 
 /// The columns of the fields of a line. Those that are asked for from left to right are found in
@@ -42,7 +42,8 @@ impl<'a> Columns<'a> {
         }
     }
 
-    /// The column in which field n begins.
+    /// The column in which field n begins, from 1 on; n counts from 0. Column 1 if the line has no
+    /// such field.
     pub fn column_of(&mut self, n: usize) -> u64
         ensures value { result ≡ column_of self.old n }
         ensures same { self.new ≡ self.old }
@@ -62,7 +63,7 @@ impl<'a> Columns<'a> {
     }
 }
 
-/// Where field n of a line begins, from a place on before which so many begin.
+/// Where field n of a line begins, looked for from `from` on, before which `passed` fields begin.
 fn place_of(line: &[u8], n: usize, from: usize, passed: usize) -> Option<usize>
     requires from { from ≤ length line.now }
     requires counted { fields_before line.now from ≡ passed }
@@ -87,10 +88,4 @@ pub fn begins_field(line: &[u8], place: usize) -> bool
     ensures { result ≡ begins_field line.now place }
 {
     !is_blank(line[place]) && (place == 0 || is_blank(line[place - 1]))
-}
-
-fn is_blank(byte: u8) -> bool
-    ensures { result ≡ is_blank byte }
-{
-    byte == b' ' || byte == b'\t'
 }

@@ -1,8 +1,7 @@
 //! The instructions of a line's words.
 
 ghost use Rattle.std.specs.Prelude.{◌≡◌, ◌<◌, ◌≤◌, ◌^◌, ◌/◌, ◌∷◌, ℕ, List, [], IfNone, IfSome, length, position};
-ghost use Rattle.pp_word.specs.Opcode.{code_of, opcode_at, row_of};
-ghost use Rattle.pp_text.specs.InstructionText.{operands_of};
+ghost use Rattle.pp_word.specs.Opcode.{opcode_at, row_of};
 ghost use Rattle.pp_text.specs.TextWriter.{Prints};
 ghost use Rattle.pp_instructions.specs.Instruction.{instructions, is_comma, is_number_of, is_operand_of, is_pair_of, may_have, says, text_without_second, words_and_text};
 ghost use Rattle.pp_instructions.specs.WordsInFields.{word_in, words_in_fields};

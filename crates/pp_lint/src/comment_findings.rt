@@ -1,6 +1,6 @@
 //! What is found in the comment of a line.
 
-ghost use Rattle.std.specs.Prelude.{ℕ, ◌≡◌, ◌+◌, ◌<◌, ◌≤◌, ◌^◌, ◌++◌, length, codes};
+ghost use Rattle.std.specs.Prelude.{ℕ, ◌≡◌, ◌+◌, ◌<◌, ◌≤◌, ◌^◌, ◌++◌, length};
 ghost use Rattle.std.specs.List.{flat_map};
 ghost use Rattle.pp_deck.specs.DeckText.{fields_of};
 ghost use Rattle.pp_instructions.specs.Claim.{claim, claims};
@@ -12,12 +12,11 @@ ghost use Rattle.pp_lint.specs.WordsOfLine.{HasNoFault};
 ghost use Rattle.pp_lint.specs.declared.line_fault.Before.{Before};
 ghost use Rattle.pp_text.specs.TextWriter.{Prints};
 
-use crate::fault_words::print_bytes;
 use crate::line_fault::begins_with_digit;
 use crate::line_findings::print_place;
 use pp_deck::Fields;
 use pp_instructions::{Claim, Claims, Columns, Instruction, Instructions, comment_place, word_of};
-use pp_text::TextWriter;
+use pp_text::{TextWriter, print_bytes};
 use std::io::Write;
 
 /// Prints what is found in the comment of a line that has no fault, and returns whether something

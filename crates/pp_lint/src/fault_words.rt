@@ -5,12 +5,9 @@ ghost use Rattle.pp_text.specs.TextWriter.{Prints};
 
 use pp_deck::DeckCode;
 use pp_numbers::Profile;
-use pp_text::TextWriter;
+use pp_text::{TextWriter, print_bytes};
 use pp_word::numeral;
 use std::io::Write;
-
-/// The most bytes that are printed at once (decimal).
-const PIECE_LENGTH: usize = 8192;
 
 /// Prints the words for a fault at this field.
 pub(crate) fn print_fault_words<W: Write>(text: &mut TextWriter<W>, code: DeckCode, field: &[u8])
@@ -51,17 +48,4 @@ fn is_of_twenty(field: &[u8]) -> bool
         Some(n) => Profile::Twenty.processor(n as u8).is_some(),
         None => false,
     }
-}
-
-/// Prints some bytes, however many.
-pub fn print_bytes<W: Write>(text: &mut TextWriter<W>, bytes: &[u8])
-    ensures { Prints W.contents text.old text.new bytes.now }
-{
-    let mut rest = bytes;
-    while rest.len() > PIECE_LENGTH {
-        let (piece, others) = rest.split_at(PIECE_LENGTH);
-        text.print(piece);
-        rest = others;
-    }
-    text.print(rest);
 }

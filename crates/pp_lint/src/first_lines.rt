@@ -23,26 +23,26 @@ pub(crate) struct FirstLines<A: Allocator> {
     lines: Vec<u32, A>,
 }
 
-/// The keys of names, starts, words, central words and so on begin here; that of a fault is 0.
-const NAMES: usize = 1;
+/// The first key of each kind of thing; that of a fault is 0.
+const NAME_KEYS: usize = 1;
 
-const STARTS: usize = 21;
+const START_KEYS: usize = 21;
 
-const WORDS: usize = 41;
+const WORD_KEYS: usize = 41;
 
-const CENTRAL: usize = 81_961;
+const CENTRAL_KEYS: usize = 81_961;
 
-const DEAD: usize = 213_033;
+const DEAD_KEY: usize = 213_033;
 
-const TARGETS: usize = 213_034;
+const TARGET_KEYS: usize = 213_034;
 
-const CHANNELS: usize = 294_954;
+const CHANNEL_KEYS: usize = 294_954;
 
 /// How many keys there are.
 const KEYS: usize = 296_234;
 
 /// How many places a processor's memory has.
-const PLACES: usize = 0o10000;
+pub(crate) const PLACES: usize = pp_word::PLACES as usize;
 
 /// How many values the d of an instruction can have.
 pub(crate) const D_VALUES: usize = 0o100;
@@ -172,7 +172,7 @@ impl<A: Allocator> FirstLines<A> {
     }
 }
 
-/// So many zeros.
+/// `count` zeros.
 fn zeros<A: Allocator>(alloc: A, count: usize) -> Result<Vec<u32, A>, Memory>
     requires { count < 2 ^ 32 }
     ensures length { IfOk result (λ entries. length entries.items ≡ count) }
@@ -190,12 +190,12 @@ fn key_of(kind: &Kind, place: usize) -> usize
 {
     match kind {
         Kind::Fault => place,
-        Kind::Name(n) => NAMES + n.index() + place,
-        Kind::Start(n) => STARTS + n.index() + place,
-        Kind::Word(n) => WORDS + PLACES * n.index() + place,
-        Kind::Central => CENTRAL + place,
-        Kind::Dead => DEAD + place,
-        Kind::Target(n) => TARGETS + PLACES * n.index() + place,
-        Kind::Channel(n) => CHANNELS + D_VALUES * n.index() + place,
+        Kind::Name(n) => NAME_KEYS + n.index() + place,
+        Kind::Start(n) => START_KEYS + n.index() + place,
+        Kind::Word(n) => WORD_KEYS + PLACES * n.index() + place,
+        Kind::Central => CENTRAL_KEYS + place,
+        Kind::Dead => DEAD_KEY + place,
+        Kind::Target(n) => TARGET_KEYS + PLACES * n.index() + place,
+        Kind::Channel(n) => CHANNEL_KEYS + D_VALUES * n.index() + place,
     }
 }

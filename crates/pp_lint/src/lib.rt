@@ -20,7 +20,6 @@ mod whole_deck;
 mod word_line;
 mod words;
 
-pub use fault_words::print_bytes;
 pub use law::lint_law;
 pub use lint_text::write_lint;
 pub use text_lines::TextLines;

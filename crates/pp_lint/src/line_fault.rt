@@ -12,7 +12,7 @@ ghost use Rattle.pp_lint.specs.LineFault.{BeginWithNumber, IsFaultOf, IsFaultOfL
 
 use pp_deck::{DeckCode, Fields};
 use pp_numbers::{PpNo, Profile};
-use pp_word::numeral;
+use pp_word::{MOST_CENTRAL_WORDS, PLACES, numeral};
 
 /// What a line depends on besides its fields.
 #[derive(Clone, Copy)]
@@ -34,9 +34,6 @@ pub(crate) struct Fault {
     pub(crate) code: DeckCode,
     pub(crate) field: usize,
 }
-
-/// How many places a processor's memory has.
-const PLACES: u64 = 0o10000;
 
 /// The fault of a line, if it has one.
 pub(crate) fn fault_of(before: &Before, fields: &mut Fields) -> Option<Fault>
@@ -105,7 +102,7 @@ fn central_fault(fields: &mut Fields) -> Option<Fault>
         Ok(n) => n,
         Err(fault) => return Some(fault),
     };
-    if !(1..=0o400_000).contains(&n) {
+    if !(1..=u64::from(MOST_CENTRAL_WORDS)).contains(&n) {
         return Some(Fault {
             code: DeckCode::CentralRange,
             field: 1,
@@ -178,7 +175,7 @@ fn words_line_fault(first: &[u8], fields: &mut Fields) -> Option<Fault>
         → IsFaultOf fault_of (first.now ∷ fields.old) 0 result }
 {
     match numeral(8, 4, first) {
-        Some(x) => words_fault(fields, 1, 4, x, PLACES, DeckCode::PastEnd),
+        Some(x) => words_fault(fields, 1, 4, x, PLACES as u64, DeckCode::PastEnd),
         None => Some(at_first(DeckCode::BadDigits)),
     }
 }

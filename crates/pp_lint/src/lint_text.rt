@@ -26,15 +26,12 @@ use crate::straight_line::behind_line;
 use crate::text_lines::TextLines;
 use crate::whole_deck::WholeDeck;
 use pp_channel::Memory;
-use pp_deck::{DEFAULT_SIZE, DeckCode, Fields, read_deck};
+use pp_deck::{DEFAULT_SIZE, DeckCode, Fields, LONGEST_TEXT, read_deck};
 use pp_numbers::{PpNo, Profile};
-use pp_text::{ReportFault, TextWriter, print_short_decimal};
-use pp_word::numeral;
+use pp_text::{ReportFault, TextWriter};
+use pp_word::{MOST_CENTRAL_WORDS, numeral};
 use std::alloc::Allocator;
 use std::io::Write;
-
-/// The longest deck, in bytes (decimal).
-const LONGEST_DECK: usize = 1_048_576;
 
 /// Writes what is found in a deck for a machine of this profile: a line for each finding, with line
 /// and column (decimal, from 1), or `nothing found`. Returns whether something is found. Memory is
@@ -64,10 +61,10 @@ pub fn write_lint<A: Allocator + Copy, W: Write>(
 
 /// The text of a deck, behind a byte order mark; nothing if it is too long.
 fn text_in(deck: &[u8]) -> &[u8]
-    ensures value { length deck.now ≤ LONGEST_DECK → result.now ≡ text_in deck.now }
-    ensures short { length result.now ≤ LONGEST_DECK }
+    ensures value { length deck.now ≤ LONGEST_TEXT → result.now ≡ text_in deck.now }
+    ensures short { length result.now ≤ LONGEST_TEXT }
 {
-    if deck.len() > LONGEST_DECK {
+    if deck.len() > LONGEST_TEXT {
         return &[];
     }
     deck.strip_prefix(b"\xEF\xBB\xBF").unwrap_or(deck)
@@ -79,7 +76,7 @@ fn whole_deck<A: Allocator + Copy>(
     profile: Profile,
     deck: &[u8],
 ) -> Result<WholeDeck<A>, Memory>
-    requires { length deck.now ≤ LONGEST_DECK }
+    requires { length deck.now ≤ LONGEST_TEXT }
     ensures firsts { IfOk result (λ whole. Shows whole.firsts (notes profile (lines_of deck.now))) }
     ensures alone { IfOk result (λ whole.
         whole.alone.items ≡ alone_uses_in (deck_meaning profile deck.now)) }
@@ -113,7 +110,7 @@ fn first_lines<A: Allocator>(
     profile: Profile,
     deck: &[u8],
 ) -> Result<FirstLines<A>, Memory>
-    requires { length deck.now ≤ LONGEST_DECK }
+    requires { length deck.now ≤ LONGEST_TEXT }
     ensures { IfOk result (λ firsts. Shows firsts (notes profile (lines_of deck.now))) }
 {
     let mut firsts = FirstLines::none(alloc)?;
@@ -137,15 +134,15 @@ fn print_findings<A: Allocator, W: Write>(
     profile: Profile,
     deck: &[u8],
 ) -> bool
-    requires firsts { length deck.now ≤ LONGEST_DECK
+    requires firsts { length deck.now ≤ LONGEST_TEXT
         → Shows whole.now.firsts (notes profile (lines_of (text_in deck.now))) }
-    requires alone { length deck.now ≤ LONGEST_DECK
+    requires alone { length deck.now ≤ LONGEST_TEXT
         → whole.now.alone.items ≡ alone_uses_in (deck_meaning profile (text_in deck.now)) }
     ensures prints { Prints W.contents text.old text.new
         (flat_map finding_line (findings profile deck.now)) }
     ensures found { result ≡ is_something_found (findings profile deck.now) }
 {
-    if deck.len() > LONGEST_DECK {
+    if deck.len() > LONGEST_TEXT {
         print_finding(text, 1, 1, DeckCode::TooLong, &[]);
         return true;
     }
@@ -176,7 +173,7 @@ fn print_lines<A: Allocator, W: Write>(
     profile: Profile,
     deck: &[u8],
 ) -> bool
-    requires short { length deck.now ≤ LONGEST_DECK }
+    requires short { length deck.now ≤ LONGEST_TEXT }
     requires shows { Shows whole.now.firsts (notes profile (lines_of deck.now)) }
     requires alone { whole.now.alone.items ≡ alone_uses_in (deck_meaning profile deck.now) }
     ensures prints { Prints W.contents text.old text.new
@@ -280,7 +277,7 @@ fn central_size(fields: &mut Fields) -> u32
     let Some(n) = lone_number(fields) else {
         return DEFAULT_SIZE;
     };
-    if !(1..=0o400_000).contains(&n) {
+    if !(1..=u64::from(MOST_CENTRAL_WORDS)).contains(&n) {
         return DEFAULT_SIZE;
     }
     n as u32

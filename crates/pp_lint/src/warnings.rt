@@ -13,7 +13,7 @@ ghost use Rattle.pp_lint.specs.Warnings.{field_finding, first_field, first_twice
 ghost use Rattle.pp_lint.specs.WordsOfLine.{HasNoFault};
 ghost use Rattle.pp_text.specs.TextWriter.{Prints};
 
-use crate::first_lines::FirstLines;
+use crate::first_lines::{FirstLines, PLACES};
 use crate::line_fault::Before;
 use crate::line_findings::print_place;
 use crate::row::{Kind, Row, place_of_start, row_of};
@@ -24,9 +24,6 @@ use pp_text::{TextWriter, octal4, print_short_decimal, print_short_octal};
 use pp_word::Word12;
 use std::alloc::Allocator;
 use std::io::Write;
-
-/// How many places a processor's memory has.
-const PLACES: usize = 0o10000;
 
 /// Prints what is found in a line without a fault by what other lines give, and returns whether
 /// something is.

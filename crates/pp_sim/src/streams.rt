@@ -10,7 +10,7 @@ use std::alloc::Allocator;
 use std::io::{ErrorKind, Read};
 
 /// How many bytes are read at most (decimal): one more than a deck may have.
-const MOST_BYTES: usize = 1_048_577;
+const MOST_BYTES: usize = pp_deck::LONGEST_TEXT + 1;
 
 /// The bytes of a reader, up to its end or the limit.
 pub(crate) fn read_front<A: Allocator, R: Read>(

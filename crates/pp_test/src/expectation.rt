@@ -7,6 +7,8 @@ ghost use Rattle.pp_deck.specs.DeckText.{is_blank};
 ghost use Rattle.pp_test.specs.Expectations.{text_of_line};
 ghost use Rattle.pp_test.specs.Reading.{IsRead};
 
+use pp_deck::is_blank;
+
 /// An expectation: its text, from the `*` on, the words after `*=` or `*!`, and which of the two.
 #[derive(Clone, Copy)]
 pub(crate) struct Expected<'a> {
@@ -58,10 +60,4 @@ fn blank_count(text: &[u8]) -> usize
     text.iter()
         .position(|byte| !is_blank(*byte))
         .unwrap_or(text.len())
-}
-
-fn is_blank(byte: u8) -> bool
-    ensures { result ≡ is_blank byte }
-{
-    byte == b' ' || byte == b'\t'
 }

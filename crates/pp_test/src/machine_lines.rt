@@ -22,12 +22,9 @@ use pp_text::{
     TextWriter, WriteFault, octal2, print_channels, print_event_end, print_octal,
     print_short_octal, print_standing, processor_heading,
 };
-use pp_word::Word12;
+use pp_word::{PLACES, Word12};
 use std::alloc::Allocator;
 use std::io::Write;
-
-/// How many places a processor's memory has.
-const PLACES: u32 = 0o10000;
 
 /// Writes the lines of a machine after its run, which ends so, by the counts of its steps.
 #[tactic(auto, unfolding(crate::specs::RunLines::machine_lines))]

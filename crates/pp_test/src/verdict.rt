@@ -12,8 +12,8 @@ ghost use Rattle.pp_test.specs.Verdict.{failure_text, failures, is_held, last_wo
 
 use crate::expectation::{Expected, expectation_in};
 use crate::nearest::{in_common, nearest, word_count};
-use pp_lint::{TextLines, print_bytes};
-use pp_text::{TextWriter, WriteFault, print_short_decimal};
+use pp_lint::TextLines;
+use pp_text::{TextWriter, WriteFault, print_bytes, print_short_decimal};
 use std::io::Write;
 
 /// How many expectations there are, and how many of them fail.

@@ -37,5 +37,5 @@ pub use state_text::{
     channel_name, print_channel_line, print_channel_text, print_fault_text, print_state_text,
     processor_heading, processor_name,
 };
-pub use text_writer::TextWriter;
+pub use text_writer::{TextWriter, print_bytes};
 pub use write_fault::{WriteFault, write_whole};

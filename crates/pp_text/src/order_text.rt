@@ -1,7 +1,7 @@
 //! The text of an order of steps.
 
 ghost use Rattle.std.specs.Prelude.{◌≡◌, ◌<◌, ◌==◌, length, take_while};
-ghost use Rattle.pp_text.specs.OrderText.{StepsInARow, order_text, row_text};
+ghost use Rattle.pp_text.specs.OrderText.{order_text, row_text};
 ghost use Rattle.pp_text.specs.TextWriter.{Prints};
 
 use crate::{TextWriter, print_short_decimal, print_short_octal};

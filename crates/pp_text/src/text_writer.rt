@@ -2,6 +2,7 @@
 
 ghost use Rattle.std.specs.Prelude.{◌≡◌, ◌≤◌, ◌+◌, ◌++◌, ℕ, List, [], length, Option};
 ghost use Rattle.pp_text.specs.Piece.{piece_length};
+ghost use Rattle.pp_text.specs.TextWriter.{Prints};
 
 use crate::WriteFault;
 use crate::write_fault::write_bytes;
@@ -52,7 +53,7 @@ pub struct TextWriter<'a, W> {
 }
 
 impl<'a, W: Write> TextWriter<'a, W> {
-    ghost use Rattle.pp_text.specs.TextWriter.{HasPrinted, Prints};
+    ghost use Rattle.pp_text.specs.TextWriter.{HasPrinted};
     ghost use Rattle.pp_text.specs.Written.{IsWritten};
 
     /// Prints to this writer. Nothing is printed yet.
@@ -106,4 +107,17 @@ impl<'a, W: Write> TextWriter<'a, W> {
         }
         self.writer.flush().map_err(|_| WriteFault)
     }
+}
+
+/// Prints some bytes, however many.
+pub fn print_bytes<W: Write>(text: &mut TextWriter<W>, bytes: &[u8])
+    ensures { Prints W.contents text.old text.new bytes.now }
+{
+    let mut rest = bytes;
+    while rest.len() > PIECE_LENGTH {
+        let (piece, others) = rest.split_at(PIECE_LENGTH);
+        text.print(piece);
+        rest = others;
+    }
+    text.print(rest);
 }

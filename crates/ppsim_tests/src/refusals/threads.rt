@@ -11,7 +11,7 @@ use std::alloc::{Allocator, Global};
 use std::process::Abort;
 use std::sync::Wait;
 use std::thread::Threads;
-use test_bench::{BLOCK, Rationed, first};
+use test_bench::{Rationed, first};
 
 /// How many workers of a report ended for lack of memory; nothing if the processor of one is not
 /// that of its load after its answers.

@@ -1,6 +1,6 @@
 use Rattle.std.proofs.Common.{take-append-drop}
 use Rattle.pp_text.proofs.PrintingLemmas.{prints_on}
-use Rattle.pp_lint.proofs.fault_words.print_bytes.Goals as goal
+use Rattle.pp_text.proofs.text_writer.print_bytes.Goals as goal
 
 pub loop-rest-preserved : goal.loop-rest-preserved
 loop-rest-preserved g c = λ out printed. c.loop-rest.invariant out
