@@ -58,7 +58,7 @@ function bytesMeant(text) {
 }
 
 /** The words of a command line. What stands between two quotes is one word. */
-function wordsOf(line) {
+function wordsIn(line) {
   return line.split("'").flatMap((it, n) => n % 2 ? [it] : it.split(/\s+/).filter(Boolean));
 }
 
@@ -69,7 +69,7 @@ function comparePage(page) {
   const run = (command, text) => {
     const [, line, name] = /^ppsim (.*?)(?: < (\S+))?(?: > \S+)?$/.exec(command);
     const deck = name ? read(name) : line.includes('{}') ? '' : '{}';
-    compare(wordsOf(line.replace('{}', () => text)), bytesMeant(deck.replace('{}', () => text)));
+    compare(wordsIn(line.replace('{}', () => text)), bytesMeant(deck.replace('{}', () => text)));
   };
   for (const line of fs.readFileSync(page, 'latin1').split('\n')) {
     const command = /^\$ (.*)/.exec(line)?.[1];
